@@ -1,0 +1,1 @@
+// No code: the definitions that every other crate is proved against stand in specs/.
