@@ -16,3 +16,4 @@ pub mod Scope
 pub mod Desk
 pub mod Opened
 pub mod Garage
+pub mod Examples
