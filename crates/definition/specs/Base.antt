@@ -1,6 +1,6 @@
 -- Choices, tests and list functions that the other modules use.
 use mathlib.Core.Bool.{Bool, true, false, not, _&&_, _||_}
-use mathlib.Core.List.{List, [], _∷_, _++_}
+use mathlib.Core.List.{List, [], _∷_, _++_, List·Memᴰ}
 use mathlib.Core.Option.{Option, none, some}
 use Prim.Native.Nat.{ℕ, zero, suc, _+_}
 use lib.Dec.{eqb, ltb}
@@ -118,3 +118,8 @@ less (x ∷ xs) (y ∷ ys) = pick (ltb x y) true (pick (ltb y x) false (less xs 
 unfoldable pub lowest : List (ℕ × Bool) → Option ℕ
 lowest [] = none
 lowest (c ∷ cs) = pick (c .1) (some (c .0)) (lowest cs)
+
+-- a is a member of a list.
+infix 20 _∈_
+abbrev pub _∈_ : {A : Type 0} → A → List A → Type 0
+a ∈ xs = List·Memᴰ a xs

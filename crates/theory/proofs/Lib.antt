@@ -1,0 +1,3 @@
+-- Laws and theorems about the definition.
+pub mod Lists
+pub mod Good

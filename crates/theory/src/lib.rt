@@ -1,0 +1,1 @@
+// No code: laws and theorems about the definition stand in proofs/.
