@@ -1,3 +1,8 @@
 -- Laws and theorems about the definition.
-pub mod Lists
 pub mod Good
+pub mod Lists
+pub mod Numbers
+pub mod RbFields
+pub mod ReadBack
+pub mod Sound
+pub mod SoundRule

@@ -1,0 +1,130 @@
+-- What an accepted signature and an accepted rule are known to satisfy.
+use Prim.Native.Nat.{ℕ, zero, suc, _+_, _-_, _*_, _%_, _≤_, _<_}
+use native.Mathlib.Omega.{arith}
+use native.Mathlib.Numerals.{add-one}
+use mathlib.Core.Path.{_≡_, refl, ap, sym, _∙_}
+use mathlib.Core.Logic.{_⊎_, inl, inr, ⊎-elim}
+use mathlib.Core.Bool.{Bool, true, false, not, _&&_, _||_, and-false, or-false}
+use mathlib.Core.Option.{Option, none, some}
+use mathlib.Core.List.{List, [], _∷_, _++_, List·Memᴰ·head, List·Memᴰ·tail, List·Memᴰ·not-nil, List·Memᴰ·cases-cons}
+use lib.Dec.{eqb, ltb, leb}
+use lib.ListN.{length, getD, drop}
+use borrow.Author.Tests.{eq-eqb, eqb-true, ltb-true, lt-ltb, ltb-false, leb-false}
+use Rattle.definition.specs.Base.{Outcome, refused, accepted, pick, orElse, keep, each, all, has, lowest, empty, _∈_}
+use Rattle.definition.specs.Limits.{signatureBytes, symbolLimit, structureLimit, fieldLimit, nameBytes}
+use Rattle.definition.specs.Letters.{letterT, letterP, letterF, letterN, letterS, letterE, letterR, letterA, letterV, letterI, letterM, letterK, letterX, start, predicate, function}
+use Rattle.definition.specs.Records.{Field, Fields, end, bad, _▸_, Part, Block, numbers, numberAt, follows, placed, inFront, withLetter, blocks, upTo, faultFrom, faultAmong, notAbove, badName, readPart, fieldsOf}
+use Rattle.definition.specs.Signature.{Signature, typeFault, symbolFault, signatureFault, signatureOf, signaturePart, readSignature, symbolOf, typeParents, predOf, funcOf, columnCount}
+use Rattle.definition.specs.Rule.{Element, Row, Name, Pair, Map, Kind, Auxiliary, Structure, Rule, ruleGrammar, elementOf, rowOf, nameOf, pairsOf, mapOf, kindOf, auxiliaryOf, namedElements, headFault, structureFault, elementFault, rowFault, nameFault, mapFault, kindFault, auxiliaryFault, keysAscend, sourceTarget, elementsAt, bodyFault, structuresFault, namedIn, ruleFault, structureOf, headField, ruleOf, rulePart, readRule}
+use Rattle.definition.specs.Names.{numbersOf}
+use Rattle.theory.proofs.Lists.{and-left, and-right, or-left, or-right, not-false, not-true, never, or-else-none, mem-keep, mem-each, each-mem, length-each, all-mem, has-mem, lowest-none}
+
+-- Acceptance: no fault, and the record's value.
+pub read-part : {A : Type 0} (part : Part) (fault : Option ℕ) (value : A) {v : A} → readPart part fault value ≡ accepted v
+    → (fault ≡ none) × (part .whole ≡ true) × (value ≡ v)
+unfolding readPart
+read-part part (some n) value e = let z : _≡_ {A = ℕ} 0 1 = cc in absurd (omega arith)
+read-part part none value {v} e = go (part .whole) refl e
+  where
+    go : (b : Bool) → part .whole ≡ b → pick b (accepted value) (refused 2) ≡ accepted v → (_≡_ {A = Option ℕ} none none) × (part .whole ≡ true) × (value ≡ v)
+    go true w e = (refl, w, cc)
+    go false w e = let z : _≡_ {A = ℕ} 0 1 = cc in absurd (omega arith)
+
+-- Behind a length test: the reading of the part.
+pub read-within : {A : Type 0} (b : Bool) (o : Outcome A) {v : A} → pick b (refused 1) o ≡ accepted v → (b ≡ false) × (o ≡ accepted v)
+read-within true o e = let z : _≡_ {A = ℕ} 0 1 = cc in absurd (omega arith)
+read-within false o e = (refl, e)
+
+-- Fields that all pass: each passes some count and some field before it.
+module _ (check : ℕ → Option Field → Field → Option ℕ) where
+  pub fault-mem : (n : ℕ) (last : Option Field) (fs : List Field) → faultFrom check n last fs ≡ none → {f : Field} → f ∈ fs
+      → (m : ℕ) × (l : Option Field) × (check m l f ≡ none)
+  unfolding faultFrom
+  fault-mem n last [] e m = absurd (List·Memᴰ·not-nil m)
+  fault-mem n last (g ∷ fs) e m = let r = or-else-none (check n last g) (faultFrom check (n + 1) (some g) fs) e in
+      ⊎-elim (λ q. (n, last, rw q (r .0))) (λ t. fault-mem (n + 1) (some g) fs (r .1) t) (List·Memᴰ·cases-cons m)
+
+  -- and there are no more than the limit that each keeps below.
+  pub fault-few : (limit : ℕ) → ((m : ℕ) (l : Option Field) (f : Field) → check m l f ≡ none → m < limit)
+      → (n : ℕ) (last : Option Field) (fs : List Field) → n ≤ limit → faultFrom check n last fs ≡ none → n + length fs ≤ limit
+  unfolding faultFrom
+  fault-few limit h n last [] le e = omega arith
+  fault-few limit h n last (g ∷ fs) le e = let r = or-else-none (check n last g) (faultFrom check (n + 1) (some g) fs) e in
+      let b : n < limit = h n last g (r .0) in
+      let i : n + 1 + length fs ≤ limit = fault-few limit h (n + 1) (some g) fs (omega arith) (r .1) in omega arith
+
+-- The fields of a letter that all pass.
+pub among-mem : (letter : ℕ) (check : ℕ → Option Field → Field → Option ℕ) (fs : List Field) → faultAmong letter check fs ≡ none
+    → {f : Field} → f ∈ withLetter letter fs → (m : ℕ) × (l : Option Field) × (check m l f ≡ none)
+unfolding faultAmong
+among-mem letter check fs e m = fault-mem check 0 none (withLetter letter fs) e m
+
+pub among-few : (letter : ℕ) (check : ℕ → Option Field → Field → Option ℕ) (limit : ℕ)
+    → ((m : ℕ) (l : Option Field) (f : Field) → check m l f ≡ none → m < limit)
+    → (fs : List Field) → faultAmong letter check fs ≡ none → length (withLetter letter fs) ≤ limit
+unfolding faultAmong
+among-few letter check limit h fs e = omega (arith, fault-few check limit h 0 none (withLetter letter fs) (omega arith) e)
+
+-- A signature: its symbols are few.
+pub record SoundSignature (sig : Signature) : Type 0 where
+  pub types-few : length (sig .types) ≤ symbolLimit
+  pub preds-few : length (sig .preds) ≤ symbolLimit
+  pub funcs-few : length (sig .funcs) ≤ symbolLimit
+
+type-few : (types m : ℕ) (l : Option Field) (f : Field) → typeFault types m l f ≡ none → m < symbolLimit
+unfolding typeFault
+type-few types m l f e = leb-false _ _ (or-left _ _ (lowest-none 4 _ _ (lowest-none 3 _ _ e .1) .0))
+
+symbol-few : (results types m : ℕ) (l : Option Field) (f : Field) → symbolFault results types m l f ≡ none → m < symbolLimit
+unfolding symbolFault
+symbol-few results types m l f e = leb-false _ _ (or-left _ _ (lowest-none 4 _ _ (lowest-none 3 _ _ e .1) .0))
+
+fields-sound : (fs : List Field) → signatureFault fs ≡ none → SoundSignature (signatureOf fs)
+unfolding signatureFault signatureOf
+fields-sound fs e = let t = or-else-none _ _ e in let p = or-else-none _ _ (t .1) in record {
+    types-few = rw length-each (among-few letterT _ symbolLimit (type-few _) fs (t .0));
+    preds-few = rw length-each (among-few letterP _ symbolLimit (symbol-few 0 _) fs (p .0));
+    funcs-few = rw length-each (among-few letterF _ symbolLimit (symbol-few 1 _) fs (p .1));
+  }
+
+pub sound-signature : (bytes : List ℕ) {sig : Signature} → readSignature bytes ≡ accepted sig → SoundSignature sig
+unfolding readSignature
+sound-signature bytes e = let r = read-part (signaturePart bytes) _ _ (read-within (ltb signatureBytes (length bytes)) _ e .1) in rw (← (r .2)) (fields-sound (signaturePart bytes .fields) (r .0))
+
+-- A rule: of each structure, the numbers name something and the columns are the arity's.
+pub record SoundElement (sig : Signature) (els : List ℕ) (e : Element) : Type 0 where
+  pub type-in : e .type < length (sig .types)
+  pub parents-in : (p : ℕ) → p ∈ e .parents → p ∈ els
+  pub parents-count : length (e .parents) ≡ length (typeParents sig (e .type))
+
+pub record SoundRow (symbols : ℕ) (columns : ℕ → ℕ) (els : List ℕ) (r : Row) : Type 0 where
+  pub symbol-in : r .symbol < symbols
+  pub elements-in : (e : ℕ) → e ∈ r .elements → e ∈ els
+  pub columns-count : length (r .elements) ≡ columns (r .symbol)
+
+pub record SoundStructure (sig : Signature) (st : Structure) : Type 0 where
+  pub elements-few : length (st .elements) ≤ fieldLimit
+  pub elements-sound : (e : Element) → e ∈ st .elements → SoundElement sig (numbersOf st) e
+  pub preds-sound : (r : Row) → r ∈ st .predRows → (r .kind ≡ predicate) × SoundRow (length (sig .preds)) (λ (p : ℕ). columnCount (predOf sig p)) (numbersOf st) r
+  pub funcs-sound : (r : Row) → r ∈ st .funcRows → (r .kind ≡ function) × (0 < length (r .elements)) × SoundRow (length (sig .funcs)) (λ (g : ℕ). columnCount (funcOf sig g)) (numbersOf st) r
+  pub variables-sound : (n : Name) → n ∈ st .variableNames → badName 1 nameBytes (n .name) ≡ false
+  pub identifiers-sound : (n : Name) → n ∈ st .identifierNames → badName 1 nameBytes (n .name) ≡ false
+
+abbrev pub structureAt : List Structure → ℕ → Structure
+structureAt sts s = getD sts s (record { elements = []; predRows = []; funcRows = []; variableNames = []; identifierNames = [] })
+
+pub record SoundMap (sts : List Structure) (m : Map) : Type 0 where
+  pub source-in : m .source < length sts
+  pub target-in : m .target < length sts
+  pub keys-in : (p : Pair) → p ∈ m .pairs → p .key ∈ numbersOf (structureAt sts (m .source))
+  pub images-in : (p : Pair) → p ∈ m .pairs → p .image ∈ numbersOf (structureAt sts (m .target))
+  pub keys-ascend : keysAscend (m .pairs) ≡ true
+
+pub record SoundRule (sig : Signature) (rule : Rule) : Type 0 where
+  pub name-sound : badName 0 nameBytes (rule .name) ≡ false
+  pub structures-some : 0 < length (rule .structures)
+  pub structures-few : length (rule .structures) ≤ structureLimit
+  pub structures-sound : (st : Structure) → st ∈ rule .structures → SoundStructure sig st
+  pub maps-sound : (m : Map) → m ∈ rule .maps → SoundMap (rule .structures) m
+  pub kinds-sound : (k : Kind) → k ∈ rule .kinds → (k .source < length (rule .structures)) × (k .target < length (rule .structures))
+  pub auxiliaries-sound : (x : Auxiliary) → x ∈ rule .auxiliaries → x .structure < length (rule .structures)
