@@ -17,3 +17,4 @@ pub mod Desk
 pub mod Opened
 pub mod Garage
 pub mod Examples
+pub mod Demands

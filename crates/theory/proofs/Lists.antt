@@ -1,6 +1,7 @@
 -- Laws of the definition's list functions and tests, over any element type.
 use Prim.Native.Nat.{ℕ, zero, suc, _+_, _-_, _≤_, _<_}
 use native.Mathlib.Omega.{arith}
+use native.Mathlib.Decide.{decLt}
 use native.Mathlib.Numerals.{add-one}
 use native.Mathlib.Nat.{add-zero}
 use mathlib.Core.Path.{_≡_, refl, ap, sym, _∙_, subst}
@@ -44,6 +45,10 @@ not-false false e = sym e
 pub not-true : (a : Bool) → not a ≡ true → a ≡ false
 not-true true e = sym e
 not-true false e = refl
+
+pub not-and-right : (a b : Bool) → b ≡ false → not (a && b) ≡ true
+not-and-right true b e = rw e
+not-and-right false b e = refl
 
 pub never : {A : Type 0} {b : Bool} → b ≡ true → b ≡ false → A
 never p q = let z : _≡_ {A = ℕ} 0 1 = cc in absurd (omega arith)
@@ -170,3 +175,27 @@ lowest-none n false cs e = (refl, e)
 pub lowest-pass : (n : ℕ) {b : Bool} (cs : List (ℕ × Bool)) → b ≡ false → lowest cs ≡ none → lowest ((n, b) ∷ cs) ≡ none
 unfolding lowest
 lowest-pass n cs e f = rw (e, f)
+
+-- Two numbers: one below the other, or equal.
+pub trichotomy : (i j : ℕ) → (i < j) ⊎ ((i ≡ j) ⊎ (j < i))
+trichotomy i j = go (decLt i j) (decLt j i)
+  where
+    go : Dec (i < j) → Dec (j < i) → (i < j) ⊎ ((i ≡ j) ⊎ (j < i))
+    go (yes h) d = inl h
+    go (no h) (yes k) = inr (inr k)
+    go (no h) (no k) = inr (inl (omega arith))
+
+-- A first value is that of a member.
+pub first-mem : {A B : Type 0} (f : A → Option B) (xs : List A) {b : B} → firstOf f xs ≡ some b → (a : A) × (a ∈ xs) × (f a ≡ some b)
+unfolding firstOf
+first-mem f [] e = let z : _≡_ {A = ℕ} 0 1 = cc in absurd (omega arith)
+first-mem f (x ∷ xs) {b} e = go (f x) refl (λ q. first-mem f xs q) e
+  where
+    go : (o : Option _) → f x ≡ o → (firstOf f xs ≡ some b → (a : _) × (a ∈ xs) × (f a ≡ some b)) → orElse o (firstOf f xs) ≡ some b → (a : _) × (a ∈ (x ∷ xs)) × (f a ≡ some b)
+    go none p ih e = let r = ih e in (r .0, List·Memᴰ·tail (r .1), r .2)
+    go (some c) p ih e = (x, List·Memᴰ·head refl, p ∙ e)
+
+-- A value that a test picks is there only where the test holds.
+pub picked : {A : Type 0} (b : Bool) (x : A) {y : A} → pick b (some x) none ≡ some y → (b ≡ true) × (x ≡ y)
+picked true x e = (refl, cc)
+picked false x e = let z : _≡_ {A = ℕ} 0 1 = cc in absurd (omega arith)

@@ -1,15 +1,14 @@
 -- Numbers, fields and records, written and read back; no law asks for a bound, since a high byte is not cut off.
-use Prim.Native.Nat.{ℕ, zero, suc, _+_, _-_, _*_, _/_, _%_, _≤_, _<_}
+use Prim.Native.Nat.{ℕ, zero, suc, _+_, _*_, _/_, _%_, _≤_}
 use native.Mathlib.Omega.{arith}
 use native.Mathlib.Nat.{div-add-mod'}
-use mathlib.Core.Path.{_≡_, refl, ap, sym, _∙_}
+use mathlib.Core.Path.{_≡_, refl, _∙_}
 use mathlib.Core.List.{List, [], _∷_, _++_}
 use lib.ListN.{length, take, drop, length-append, length-drop}
-use lib.Seq.{take-at, drop-at}
-use lib.Dec.{leb}
+use lib.Seq.{take-at, drop-at, drop-nil}
 use borrow.Author.Tests.{le-leb}
 use Rattle.definition.specs.Base.{joined}
-use Rattle.definition.specs.Records.{Field, Fields, end, bad, _▸_, numbers, cut, fieldsOf}
+use Rattle.definition.specs.Records.{Field, Fields, end, _▸_, numbers, cut, fieldsOf}
 use Rattle.definition.specs.Writer.{twoBytes, numberBytes, fieldBytes, recordBytes}
 
 -- A two-byte number in front of bytes is read as itself, and then theirs.
@@ -34,6 +33,7 @@ unfolding numberBytes
 length-numbers-written [] = refl
 length-numbers-written (n ∷ ns) = let h : length (numberBytes ns) ≡ 2 * length ns = length-numbers-written ns in omega arith
 
+-- Twice one more is two more.
 double-suc : (k : ℕ) → 2 * suc k ≡ suc (suc (2 * k))
 double-suc k = omega arith
 
@@ -44,6 +44,21 @@ take-numbers zero s = refl
 take-numbers (suc k) [] = rw (double-suc k)
 take-numbers (suc k) (h ∷ []) = rw (double-suc k)
 take-numbers (suc k) (h ∷ l ∷ s) = rw (double-suc k, take-numbers k s)
+
+-- Without the first bytes the numbers are those without the first.
+pub drop-numbers : (k : ℕ) (s : List ℕ) → numbers (drop (2 * k) s) ≡ drop k (numbers s)
+unfolding numbers
+drop-numbers zero s = refl
+drop-numbers (suc k) [] = rw (double-suc k)
+drop-numbers (suc k) (h ∷ []) = rw (double-suc k, drop-nil)
+drop-numbers (suc k) (h ∷ l ∷ s) = rw (double-suc k) (drop-numbers k s)
+
+-- The numbers of bytes take no more bytes than there are.
+pub length-numbers : (s : List ℕ) → 2 * length (numbers s) ≤ length s
+unfolding numbers
+length-numbers [] = omega arith
+length-numbers (h ∷ []) = omega arith
+length-numbers (h ∷ l ∷ s) = let i : 2 * length (numbers s) ≤ length s = length-numbers s in omega arith
 
 -- Fuel as long as the bytes is enough, and more alters nothing.
 cut-same : (k j : ℕ) (s : List ℕ) → length s ≤ k → length s ≤ j → cut k s ≡ cut j s

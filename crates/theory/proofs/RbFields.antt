@@ -1,45 +1,45 @@
 -- Fields in their places, of one letter, in blocks, and without faults: laws for any letter and any grammar.
-use Prim.Native.Nat.{ℕ, zero, suc, _+_, _≤_, _<_}
+use Prim.Native.Nat.{ℕ, _+_, _<_}
 use native.Mathlib.Omega.{arith}
-use mathlib.Core.Path.{_≡_, refl, ap, sym, _∙_}
+use mathlib.Core.Path.{_≡_, refl, _∙_}
 use mathlib.Core.Bool.{Bool, true, false}
 use mathlib.Core.Option.{Option, none, some}
-use mathlib.Core.List.{List, [], _∷_, _++_, append-assoc, List·Memᴰ·head, List·Memᴰ·tail}
+use mathlib.Core.List.{List, [], _∷_, _++_, List·Memᴰ·head, List·Memᴰ·tail}
 use lib.Dec.{eqb}
 use lib.ListN.{length}
-use Rattle.definition.specs.Base.{pick, when, orElse, consIf, keep, each, joined, has, _∈_}
-use Rattle.definition.specs.Records.{Field, Fields, Grammar, Block, Part, inFront, follows, placed, withLetter, upTo, blocks, faultFrom}
+use Rattle.definition.specs.Base.{pick, consIf, keep, each, joined, has, _∈_}
+use Rattle.definition.specs.Records.{Field, Grammar, follows, placed, withLetter, upTo, blocks, faultFrom}
 use Rattle.theory.proofs.Numbers.{listed}
 
--- What is kept of the list functions' results: of two lists, what is kept of each.
-module _ {B : Type 0} (p : B → Bool) where
-  pub keep-append : (xs ys : List B) → keep p (xs ++ ys) ≡ keep p xs ++ keep p ys
-  unfolding keep
-  keep-append [] ys = refl
-  keep-append (x ∷ xs) ys = go (p x) (keep-append xs ys)
-    where
-      go : (b : Bool) → keep p (xs ++ ys) ≡ keep p xs ++ keep p ys → consIf b x (keep p (xs ++ ys)) ≡ consIf b x (keep p xs) ++ keep p ys
-      go true e = rw e
-      go false e = e
+-- The fields of a letter: of two lists, those of each.
+pub with-append : (letter : ℕ) (xs ys : List Field) → withLetter letter (xs ++ ys) ≡ withLetter letter xs ++ withLetter letter ys
+unfolding withLetter keep
+with-append letter [] ys = refl
+with-append letter (x ∷ xs) ys = go (eqb (x .letter) letter) (with-append letter xs ys)
+  where
+    go : (b : Bool) → withLetter letter (xs ++ ys) ≡ withLetter letter xs ++ withLetter letter ys
+        → consIf b x (withLetter letter (xs ++ ys)) ≡ consIf b x (withLetter letter xs) ++ withLetter letter ys
+    go true e = rw e
+    go false e = e
 
-module _ {A B : Type 0} (p : B → Bool) where
-  -- All, where each passes.
-  pub keep-each : (f : A → B) → ((a : A) → p (f a) ≡ true) → (xs : List A) → keep p (each f xs) ≡ each f xs
-  unfolding keep each
-  keep-each f h [] = refl
-  keep-each f h (x ∷ xs) = rw (h x, keep-each f h xs)
+module _ {A : Type 0} (letter : ℕ) where
+  -- All, where each field is of the letter.
+  pub with-each : (f : A → Field) → ((a : A) → eqb (f a .letter) letter ≡ true) → (xs : List A) → withLetter letter (each f xs) ≡ each f xs
+  unfolding withLetter keep each
+  with-each f h [] = refl
+  with-each f h (x ∷ xs) = rw (h x, with-each f h xs)
 
-  -- Nothing, where none passes.
-  pub keep-each-none : (f : A → B) → ((a : A) → p (f a) ≡ false) → (xs : List A) → keep p (each f xs) ≡ []
-  unfolding keep each
-  keep-each-none f h [] = refl
-  keep-each-none f h (x ∷ xs) = rw (h x, keep-each-none f h xs)
+  -- None, where no field is of the letter.
+  pub with-each-none : (f : A → Field) → ((a : A) → eqb (f a .letter) letter ≡ false) → (xs : List A) → withLetter letter (each f xs) ≡ []
+  unfolding withLetter keep each
+  with-each-none f h [] = refl
+  with-each-none f h (x ∷ xs) = rw (h x, with-each-none f h xs)
 
-  -- Nothing, where nothing is kept of each list.
-  pub keep-joined-none : (f : A → List B) → ((a : A) → keep p (f a) ≡ []) → (xs : List A) → keep p (joined f xs) ≡ []
-  unfolding keep joined
-  keep-joined-none f h [] = refl
-  keep-joined-none f h (x ∷ xs) = keep-append p (f x) (joined f xs) ∙ rw (h x, keep-joined-none f h xs)
+  -- None, where no list has a field of the letter.
+  pub with-joined-none : (f : A → List Field) → ((a : A) → withLetter letter (f a) ≡ []) → (xs : List A) → withLetter letter (joined f xs) ≡ []
+  unfolding withLetter keep joined
+  with-joined-none f h [] = refl
+  with-joined-none f h (x ∷ xs) = with-append letter (f x) (joined f xs) ∙ rw (h x, with-joined-none f h xs)
 
 -- What g undoes of f, it undoes of each member.
 pub each-back : {A B : Type 0} (g : B → A) (f : A → B) → ((a : A) → g (f a) ≡ a) → (xs : List A) → each g (each f xs) ≡ xs

@@ -1,26 +1,25 @@
 -- A good group, written, is read as itself.
-use Prim.Native.Nat.{ℕ, zero, suc, _+_, _*_, _%_, _≤_, _<_}
+use Prim.Native.Nat.{ℕ, suc, _+_, _*_, _≤_, _<_}
 use native.Mathlib.Omega.{arith}
 use native.Mathlib.Nat.{mul-add-mod-self-left}
-use mathlib.Core.Path.{_≡_, refl, ap, sym, _∙_}
-use mathlib.Core.Logic.{⊎-elim}
+use mathlib.Core.Path.{_≡_, refl, ap, _∙_}
 use mathlib.Core.Bool.{Bool, true, false, not, _&&_, _||_}
-use mathlib.Core.Option.{Option, none, some}
+use mathlib.Core.Option.{Option, none}
 use mathlib.Core.List.{List, [], _∷_, _++_, append-assoc, append-nil, List·Memᴰ·head, List·Memᴰ·tail}
-use lib.Dec.{eqb, ltb, leb}
+use lib.Dec.{eqb, ltb}
 use lib.ListN.{length}
 use borrow.Author.Tests.{lt-ltb, le-ltb, lt-leb, eq-eqb, eqb-true}
-use Rattle.definition.specs.Base.{Outcome, refused, accepted, pick, orElse, keep, each, joined, any, has, lowest, empty, _∈_}
+use Rattle.definition.specs.Base.{accepted, keep, each, joined, any, has, lowest, empty, _∈_}
 use Rattle.definition.specs.Limits.{groupBytes, variableLimit, ruleLimit}
 use Rattle.definition.specs.Letters.{letterG, letterW, letterU, letterB, letterH, start, member}
-use Rattle.definition.specs.Records.{Field, Part, Block, numbers, numberAt, fieldsOf, follows, placed, withLetter, upTo, blocks, faultFrom, faultAmong, odd, readPart}
-use Rattle.definition.specs.Signature.{Signature, arity, symbolCount, typeParents, named}
+use Rattle.definition.specs.Records.{Field, Block, numberAt, follows, withLetter, upTo, blocks, faultFrom, faultAmong, odd, readPart}
+use Rattle.definition.specs.Signature.{Signature, symbolCount, typeParents, named}
 use Rattle.definition.specs.Group.{Variable, Statement, FlatRule, Group, groupGrammar, variableOf, statementOf, premiseKinds, conclusionKinds, titleFault, variableFault, flatRuleFault, badColumns, statementFault, flatRulesFault, groupFault, flatRuleOf, groupOf, titleField, groupPart, readGroup}
-use Rattle.definition.specs.Writer.{twoBytes, numberBytes, variableField, statementField, flatRuleFields, groupFields, groupBytesOf}
+use Rattle.definition.specs.Writer.{numberBytes, variableField, statementField, flatRuleFields, groupFields, groupBytesOf}
 use Rattle.theory.proofs.Lists.{mem-has, mem-all, length-each}
-use Rattle.theory.proofs.Good.{GoodName, GoodStatement, GoodVariable, GoodRule, GoodGroup}
-use Rattle.theory.proofs.Numbers.{numbers-front, numbers-written, length-numbers-written, listed, fields-written}
-use Rattle.theory.proofs.RbFields.{keep-append, keep-each, keep-each-none, keep-joined-none, each-back, Steps, placed-whole, steps-each, upto-skip, blocks-skip, faults-none}
+use Rattle.theory.proofs.Good.{GoodStatement, GoodVariable, GoodRule, GoodGroup}
+use Rattle.theory.proofs.Numbers.{numbers-front, numbers-written, length-numbers-written, fields-written}
+use Rattle.theory.proofs.RbFields.{with-append, with-each, with-each-none, with-joined-none, each-back, Steps, placed-whole, steps-each, upto-skip, blocks-skip, faults-none}
 
 -- A variable's field means the variable.
 pub variable-back : (v : Variable) → variableOf (variableField v) ≡ v
@@ -36,6 +35,7 @@ statement-back letter s = rw (numbers-written (s .symbol ∷ s .variables))
 abbrev pub ruleBody : FlatRule → List Field
 ruleBody r = each (statementField letterB) (r .premise) ++ each (statementField letterH) (r .conclusion)
 
+-- A rule as a block of fields.
 abbrev pub ruleBlock : FlatRule → Block
 ruleBlock r = record { head = record { letter = letterU; content = r .name }; body = ruleBody r }
 
@@ -44,10 +44,13 @@ rules-placed : (rs : List FlatRule) (behind : ℕ) → follows (groupGrammar .pl
     → Steps groupGrammar behind (joined flatRuleFields rs)
 unfolding joined flatRuleFields statementField follows any has
 rules-placed [] behind to stop = stop
-rules-placed (r ∷ rs) behind to stop = (to, rw (append-assoc (each (statementField letterB) (r .premise)) (each (statementField letterH) (r .conclusion)) (joined flatRuleFields rs))
-    (steps-each groupGrammar letterB letterU (statementField letterB) (λ s. refl) refl refl (r .premise) _
-    (conclusion letterU refl (rules-placed rs letterU refl refl) (rules-placed rs letterH refl refl))
-    (conclusion letterB refl (rules-placed rs letterB refl refl) (rules-placed rs letterH refl refl))))
+rules-placed (r ∷ rs) behind to stop = (
+  to,
+  rw (append-assoc (each (statementField letterB) (r .premise)) (each (statementField letterH) (r .conclusion)) (joined flatRuleFields rs))
+      (steps-each groupGrammar letterB letterU (statementField letterB) (λ s. refl) refl refl (r .premise) _
+      (conclusion letterU refl (rules-placed rs letterU refl refl) (rules-placed rs letterH refl refl))
+      (conclusion letterB refl (rules-placed rs letterB refl refl) (rules-placed rs letterH refl refl))),
+)
   where
     conclusion : (b : ℕ) → follows (groupGrammar .places) b letterH ≡ true → Steps groupGrammar b (joined flatRuleFields rs)
         → Steps groupGrammar letterH (joined flatRuleFields rs) → Steps groupGrammar b (each (statementField letterH) (r .conclusion) ++ joined flatRuleFields rs)
@@ -56,48 +59,47 @@ rules-placed (r ∷ rs) behind to stop = (to, rw (append-assoc (each (statementF
 -- A group's fields are a whole record.
 group-placed : (g : Group) → Steps groupGrammar start (groupFields g)
 unfolding groupFields variableField follows any has
-group-placed g = (refl, steps-each groupGrammar letterW letterG variableField (λ v. refl) refl refl (g .variables) (joined flatRuleFields (g .rules))
-    (rules-placed (g .rules) letterG refl refl) (rules-placed (g .rules) letterW refl refl))
+group-placed g = (
+  refl,
+  steps-each groupGrammar letterW letterG variableField (λ v. refl) refl refl (g .variables) (joined flatRuleFields (g .rules))
+      (rules-placed (g .rules) letterG refl refl) (rules-placed (g .rules) letterW refl refl),
+)
 
+-- A group written is cut into its fields, all in their places.
 pub group-part : (g : Group) → groupPart (groupBytesOf g) ≡ record { fields = groupFields g; whole = true }
 unfolding groupPart groupBytesOf
 group-part g = rw (fields-written (groupFields g)) (placed-whole groupGrammar start (groupFields g) (group-placed g))
 
--- Behind a rule's name are its premise, of B, and its conclusion, of H, and no other field.
+-- Behind a rule's name are its premise, of B, and its conclusion, of H.
 premise-fields : (r : FlatRule) → withLetter letterB (ruleBody r) ≡ each (statementField letterB) (r .premise)
-unfolding withLetter statementField
-premise-fields r =
-    keep-append _ (each (statementField letterB) (r .premise)) (each (statementField letterH) (r .conclusion))
-    ∙ rw (keep-each (λ (f : Field). eqb (f .letter) letterB) (statementField letterB) (λ s. refl) (r .premise), keep-each-none (λ (f : Field). eqb (f .letter) letterB) (statementField letterH) (λ s. refl) (r .conclusion)) (append-nil _)
+unfolding statementField
+premise-fields r = rw (with-append letterB, with-each letterB (statementField letterB) (λ s. refl), with-each-none letterB (statementField letterH) (λ s. refl), append-nil)
 
 conclusion-fields : (r : FlatRule) → withLetter letterH (ruleBody r) ≡ each (statementField letterH) (r .conclusion)
-unfolding withLetter statementField
-conclusion-fields r =
-    keep-append _ (each (statementField letterB) (r .premise)) (each (statementField letterH) (r .conclusion))
-    ∙ rw (keep-each-none (λ (f : Field). eqb (f .letter) letterH) (statementField letterB) (λ s. refl) (r .premise)) (keep-each (λ (f : Field). eqb (f .letter) letterH) (statementField letterH) (λ s. refl) (r .conclusion))
+unfolding statementField
+conclusion-fields r = rw (with-append letterH, with-each-none letterH (statementField letterB) (λ s. refl), with-each letterH (statementField letterH) (λ s. refl))
 
+-- There is no other field, nor in rules one of a letter that is not U, B or H.
 body-without : (letter : ℕ) → eqb letterB letter ≡ false → eqb letterH letter ≡ false → (r : FlatRule) → withLetter letter (ruleBody r) ≡ []
-unfolding withLetter statementField
-body-without letter b h r =
-    keep-append _ (each (statementField letterB) (r .premise)) (each (statementField letterH) (r .conclusion))
-    ∙ rw (keep-each-none (λ (f : Field). eqb (f .letter) letter) (statementField letterB) (λ s. b) (r .premise)) (keep-each-none (λ (f : Field). eqb (f .letter) letter) (statementField letterH) (λ s. h) (r .conclusion))
+unfolding statementField
+body-without letter b h r = rw (with-append letter, with-each-none letter (statementField letterB) (λ s. b), with-each-none letter (statementField letterH) (λ s. h))
 
 rules-without : (letter : ℕ) → eqb letterU letter ≡ false → eqb letterB letter ≡ false → eqb letterH letter ≡ false → (rs : List FlatRule)
     → withLetter letter (joined flatRuleFields rs) ≡ []
-unfolding withLetter flatRuleFields keep
-rules-without letter u b h rs = keep-joined-none _ flatRuleFields (λ r. rw u (body-without letter b h r)) rs
+unfolding flatRuleFields withLetter keep
+rules-without letter u b h rs = with-joined-none letter flatRuleFields (λ r. rw u (body-without letter b h r)) rs
 
--- A group's fields of each letter.
+-- A group's fields of G and of W.
 title-fields : (g : Group) → withLetter letterG (groupFields g) ≡ record { letter = letterG; content = g .name } ∷ []
-unfolding withLetter groupFields keep variableField
+unfolding groupFields variableField withLetter keep
 title-fields g = ap (λ (fs : List Field). record { letter = letterG; content = g .name } ∷ fs)
-    (keep-append _ (each variableField (g .variables)) (joined flatRuleFields (g .rules))
-    ∙ rw (keep-each-none (λ (f : Field). eqb (f .letter) letterG) variableField (λ v. refl) (g .variables)) (rules-without letterG refl refl refl (g .rules)))
+    (with-append letterG (each variableField (g .variables)) (joined flatRuleFields (g .rules))
+    ∙ rw (with-each-none letterG variableField (λ v. refl) (g .variables)) (rules-without letterG refl refl refl (g .rules)))
 
 variable-fields : (g : Group) → withLetter letterW (groupFields g) ≡ each variableField (g .variables)
-unfolding withLetter groupFields keep variableField
-variable-fields g = keep-append _ (each variableField (g .variables)) (joined flatRuleFields (g .rules))
-    ∙ rw (keep-each (λ (f : Field). eqb (f .letter) letterW) variableField (λ v. refl) (g .variables), rules-without letterW refl refl refl (g .rules)) (append-nil _)
+unfolding groupFields variableField withLetter keep
+variable-fields g = with-append letterW (each variableField (g .variables)) (joined flatRuleFields (g .rules))
+    ∙ rw (with-each letterW variableField (λ v. refl) (g .variables), rules-without letterW refl refl refl (g .rules)) (append-nil _)
 
 -- Its rules' blocks.
 rules-upto : (rs : List FlatRule) → upTo letterU (joined flatRuleFields rs) ≡ []
@@ -109,23 +111,31 @@ rule-blocks : (rs : List FlatRule) → blocks letterU (joined flatRuleFields rs)
 unfolding joined each flatRuleFields blocks upTo
 rule-blocks [] = refl
 rule-blocks (r ∷ rs) =
-    rw (upto-skip letterU (ruleBody r) (joined flatRuleFields rs) (body-without letterU refl refl r),
-        blocks-skip letterU (ruleBody r) (joined flatRuleFields rs) (body-without letterU refl refl r),
-        rule-blocks rs, rules-upto rs, append-nil (ruleBody r))
+    rw (
+      upto-skip letterU (ruleBody r) (joined flatRuleFields rs) (body-without letterU refl refl r),
+      blocks-skip letterU (ruleBody r) (joined flatRuleFields rs) (body-without letterU refl refl r),
+      rule-blocks rs,
+      rules-upto rs,
+      append-nil (ruleBody r),
+    )
 
 group-blocks : (g : Group) → blocks letterU (groupFields g) ≡ each ruleBlock (g .rules)
 unfolding groupFields blocks variableField withLetter
 group-blocks g =
-    blocks-skip letterU (each variableField (g .variables)) (joined flatRuleFields (g .rules)) (keep-each-none (λ (f : Field). eqb (f .letter) letterU) variableField (λ v. refl) (g .variables))
+    blocks-skip letterU (each variableField (g .variables)) (joined flatRuleFields (g .rules)) (with-each-none letterU variableField (λ v. refl) (g .variables))
     ∙ rule-blocks (g .rules)
 
 -- A rule's block means the rule.
 pub rule-back : (r : FlatRule) → flatRuleOf (ruleBlock r) ≡ r
 unfolding flatRuleOf
-rule-back r = rw (premise-fields r, conclusion-fields r,
-    each-back statementOf (statementField letterB) (statement-back letterB) (r .premise), each-back statementOf (statementField letterH) (statement-back letterH) (r .conclusion))
+rule-back r = rw (
+  premise-fields r,
+  conclusion-fields r,
+  each-back statementOf (statementField letterB) (statement-back letterB) (r .premise),
+  each-back statementOf (statementField letterH) (statement-back letterH) (r .conclusion),
+)
 
--- A group's fields mean the group.
+-- A group's fields mean the group: its name, and all of it.
 title-back : (g : Group) → titleField (groupFields g) .content ≡ g .name
 unfolding groupFields
 title-back g = refl
@@ -134,7 +144,7 @@ pub group-back : (g : Group) → groupOf (groupFields g) ≡ g
 unfolding groupOf
 group-back g = rw (title-back g, variable-fields g, group-blocks g, each-back variableOf variableField variable-back (g .variables), each-back flatRuleOf ruleBlock rule-back (g .rules))
 
--- A good statement's field passes, as premise or conclusion.
+-- A good statement's field passes, as premise or conclusion: its length, its columns, and all of it.
 statement-length : (letter : ℕ) (s : Statement) → length (statementField letter s .content) ≡ 2 * suc (length (s .variables)) + 1
 unfolding statementField
 statement-length letter s = let e : length (numberBytes (s .symbol ∷ s .variables)) ≡ 2 * suc (length (s .variables)) = length-numbers-written (s .symbol ∷ s .variables) in omega arith
@@ -154,6 +164,7 @@ statement-passes sig kinds count letter s h before last = rw (statement-back let
   where
     size : (not (odd (length (statementField letter s .content))) || ltb (length (statementField letter s .content)) 3) ≡ false
     size = rw (statement-length letter s, mul-add-mod-self-left 2 (suc (length (s .variables))) 1) (le-ltb (2 * suc (length (s .variables)) + 1) 3 (omega arith))
+
     numbered : (not (has (s .kind) kinds) || not (ltb (s .symbol) (symbolCount sig (s .kind))) || not (named count (s .variables))) ≡ false
     numbered = rw (mem-has _ _ (h .kind-in), lt-ltb _ _ (h .symbol-in), mem-all (λ (n : ℕ). ltb n count) (s .variables) (λ v m. lt-ltb _ _ (h .variables-in v m)))
 
@@ -167,6 +178,7 @@ variable-passes : (sig : Signature) (v : Variable) → GoodVariable sig v → (b
 unfolding variableFault lowest
 variable-passes sig v h before last few = rw (variable-back v, variable-length v, lt-leb _ _ few, lt-ltb _ _ (h .type-in), h .name-good)
 
+-- Good statements have no fault.
 statements-pass : (sig : Signature) (kinds : List ℕ) (count letter : ℕ) (ss : List Statement) → ((s : Statement) → s ∈ ss → GoodStatement sig kinds count s)
     → faultFrom (statementFault sig kinds count) 0 none (each (statementField letter) ss) ≡ none
 statements-pass sig kinds count letter ss h =
@@ -180,9 +192,14 @@ rules-pass sig count [] before h few = refl
 rules-pass sig count (r ∷ rs) before h few =
     let good : GoodRule sig count r = h r (List·Memᴰ·head refl) in
     let first : before < ruleLimit = omega arith in
-    rw (premise-fields r, conclusion-fields r, lt-leb _ _ first, good .name-good,
-        statements-pass sig premiseKinds count letterB (r .premise) (good .premise-good),
-        statements-pass sig conclusionKinds count letterH (r .conclusion) (good .conclusion-good))
+    rw (
+      premise-fields r,
+      conclusion-fields r,
+      lt-leb _ _ first,
+      good .name-good,
+      statements-pass sig premiseKinds count letterB (r .premise) (good .premise-good),
+      statements-pass sig conclusionKinds count letterH (r .conclusion) (good .conclusion-good),
+    )
     (rules-pass sig count rs (before + 1) (λ s m. h s (List·Memᴰ·tail m)) (omega arith))
 
 -- A good group has no fault.
