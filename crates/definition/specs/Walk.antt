@@ -117,6 +117,10 @@ unfoldable pub initialState : Rule → State
 initialState rule = reach rule (untouched rule) 0 (nothingTaken (structureAt rule 0))
     (record { statements = initialStatements (sideOf (structureAt rule 0) 0 (nothingTaken (structureAt rule 0))); emitted = [] })
 
+-- What the target's elements take over from the source.
+unfoldable pub takenOver : Rule → Kind → List Pair → Reached → List (Option ℕ)
+takenOver rule k pairs source = carried (structureAt rule (k .source)) (source .variables) pairs (structureAt rule (k .target))
+
 -- A map of a kind: 23 'source has no statements yet', 24 'target already has statements', then as its kind has it.
 unfoldable pub walkMap : Signature → Rule → State → Kind → List Pair → Option Reached → Option Reached → Outcome State
 walkMap sig rule state k pairs none target = refused 23
@@ -127,9 +131,6 @@ walkMap sig rule state k pairs (some source) none = onAccepted
         (sideOf (structureAt rule (k .target)) (length (state .variables)) (takenOver rule k pairs source))
         pairs (k .kind) (source .statements))
     (λ (step : Step). accepted (reach rule state (k .target) (takenOver rule k pairs source) step))
-  where
-    takenOver : Rule → Kind → List Pair → Reached → List (Option ℕ)
-    takenOver rule k pairs source = carried (structureAt rule (k .source)) (source .variables) pairs (structureAt rule (k .target))
 
 unfoldable pub walkFrom : Signature → Rule → State → List Kind → Outcome State
 walkFrom sig rule state [] = accepted state

@@ -1,6 +1,7 @@
 -- Laws and theorems about the definition.
 pub mod Good
 pub mod Lists
+pub mod NameLaws
 pub mod Numbering
 pub mod Numbers
 pub mod RbFields
@@ -12,3 +13,6 @@ pub mod ScopeLaws
 pub mod Sound
 pub mod SoundRule
 pub mod StepLaws
+pub mod Theorems
+pub mod WalkLaws
+pub mod WalkSteps

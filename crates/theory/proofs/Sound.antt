@@ -17,6 +17,7 @@ use Rattle.definition.specs.Records.{Field, Fields, end, bad, _▸_, Part, Bloc
 use Rattle.definition.specs.Signature.{Signature, typeFault, symbolFault, signatureFault, signatureOf, signaturePart, readSignature, symbolOf, typeParents, predOf, funcOf, columnCount}
 use Rattle.definition.specs.Rule.{Element, Row, Name, Pair, Map, Kind, Auxiliary, Structure, Rule, ruleGrammar, elementOf, rowOf, nameOf, pairsOf, mapOf, kindOf, auxiliaryOf, namedElements, headFault, structureFault, elementFault, rowFault, nameFault, mapFault, kindFault, auxiliaryFault, keysAscend, sourceTarget, elementsAt, bodyFault, structuresFault, namedIn, ruleFault, structureOf, headField, ruleOf, rulePart, readRule}
 use Rattle.definition.specs.Names.{numbersOf}
+use Rattle.definition.specs.Walk.{structureAt, noStructure}
 use Rattle.theory.proofs.Lists.{and-left, and-right, or-left, or-right, not-false, not-true, never, or-else-none, mem-keep, mem-each, each-mem, length-each, all-mem, has-mem, lowest-none}
 
 -- Acceptance: no fault, and the record's value.
@@ -110,14 +111,11 @@ pub record SoundStructure (sig : Signature) (st : Structure) : Type 0 where
   pub variables-sound : (n : Name) → n ∈ st .variableNames → badName 1 nameBytes (n .name) ≡ false
   pub identifiers-sound : (n : Name) → n ∈ st .identifierNames → badName 1 nameBytes (n .name) ≡ false
 
-abbrev pub structureAt : List Structure → ℕ → Structure
-structureAt sts s = getD sts s (record { elements = []; predRows = []; funcRows = []; variableNames = []; identifierNames = [] })
-
-pub record SoundMap (sts : List Structure) (m : Map) : Type 0 where
-  pub source-in : m .source < length sts
-  pub target-in : m .target < length sts
-  pub keys-in : (p : Pair) → p ∈ m .pairs → p .key ∈ numbersOf (structureAt sts (m .source))
-  pub images-in : (p : Pair) → p ∈ m .pairs → p .image ∈ numbersOf (structureAt sts (m .target))
+pub record SoundMap (rule : Rule) (m : Map) : Type 0 where
+  pub source-in : m .source < length (rule .structures)
+  pub target-in : m .target < length (rule .structures)
+  pub keys-in : (p : Pair) → p ∈ m .pairs → p .key ∈ numbersOf (structureAt rule (m .source))
+  pub images-in : (p : Pair) → p ∈ m .pairs → p .image ∈ numbersOf (structureAt rule (m .target))
   pub keys-ascend : keysAscend (m .pairs) ≡ true
 
 pub record SoundRule (sig : Signature) (rule : Rule) : Type 0 where
@@ -125,6 +123,6 @@ pub record SoundRule (sig : Signature) (rule : Rule) : Type 0 where
   pub structures-some : 0 < length (rule .structures)
   pub structures-few : length (rule .structures) ≤ structureLimit
   pub structures-sound : (st : Structure) → st ∈ rule .structures → SoundStructure sig st
-  pub maps-sound : (m : Map) → m ∈ rule .maps → SoundMap (rule .structures) m
+  pub maps-sound : (m : Map) → m ∈ rule .maps → SoundMap rule m
   pub kinds-sound : (k : Kind) → k ∈ rule .kinds → (k .source < length (rule .structures)) × (k .target < length (rule .structures))
   pub auxiliaries-sound : (x : Auxiliary) → x ∈ rule .auxiliaries → x .structure < length (rule .structures)

@@ -17,8 +17,9 @@ use Rattle.definition.specs.Records.{Field, Fields, end, bad, _▸_, Part, Bloc
 use Rattle.definition.specs.Signature.{Signature, typeParents, predOf, funcOf, columnCount}
 use Rattle.definition.specs.Rule.{Element, Row, Name, Pair, Map, Kind, Auxiliary, Structure, Rule, ruleGrammar, elementOf, rowOf, nameOf, pairsOf, mapOf, kindOf, auxiliaryOf, namedElements, headFault, structureFault, elementFault, rowFault, nameFault, mapFault, kindFault, auxiliaryFault, keysAscend, sourceTarget, elementsAt, bodyFault, structuresFault, namedIn, ruleFault, structureOf, headField, ruleOf, rulePart, readRule}
 use Rattle.definition.specs.Names.{numbersOf}
+use Rattle.definition.specs.Walk.{noStructure}
 use Rattle.theory.proofs.Lists.{and-left, and-right, or-left, or-right, not-false, not-true, never, or-cases, or-else-none, mem-keep, mem-each, each-mem, length-each, getD-each, all-mem, has-mem, lowest-none}
-use Rattle.theory.proofs.Sound.{read-part, read-within, fault-mem, fault-few, among-mem, among-few, SoundElement, SoundRow, SoundStructure, SoundMap, SoundRule, structureAt}
+use Rattle.theory.proofs.Sound.{read-part, read-within, fault-mem, fault-few, among-mem, among-few, SoundElement, SoundRow, SoundStructure, SoundMap, SoundRule}
 
 -- An element that can be named is one of the structure's.
 named-in : (b : Block) (e : ℕ) → e ∈ namedElements (b .body) → e ∈ numbersOf (structureOf b)
@@ -185,7 +186,7 @@ structures-passed sig n (b ∷ bs) h e =
 
 -- What can be named in a structure is what it has.
 named-at : (fs : List Field) (s e : ℕ) → s < length (namedIn fs) → e ∈ elementsAt (namedIn fs) s
-    → e ∈ numbersOf (structureAt (each structureOf (blocks letterS fs)) s)
+    → e ∈ numbersOf (getD (each structureOf (blocks letterS fs)) s noStructure)
 unfolding namedIn
 named-at fs s e h m =
     let d : Block = record { head = record { letter = 0; content = [] }; body = [] } in
@@ -262,7 +263,7 @@ module _ (sig : Signature) (fs : List Field) where
 
   named-length : length (namedIn fs) ≡ length (each structureOf (blocks letterS fs))
   unfolding namedIn
-  named-length = rw (length-each, length-each)
+  named-length = rw (length-each (λ (b : Block). namedElements (b .body)), length-each structureOf)
 
   head-in : (b : Begins fs) → headField fs ∈ withLetter letterN fs
   unfolding withLetter keep

@@ -132,7 +132,7 @@ member-last : (x : Element) → lastElement (memberRow x) ≡ x .number
 unfolding lastElement memberRow
 member-last x = rw (last-append (x .parents) (x .number))
 
-member-lists : (x : Element) → x .number ∈ memberRow x .elements
+pub member-lists : (x : Element) → x .number ∈ memberRow x .elements
 unfolding memberRow
 member-lists x = Memᴰ·append-right (x .parents) (List·Memᴰ·head refl)
 

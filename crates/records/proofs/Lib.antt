@@ -1,0 +1,8 @@
+-- Laws for any letter.
+pub mod Link
+pub mod Runs
+pub mod Placed
+pub mod Numbers
+pub mod Along
+pub mod NameBytes
+pub mod Pairs

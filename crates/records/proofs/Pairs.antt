@@ -1,0 +1,88 @@
+-- Numbers with the high byte first compare like their bytes.
+use Prim.Native.Nat.{ℕ, zero, suc, _+_, _*_, _/_, _%_, _≤_, _<_}
+use native.Mathlib.Omega.{arith}
+use mathlib.Core.Bool.{Bool, true, false, _&&_}
+use mathlib.Core.List.{List, [], _∷_}
+use mathlib.Core.Path.{_≡_, refl, sym, _∙_, ap}
+use lib.Dec.{eqb, ltb}
+use lib.ListN.{length, getD, take, List·getD-eq-default}
+use lib.Seq.{take-all}
+use borrow.Author.Tests.{lt-ltb, le-ltb, ltb-true, ltb-false, eq-eqb, ne-eqb, eqb-true, eqb-false}
+use Rattle.definition.specs.Base.{pick, less, sameList}
+use Rattle.definition.specs.Records.{numbers}
+use Rattle.records.specs.Places.{stretch}
+use Rattle.records.proofs.Numbers.{length-stretch, stretch-at, take-stretch, take-numbers, length-numbers-in}
+
+abbrev Bytes : List ℕ → Type 0
+Bytes xs = (i : ℕ) → getD xs i 0 < 256
+
+-- Of two numbers the high bytes decide, and where they are the same the low ones.
+module _ (x w y z : ℕ) (hw : w < 256) (hz : z < 256) where
+  less-two : (rest : Bool) → pick (ltb (x * 256 + w) (y * 256 + z)) true (pick (ltb (y * 256 + z) (x * 256 + w)) false rest)
+      ≡ pick (ltb x y) true (pick (ltb y x) false (pick (ltb w z) true (pick (ltb z w) false rest)))
+  less-two rest = go (ltb x y) (ltb y x) (ltb w z) (ltb z w) refl refl refl refl
+    where
+      go : (a b c d : Bool) → ltb x y ≡ a → ltb y x ≡ b → ltb w z ≡ c → ltb z w ≡ d
+          → pick (ltb (x * 256 + w) (y * 256 + z)) true (pick (ltb (y * 256 + z) (x * 256 + w)) false rest) ≡ pick a true (pick b false (pick c true (pick d false rest)))
+      go true b c d p q r t = rw (lt-ltb (x * 256 + w) (y * 256 + z) (omega (arith, ltb-true)))
+      go false true c d p q r t = rw (le-ltb (x * 256 + w) (y * 256 + z) (omega (arith, ltb-true)), lt-ltb (y * 256 + z) (x * 256 + w) (omega (arith, ltb-true)))
+      go false false true d p q r t = rw (lt-ltb (x * 256 + w) (y * 256 + z) (omega (arith, ltb-true, ltb-false)))
+      go false false false true p q r t = rw (le-ltb (x * 256 + w) (y * 256 + z) (omega (arith, ltb-true, ltb-false)), lt-ltb (y * 256 + z) (x * 256 + w) (omega (arith, ltb-true, ltb-false)))
+      go false false false false p q r t = rw (le-ltb (x * 256 + w) (y * 256 + z) (omega (arith, ltb-false)), le-ltb (y * 256 + z) (x * 256 + w) (omega (arith, ltb-false)))
+
+  same-two : (rest : Bool) → (eqb (x * 256 + w) (y * 256 + z) && rest) ≡ (eqb x y && (eqb w z && rest))
+  same-two rest = go (eqb x y) (eqb w z) refl refl
+    where
+      go : (a b : Bool) → eqb x y ≡ a → eqb w z ≡ b → (eqb (x * 256 + w) (y * 256 + z) && rest) ≡ (a && (b && rest))
+      go true true p q = rw (eq-eqb (x * 256 + w) (y * 256 + z) (omega (arith, eqb-true)))
+      go true false p q = let k = eqb-false w z q in let e = eqb-true x y p in rw (ne-eqb (x * 256 + w) (y * 256 + z) (λ h. k (omega arith)))
+      go false b p q = let k = eqb-false x y p in rw (ne-eqb (x * 256 + w) (y * 256 + z) (λ h. k (omega arith)))
+
+less-pairs : (xs ys : List ℕ) → Bytes xs → Bytes ys → length xs % 2 ≡ 0 → length ys % 2 ≡ 0 → less (numbers xs) (numbers ys) ≡ less xs ys
+unfolding less numbers
+less-pairs [] [] p q e f = refl
+less-pairs [] (y ∷ []) p q e f = absurd (omega arith)
+less-pairs [] (y ∷ z ∷ ys) p q e f = refl
+less-pairs (x ∷ []) ys p q e f = absurd (omega arith)
+less-pairs (x ∷ w ∷ xs) [] p q e f = refl
+less-pairs (x ∷ w ∷ xs) (y ∷ []) p q e f = absurd (omega arith)
+less-pairs (x ∷ w ∷ xs) (y ∷ z ∷ ys) p q e f =
+    rw (less-pairs xs ys (λ i. p (suc (suc i))) (λ i. q (suc (suc i))) (omega arith) (omega arith)) (less-two x w y z (p 1) (q 1) (less xs ys))
+
+same-pairs : (xs ys : List ℕ) → Bytes xs → Bytes ys → length xs % 2 ≡ 0 → length ys % 2 ≡ 0 → sameList (numbers xs) (numbers ys) ≡ sameList xs ys
+unfolding sameList numbers
+same-pairs [] [] p q e f = refl
+same-pairs [] (y ∷ []) p q e f = absurd (omega arith)
+same-pairs [] (y ∷ z ∷ ys) p q e f = refl
+same-pairs (x ∷ []) ys p q e f = absurd (omega arith)
+same-pairs (x ∷ w ∷ xs) [] p q e f = refl
+same-pairs (x ∷ w ∷ xs) (y ∷ []) p q e f = absurd (omega arith)
+same-pairs (x ∷ w ∷ xs) (y ∷ z ∷ ys) p q e f =
+    rw (same-pairs xs ys (λ i. p (suc (suc i))) (λ i. q (suc (suc i))) (omega arith) (omega arith)) (same-two x w y z (p 1) (q 1) (sameList xs ys))
+
+-- An odd byte at the end of a stretch is no number.
+module _ (s : List ℕ) (start len : ℕ) (h : start + len ≤ length s) where
+  even : numbers (stretch s start len) ≡ numbers (stretch s start (len / 2 * 2))
+  even =
+      let l : length (numbers (stretch s start len)) ≤ len / 2 = omega (arith, length-numbers-in s start len h) in
+      let d : 2 * (len / 2) ≡ len / 2 * 2 = omega arith in
+      sym (take-all (len / 2) (numbers (stretch s start len)) l) ∙ take-numbers (len / 2) (stretch s start len) ∙ rw (d, take-stretch s start len (len / 2 * 2) (omega arith))
+
+  even-length : length (stretch s start (len / 2 * 2)) % 2 ≡ 0
+  even-length = let e : length (stretch s start (len / 2 * 2)) ≡ len / 2 * 2 = length-stretch s start (len / 2 * 2) (omega arith) in omega arith
+
+stretch-bytes : (s : List ℕ) (start len : ℕ) → start + len ≤ length s → Bytes s → Bytes (stretch s start len)
+stretch-bytes s start len h b i = go (ltb i len) refl
+  where
+    go : (t : Bool) → ltb i len ≡ t → getD (stretch s start len) i 0 < 256
+    go true e = rw (stretch-at s start len i (ltb-true i len e)) (b (start + i))
+    go false e =
+        let l : length (stretch s start len) ≤ i = rw (length-stretch s start len h) (ltb-false i len e) in
+        rw (List·getD-eq-default (stretch s start len) 0 l) (omega arith)
+
+module _ (s : List ℕ) (a m b n : ℕ) (h : (a + m ≤ length s) × (b + n ≤ length s)) (bytes : Bytes s) where
+  pub less-numbers : less (stretch s a (m / 2 * 2)) (stretch s b (n / 2 * 2)) ≡ less (numbers (stretch s a m)) (numbers (stretch s b n))
+  less-numbers = sym (rw (even s a m (h .0), even s b n (h .1)) (less-pairs (stretch s a (m / 2 * 2)) (stretch s b (n / 2 * 2)) (stretch-bytes s a (m / 2 * 2) (omega (arith, h .0)) bytes) (stretch-bytes s b (n / 2 * 2) (omega (arith, h .1)) bytes) (even-length s a m (h .0)) (even-length s b n (h .1))))
+
+  pub same-numbers : sameList (stretch s a (m / 2 * 2)) (stretch s b (n / 2 * 2)) ≡ sameList (numbers (stretch s a m)) (numbers (stretch s b n))
+  same-numbers = sym (rw (even s a m (h .0), even s b n (h .1)) (same-pairs (stretch s a (m / 2 * 2)) (stretch s b (n / 2 * 2)) (stretch-bytes s a (m / 2 * 2) (omega (arith, h .0)) bytes) (stretch-bytes s b (n / 2 * 2) (omega (arith, h .1)) bytes) (even-length s a m (h .0)) (even-length s b n (h .1))))
