@@ -1,4 +1,5 @@
 -- Laws and theorems about the definition.
+pub mod ByteLaws
 pub mod Good
 pub mod Lists
 pub mod NameLaws
@@ -8,6 +9,7 @@ pub mod RbFields
 pub mod RbPlaces
 pub mod RbRefusals
 pub mod ReadBack
+pub mod Refusals
 pub mod RowLaws
 pub mod ScopeLaws
 pub mod Sound

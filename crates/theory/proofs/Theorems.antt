@@ -27,6 +27,7 @@ use Rattle.theory.proofs.NameLaws.{name-tells}
 use Rattle.theory.proofs.WalkLaws.{SlotGood, StateGood, BaseOf, noVariable, reached-few, group-name-good}
 use Rattle.theory.proofs.WalkSteps.{WalkedGood, on-accepted, walk-of-good, walked-mem, first-reached}
 use Rattle.theory.proofs.ReadBack.{read-back}
+use Rattle.theory.proofs.ByteLaws.{group-small}
 
 -- What flatten wrote: the group that the walk left, within the room.
 pub record Wrote (signature rule : List ℕ) (room : ℕ) (bytes : List ℕ) : Type 0 where
@@ -80,6 +81,11 @@ module _ (signature rule : List ℕ) (room : ℕ) {bytes : List ℕ} (w : Wrote 
   pub reads-back : readGroup (w .sig) bytes ≡ accepted (groupLeft (w .read) (w .state))
   reads-back = let l : length (groupBytesOf (groupLeft (w .read) (w .state))) ≤ groupBytes = rw (w .bytes-are) (w .in-answer) in
       rw (← (w .bytes-are)) (read-back (w .sig) (groupLeft (w .read) (w .state)) left-good l)
+
+  -- They are bytes.
+  pub bytes-small : (b : ℕ) → b ∈ bytes → b < 256
+  bytes-small b m = let l : length (groupBytesOf (groupLeft (w .read) (w .state))) ≤ groupBytes = rw (w .bytes-are) (w .in-answer) in
+      group-small (w .sig) (groupLeft (w .read) (w .state)) left-good l b (rw (w .bytes-are) m)
 
   -- 'its variables are below its number of W fields, which is at most 2,048'.
   pub variables-below : (f : FlatRule) → f ∈ w .state .rules → (v : ℕ) → Occurs v (f .premise) ⊎ Occurs v (f .conclusion) → v < length (w .state .variables)
