@@ -23,21 +23,23 @@ pub enum Answer {
     /// S.
     Global,
     /// S: model type, and the bytes that hold the owners.
-    Model { model: u16, owners: Vec<u8> },
+    Model {
+        model: u16,
+        owners: Vec<u8>,
+    },
     Refused(u8),
 }
 
 /// Answers a case of any kind.
 pub fn answer(case: &Case) -> Answer {
     let result = match case.kind {
-        CaseKind::ReadRule => {
-            reading::rule(&case.signature, &case.record).map(|()| Answer::Sound)
-        }
+        CaseKind::ReadRule => reading::rule(&case.signature, &case.record).map(|()| Answer::Sound),
         CaseKind::ReadGroup => {
             reading::group(&case.signature, &case.record).map(|()| Answer::Sound)
         }
-        CaseKind::Flatten => flatten(&case.signature, &case.record, case.number as usize)
-            .map(Answer::Written),
+        CaseKind::Flatten => {
+            flatten(&case.signature, &case.record, case.number as usize).map(Answer::Written)
+        }
         CaseKind::Scope => scope_of(&case.signature, &case.record, case.number),
     };
     result.unwrap_or_else(Answer::Refused)
@@ -45,14 +47,26 @@ pub fn answer(case: &Case) -> Answer {
 
 /// The group's bytes, or the refusal, for a buffer of `room` bytes.
 pub fn flatten(signature: &[u8], rule: &[u8], room: usize) -> Result<Vec<u8>, u8> {
-    reading::rule(signature, rule)?;
-    let signature = SignatureRecord::read(signature);
-    let rule = RuleRecord::read(rule);
-    let group = Input::new(&signature, &rule).flatten()?.bytes();
+    let group = group_bytes(signature, rule)?;
     if group.len() > room.min(LONGEST_ANSWER) {
         return Err(31);
     }
     Ok(group)
+}
+
+/// The group's bytes, or the refusal, for a buffer of any size.
+pub fn group_bytes(signature: &[u8], rule: &[u8]) -> Result<Vec<u8>, u8> {
+    reading::rule(signature, rule)?;
+    let signature = SignatureRecord::read(signature);
+    let rule = RuleRecord::read(rule);
+    Ok(Input::new(&signature, &rule).flatten()?.bytes())
+}
+
+/// With which number the published function itself panics on a sound rule, in
+/// the Rust's own order of refusals.
+pub fn published_refusal(signature: &[u8], rule: &[u8]) -> Option<u8> {
+    let signature = SignatureRecord::read(signature);
+    Input::new(&signature, &RuleRecord::read(rule)).published_refusal()
 }
 
 fn scope_of(signature: &[u8], group: &[u8], position: u32) -> Result<Answer, u8> {

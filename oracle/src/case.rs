@@ -4,6 +4,10 @@
 //! and its bytes; F is followed by four bytes of room, S by four of position.
 //! Parts and rooms above 65,536 are taken as 65,536.
 
+use std::fmt;
+
+use crate::answer::hex;
+
 /// Longest part, and largest room, that is kept.
 pub const MOST: usize = 65_536;
 
@@ -58,7 +62,7 @@ impl CaseKind {
     }
 }
 
-#[derive(Clone, Debug, PartialEq, Eq)]
+#[derive(Clone, PartialEq, Eq)]
 pub struct Case {
     pub kind: CaseKind,
     pub signature: Vec<u8>,
@@ -66,6 +70,19 @@ pub struct Case {
     pub record: Vec<u8>,
     /// Room of an F, position of an S; 0 in the others.
     pub number: u32,
+}
+
+/// In hexadecimal and not at full length, for messages of failing tests.
+impl fmt::Debug for Case {
+    fn fmt(&self, f: &mut fmt::Formatter<'_>) -> fmt::Result {
+        let letter = self.kind.letter();
+        write!(f, "{letter} {}", self.number)?;
+        for part in [&self.signature, &self.record] {
+            let shown = &part[..part.len().min(400)];
+            write!(f, " [{} bytes: {}]", part.len(), hex(shown))?;
+        }
+        Ok(())
+    }
 }
 
 impl Case {

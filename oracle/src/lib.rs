@@ -20,10 +20,18 @@ mod stand_ins;
 use stand_ins::{grammar_util, options};
 
 pub mod answer;
+pub mod bench;
 pub mod case;
+pub mod claims;
+pub mod generate;
+pub mod notation;
+pub mod outcomes;
 mod panics;
+mod random;
 pub mod reading;
 pub mod records;
+pub mod stored;
+pub mod text;
 
 /// Every line of the published files that is not compiled: path, number, text.
 pub const LEFT_OUT: &str = include_str!(concat!(env!("OUT_DIR"), "/left_out.txt"));

@@ -103,17 +103,11 @@ pub fn group(signature_bytes: &[u8], bytes: &[u8]) -> Reading<()> {
 // ------------------------------------------------------------------ cutting
 
 /// Which letters may come next, by the letter before; `START` before the first.
-/// A record may end after any letter listed but those in `ENDS_NOT`.
 type Letters = &'static [(u8, &'static [u8])];
 
 const START: u8 = 0;
 
-const SIGNATURE_LETTERS: Letters = &[
-    (START, b"TPF"),
-    (b'T', b"TPF"),
-    (b'P', b"PF"),
-    (b'F', b"F"),
-];
+const SIGNATURE_LETTERS: Letters = &[(START, b"TPF"), (b'T', b"TPF"), (b'P', b"PF"), (b'F', b"F")];
 
 const RULE_LETTERS: Letters = &[
     (START, b"N"),
@@ -139,10 +133,9 @@ const GROUP_LETTERS: Letters = &[
 ];
 
 /// Whether a required field is still missing: N and one S in a rule, G in a
-/// group, nothing in a signature.
+/// group, nothing in a signature. Just where one is, it is all that may come.
 fn misses(letters: Letters, last: u8) -> bool {
-    let one_way: &[u8] = next(letters, last);
-    matches!(one_way, b"N" | b"S" | b"G")
+    matches!(next(letters, last), b"N" | b"S" | b"G")
 }
 
 fn next(letters: Letters, last: u8) -> &'static [u8] {
@@ -203,7 +196,7 @@ fn numbers(bytes: &[u8]) -> Vec<usize> {
 }
 
 fn is_even(length: usize) -> bool {
-    length % 2 == 0
+    length.is_multiple_of(2)
 }
 
 // ------------------------------------------------------- limits, order, names
@@ -396,7 +389,7 @@ impl RuleReading<'_> {
     }
 
     fn map(&mut self, content: &[u8]) -> Reading<()> {
-        refuse(content.len() < 4 || content.len() % 4 != 0, 3)?;
+        refuse(content.len() < 4 || !content.len().is_multiple_of(4), 3)?;
         self.seen.limit(b'M', FIELDS)?;
         let all = numbers(content);
         let (source, target) = (all[0], all[1]);

@@ -70,7 +70,9 @@ impl Content {
     }
 
     fn numbers(self, numbers: &[u16]) -> Self {
-        numbers.iter().fold(self, |content, &one| content.number(one))
+        numbers
+            .iter()
+            .fold(self, |content, &one| content.number(one))
     }
 
     fn name(mut self, name: &[u8]) -> Self {
@@ -375,7 +377,10 @@ impl MapRecord {
     fn read(content: &[u8]) -> Self {
         let (source, rest) = number_and_rest(content);
         let (target, rest) = number_and_rest(rest);
-        let pairs = numbers(rest).chunks_exact(2).map(|two| (two[0], two[1])).collect();
+        let pairs = numbers(rest)
+            .chunks_exact(2)
+            .map(|two| (two[0], two[1]))
+            .collect();
         MapRecord {
             source,
             target,
@@ -562,7 +567,10 @@ impl GroupRecord {
                     name: content,
                     ..FlatRuleRecord::default()
                 }),
-                b'B' => record.last_rule().premise.push(StatementRecord::read(&content)),
+                b'B' => record
+                    .last_rule()
+                    .premise
+                    .push(StatementRecord::read(&content)),
                 b'H' => record
                     .last_rule()
                     .conclusion

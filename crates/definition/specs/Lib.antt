@@ -18,3 +18,4 @@ pub mod Opened
 pub mod Garage
 pub mod Examples
 pub mod Demands
+pub mod Oracle

@@ -48,8 +48,14 @@ const REFUSALS: [(&str, u8); 10] = [
     ("assertion `left == right` failed\n  left: TypeId(", 25),
     ("morphism should be defined on relation arguments", 26),
     ("morphism should be surjective", 27),
-    ("There should be at most one new element in the codomain", 28),
-    ("new element should be the result of a function application", 29),
+    (
+        "There should be at most one new element in the codomain",
+        28,
+    ),
+    (
+        "new element should be the result of a function application",
+        29,
+    ),
     ("Arguments to obtain new element should be in image", 30),
 ];
 
@@ -131,6 +137,13 @@ impl Input {
         let numbers = self.el_vars(&nameless, &morphisms);
         let vars = handed_out(&el_vars, &numbers);
         Ok(group_record(&group, &numbered, vars))
+    }
+
+    /// The number of the panic with which the published function itself ends
+    /// on the whole rule, if it does: the Rust's own order of refusals.
+    pub fn published_refusal(&self) -> Option<u8> {
+        let result = caught(|| self.flatten_rule(&self.rule));
+        result.err().map(|message| refusal(&message))
     }
 
     /// The refusal at the first walked map at which the published code panics

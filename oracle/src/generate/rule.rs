@@ -45,7 +45,8 @@ impl Size {
         };
         let els = match random.below(30) {
             0 => 30,
-            1 | 2 => 0,
+            1..=3 => 15,
+            4 | 5 => 0,
             _ => random.range(1, 6),
         };
         let rows = random.range(0, 6);
@@ -113,7 +114,10 @@ fn made_up(signature: &SignatureRecord, size: Size, random: &mut Random) -> Stru
     if !signature.types.is_empty() {
         let count = random.range(0, size.els);
         let numbers = element_numbers(count, random);
-        let types: Vec<u16> = numbers.iter().map(|_| any_type(signature, random)).collect();
+        let types: Vec<u16> = numbers
+            .iter()
+            .map(|_| any_type(signature, random))
+            .collect();
         structure.els = numbers
             .iter()
             .zip(types)
@@ -270,7 +274,11 @@ pub fn row_elements(structure: &StructureRecord) -> BTreeSet<u16> {
         used.extend(&app.els);
         used.insert(app.result);
     }
-    for entry in structure.els.iter().filter(|entry| !entry.parents.is_empty()) {
+    for entry in structure
+        .els
+        .iter()
+        .filter(|entry| !entry.parents.is_empty())
+    {
         used.extend(&entry.parents);
         used.insert(entry.el);
     }
@@ -314,17 +322,19 @@ fn grow_along_map(
     let numbering = image_numbers(&fibers, random);
     let image: BTreeSet<u16> = numbering.values().copied().collect();
 
-    let (structure, new_els) =
-        grown_structure(source_structure, &numbering, kind, signature, random);
+    let structure = grown_structure(source_structure, &numbering, kind, signature, random);
     let mut target_types: BTreeMap<u16, u16> = BTreeMap::new();
     for (key, el) in &numbering {
         // A later key replaces.
         target_types.insert(*el, types[key]);
     }
-    for entry in structure.els.iter().filter(|entry| !image.contains(&entry.el)) {
+    for entry in structure
+        .els
+        .iter()
+        .filter(|entry| !image.contains(&entry.el))
+    {
         target_types.insert(entry.el, entry.typ);
     }
-    debug_assert!(new_els <= 3);
 
     grown.record.structures.push(structure);
     grown.record.maps.push(MapRecord {
@@ -349,7 +359,7 @@ fn fibers(
     random: &mut Random,
 ) -> Vec<Vec<u16>> {
     let asked = row_elements(source);
-    let mergers = *random.pick(&[0, 0, 20, 60]);
+    let mergers = *random.pick(&[0, 20, 60]);
     let mut fibers: Vec<Vec<u16>> = Vec::new();
     for el in numbers_of(source) {
         let may_drop = kind == Kind::NonSurjThen || !asked.contains(&el);
@@ -378,15 +388,14 @@ fn image_numbers(fibers: &[Vec<u16>], random: &mut Random) -> BTreeMap<u16, u16>
     images
 }
 
-/// The target along `images`, with as many new elements as the kind allows.
-/// Also says how many those are.
+/// The target along `images`, with new elements where the kind allows them.
 fn grown_structure(
     source: &StructureRecord,
     images: &BTreeMap<u16, u16>,
     kind: Kind,
     signature: &SignatureRecord,
     random: &mut Random,
-) -> (StructureRecord, usize) {
+) -> StructureRecord {
     let image: BTreeSet<u16> = images.values().copied().collect();
     let new_els = new_elements(&image, kind, signature, random);
     let all: Vec<u16> = image.iter().chain(&new_els).copied().collect();
@@ -415,7 +424,7 @@ fn grown_structure(
     }
     rows.store(&mut structure);
     add_names(&mut structure, random);
-    (structure, new_els.len())
+    structure
 }
 
 fn new_elements(
@@ -486,7 +495,10 @@ fn carried_element(
         let parents = any_parents(signature, typ, all, random);
         return ElRecord { el, typ, parents };
     }
-    let parents = entry.parents.iter().map(|parent| images.get(parent).copied());
+    let parents = entry
+        .parents
+        .iter()
+        .map(|parent| images.get(parent).copied());
     let parents = parents.map(|image| image.unwrap_or_else(|| *random.pick(all)));
     ElRecord {
         el,
@@ -496,11 +508,7 @@ fn carried_element(
 }
 
 /// Images of most source rows.
-fn image_rows(
-    source: &StructureRecord,
-    images: &BTreeMap<u16, u16>,
-    random: &mut Random,
-) -> Rows {
+fn image_rows(source: &StructureRecord, images: &BTreeMap<u16, u16>, random: &mut Random) -> Rows {
     let mut rows = Rows::default();
     let mapped = |els: &[u16]| -> Option<Vec<u16>> {
         els.iter().map(|el| images.get(el).copied()).collect()

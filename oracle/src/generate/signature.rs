@@ -6,10 +6,10 @@ use crate::records::{FuncRecord, PredRecord, SignatureRecord};
 const COLUMNS: usize = 8;
 
 pub fn signature(random: &mut Random) -> SignatureRecord {
-    let types = if random.chance(4) {
-        random.range(0, 12)
-    } else {
-        random.range(1, 5)
+    let types = match random.below(25) {
+        0 => random.range(0, 12),
+        1..=10 => random.range(1, 2),
+        _ => random.range(1, 5),
     };
     let mut record = SignatureRecord {
         types: vec![Vec::new(); types],

@@ -13,7 +13,10 @@ use crate::records::{
 pub enum Scope {
     Global,
     /// Model type and owner variables, by number.
-    Model { model: u16, owners: Vec<u16> },
+    Model {
+        model: u16,
+        owners: Vec<u16>,
+    },
 }
 
 /// The scope of the rule at `position`, or the refusal.
