@@ -16,11 +16,10 @@ const MODELS: usize = 3;
 const HEAD: &str = "\
 -- The oracle's answers as claims: generated cases of its stored lists, the groups and models with the longest answers and each
 -- refusal of the published code once. Made by `oracle claims`; the gate compares.
-use mathlib.Core.Path.{_≡_, refl}
+use mathlib.Core.Path.{refl}
 use mathlib.Core.List.{List, [], _∷_}
-use Prim.Native.Nat.{ℕ}
-use Rattle.definition.specs.Base.{Outcome, refused, accepted}
-use Rattle.definition.specs.Scope.{global, model}
+use Rattle.definition.specs.Base.{refused, accepted}
+use Rattle.definition.specs.Scope.{model}
 use Rattle.definition.specs.Garage.{Example, flattens, scopes, All}
 use Rattle.definition.specs.Opened.{opened}
 ";

@@ -1,20 +1,19 @@
 -- Demand 3, in the words of the last paragraph of 'The walk'.
 use mathlib.Core.Path.{_≡_}
 use mathlib.Core.Logic.{_⊎_, _↔_}
-use mathlib.Core.Bool.{Bool, true, false, not, _&&_}
+use mathlib.Core.Bool.{Bool, false, _&&_}
 use mathlib.Core.List.{List, []}
 use mathlib.Core.Option.{Option, none, some}
-use Prim.Native.Nat.{ℕ, _≤_, _<_}
+use Prim.Native.Nat.{ℕ}
 use lib.Dec.{leb}
-use lib.ListN.{length, getD}
-use Rattle.definition.specs.Base.{Outcome, accepted, each, lastOf, orDefault, _∈_}
+use lib.ListN.{getD}
+use Rattle.definition.specs.Base.{accepted, each, lastOf, orDefault, _∈_}
 use Rattle.definition.specs.Letters.{digitZero, digitNine}
 use Rattle.definition.specs.Signature.{Signature, readSignature}
 use Rattle.definition.specs.Rule.{Structure, Name, Pair, Map, Kind, Rule, readRule}
-use Rattle.definition.specs.Group.{Variable, Statement, FlatRule, Group, readGroup}
+use Rattle.definition.specs.Group.{Statement, FlatRule, Group, readGroup}
 use Rattle.definition.specs.Names.{numbersOf, variableAt}
 use Rattle.definition.specs.Walk.{State, Reached, completed, structureAt, walkOf}
-use Rattle.definition.specs.Flatten.{flattenOf}
 
 -- 'A map whose pair gets a kind, from K or X, is walked'.
 pub record Walked (rule : Rule) (m : Map) : Type 0 where

@@ -1,9 +1,9 @@
 -- A second list of examples, with a single claim: types with parents, members, X of each class, names, owners, and the first
 -- fault of a record. Each shows what a likely slip in a definition would change.
-use mathlib.Core.Path.{_≡_, refl}
+use mathlib.Core.Path.{refl}
 use mathlib.Core.List.{List, [], _∷_, _++_}
 use Prim.Native.Nat.{ℕ}
-use Rattle.definition.specs.Base.{Outcome, refused, accepted}
+use Rattle.definition.specs.Base.{refused, accepted}
 use Rattle.definition.specs.Letters.{predicate, function, member, equality, typeSet, funcDomain}
 use Rattle.definition.specs.Group.{Variable, Statement}
 use Rattle.definition.specs.Scope.{global, model}

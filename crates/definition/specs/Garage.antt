@@ -4,11 +4,11 @@ use mathlib.Core.List.{List, [], _∷_, _++_}
 use Prim.Native.Nat.{ℕ}
 use lib.ListN.{length}
 use Rattle.definition.specs.Base.{Outcome, refused, accepted}
-use Rattle.definition.specs.Letters.{letterT, letterP, letterF, letterN, letterS, letterE, letterR, letterA, letterV, letterI, letterM, letterK, letterX, predicate, function, member, equality, typeSet, funcDomain}
-use Rattle.definition.specs.Group.{Variable, Statement, FlatRule, Group}
+use Rattle.definition.specs.Letters.{letterT, letterP, letterF, letterN, letterS, letterE, letterR, letterA, letterV, letterI, letterM, letterK, letterX, predicate, function, equality, typeSet, funcDomain}
+use Rattle.definition.specs.Group.{Variable, Statement, FlatRule}
 use Rattle.definition.specs.Writer.{twoBytes, numberBytes, fieldBytes, groupBytesOf}
 use Rattle.definition.specs.Flatten.{flattenOf}
-use Rattle.definition.specs.Scope.{Scope, global, model, scopeOf, ownersOf}
+use Rattle.definition.specs.Scope.{Scope, global, scopeOf, ownersOf}
 use Rattle.definition.specs.Opened.{opened}
 
 -- Fields as bytes.

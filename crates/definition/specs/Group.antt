@@ -1,14 +1,14 @@
 -- Records, group: G, W, and per rule U, B, H: their faults, and what they mean.
-use mathlib.Core.Bool.{Bool, true, false, not, _&&_, _||_}
-use mathlib.Core.List.{List, [], _∷_, _++_}
-use mathlib.Core.Option.{Option, none, some}
+use mathlib.Core.Bool.{Bool, not, _&&_, _||_}
+use mathlib.Core.List.{List, [], _∷_}
+use mathlib.Core.Option.{Option, none}
 use Prim.Native.Nat.{ℕ, _+_}
 use lib.Dec.{eqb, ltb, leb}
-use lib.ListN.{length, take, drop, getD}
-use Rattle.definition.specs.Base.{Outcome, refused, accepted, pick, orElse, each, all, has, lowest, empty}
+use lib.ListN.{length, drop, getD}
+use Rattle.definition.specs.Base.{Outcome, refused, pick, orElse, each, has, lowest, empty}
 use Rattle.definition.specs.Limits.{groupBytes, variableLimit, ruleLimit, groupNameBytes}
 use Rattle.definition.specs.Letters.{letterG, letterW, letterU, letterB, letterH, start, predicate, function, member, equality, typeSet, funcDomain}
-use Rattle.definition.specs.Records.{Field, Part, Place, Grammar, Block, numbers, numberAt, fieldsOf, placed, withLetter, blocks, faultAmong, badName, odd, readPart}
+use Rattle.definition.specs.Records.{Field, Part, Grammar, Block, numbers, numberAt, fieldsOf, placed, withLetter, blocks, faultAmong, badName, odd, readPart}
 use Rattle.definition.specs.Signature.{Signature, typeParents, arity, symbolCount, named}
 
 -- 'W variables in number order (type, name)'.

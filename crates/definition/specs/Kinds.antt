@@ -1,10 +1,10 @@
 -- The walk: what a map of each of the four kinds asks, appends, emits and passes on.
-use mathlib.Core.Bool.{Bool, true, false, not, _&&_, _||_}
+use mathlib.Core.Bool.{Bool, not, _&&_}
 use mathlib.Core.List.{List, [], _∷_, _++_}
 use mathlib.Core.Option.{Option, none, some}
 use Prim.Native.Nat.{ℕ}
 use lib.Dec.{eqb}
-use lib.ListN.{length, getD}
+use lib.ListN.{getD}
 use Rattle.definition.specs.Base.{Outcome, refused, accepted, pick, keep, each, any, all, firstOf, butLast, lowest, empty}
 use Rattle.definition.specs.Letters.{member, equality, funcDomain}
 use Rattle.definition.specs.Signature.{Signature}

@@ -1,11 +1,11 @@
 -- Records: fields, numbers and names, for any letter.
-use mathlib.Core.Bool.{Bool, true, false, not, _&&_, _||_}
-use mathlib.Core.List.{List, [], _∷_, _++_}
+use mathlib.Core.Bool.{Bool, false, not, _&&_, _||_}
+use mathlib.Core.List.{List, [], _∷_}
 use mathlib.Core.Option.{Option, none, some}
-use Prim.Native.Nat.{ℕ, zero, suc, _+_, _*_, _/_, _%_}
+use Prim.Native.Nat.{ℕ, zero, suc, _+_, _*_, _%_}
 use lib.Dec.{eqb, ltb, leb}
 use lib.ListN.{length, take, drop, getD}
-use Rattle.definition.specs.Base.{Outcome, refused, accepted, pick, when, orElse, keep, each, any, all, has, less}
+use Rattle.definition.specs.Base.{Outcome, refused, accepted, pick, when, orElse, keep, any, all, has, less}
 use Rattle.definition.specs.Limits.{firstNameByte, lastNameByte}
 
 -- 'A field is a letter (one ASCII byte), a two-byte length, content.'

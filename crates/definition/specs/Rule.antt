@@ -1,14 +1,14 @@
 -- Records, rule: N, structures (S with E, R, A, V, I), M, K and X fields, their faults, and what they mean.
 use mathlib.Core.Bool.{Bool, true, false, not, _&&_, _||_}
-use mathlib.Core.List.{List, [], _∷_, _++_}
+use mathlib.Core.List.{List, [], _∷_}
 use mathlib.Core.Option.{Option, none, some}
 use Prim.Native.Nat.{ℕ, _+_, _-_, _*_, _%_}
 use lib.Dec.{eqb, ltb, leb}
 use lib.ListN.{length, take, drop, getD}
-use Rattle.definition.specs.Base.{Outcome, refused, accepted, pick, orElse, keep, each, all, has, butLast, less, lowest, empty}
+use Rattle.definition.specs.Base.{Outcome, refused, pick, orElse, keep, each, all, has, lowest, empty}
 use Rattle.definition.specs.Limits.{ruleBytes, structureLimit, fieldLimit, mapLimit, nameBytes}
 use Rattle.definition.specs.Letters.{letterN, letterS, letterE, letterR, letterA, letterV, letterI, letterM, letterK, letterX, start, predicate, function}
-use Rattle.definition.specs.Records.{Field, Part, Place, Grammar, Block, numbers, numberAt, fieldsOf, placed, withLetter, blocks, faultAmong, notAbove, badName, notNumbers, readPart}
+use Rattle.definition.specs.Records.{Field, Part, Grammar, Block, numbers, numberAt, fieldsOf, placed, withLetter, blocks, faultAmong, notAbove, badName, notNumbers, readPart}
 use Rattle.definition.specs.Signature.{Signature, typeParents, predOf, funcOf, columnCount}
 
 -- 'E (element number, type, parent elements)'.

@@ -1,12 +1,12 @@
 -- Scope: which model owns a rule of a group, and where the owners stand in the group's bytes.
-use mathlib.Core.Bool.{Bool, true, false, not, _&&_, _||_}
-use mathlib.Core.List.{List, [], _∷_, _++_}
+use mathlib.Core.Bool.{Bool, true, false, _&&_, _||_}
+use mathlib.Core.List.{List, [], _∷_}
 use mathlib.Core.Option.{Option, none, some}
 use Prim.Native.Nat.{ℕ, zero, suc, _+_, _*_, min}
 use lib.Dec.{eqb, ltb}
 use lib.ListN.{length, take, drop, getD}
 use Rattle.definition.specs.Base.{Outcome, refused, accepted, onAccepted, pick, orElse, firstOf, has, sameList}
-use Rattle.definition.specs.Letters.{letterU, letterH, equality, typeSet}
+use Rattle.definition.specs.Letters.{letterU, letterH, equality}
 use Rattle.definition.specs.Records.{Field}
 use Rattle.definition.specs.Signature.{Signature, readSignature, typeParents, parentModel}
 use Rattle.definition.specs.Group.{Variable, Statement, FlatRule, Group, groupPart, readGroup}

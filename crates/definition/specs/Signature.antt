@@ -1,14 +1,14 @@
 -- Records, signature: T, P and F fields, their faults, and the arities they give.
-use mathlib.Core.Bool.{Bool, true, false, not, _&&_, _||_}
-use mathlib.Core.List.{List, [], _∷_, _++_}
-use mathlib.Core.Option.{Option, none, some}
+use mathlib.Core.Bool.{Bool, not, _||_}
+use mathlib.Core.List.{List, [], _∷_}
+use mathlib.Core.Option.{Option, none}
 use Prim.Native.Nat.{ℕ, _+_, _-_}
-use lib.Dec.{eqb, ltb, leb}
+use lib.Dec.{ltb, leb}
 use lib.ListN.{length, take, drop, getD}
-use Rattle.definition.specs.Base.{Outcome, refused, accepted, pick, orElse, each, all, lastOf, lowest, empty}
+use Rattle.definition.specs.Base.{Outcome, refused, pick, orElse, each, all, lastOf, lowest}
 use Rattle.definition.specs.Limits.{signatureBytes, symbolLimit, parentLimit, columnLimit}
-use Rattle.definition.specs.Letters.{letterT, letterP, letterF, start, predicate, function, member, equality, typeSet, funcDomain}
-use Rattle.definition.specs.Records.{Field, Part, Place, Grammar, numbers, fieldsOf, placed, withLetter, faultAmong, odd, notNumbers, readPart}
+use Rattle.definition.specs.Letters.{letterT, letterP, letterF, start}
+use Rattle.definition.specs.Records.{Field, Part, Grammar, numbers, fieldsOf, placed, withLetter, faultAmong, odd, notNumbers, readPart}
 
 -- A predicate or function: its parents, and the columns behind them (of a function the domain, then the codomain).
 pub record Symbol : Type 0 where

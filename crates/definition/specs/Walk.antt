@@ -1,5 +1,5 @@
 -- The walk: kinds completed by X, the order of pairs, 21 to 24, and the fold over the walked maps.
-use mathlib.Core.Bool.{Bool, true, false, not, _&&_, _||_}
+use mathlib.Core.Bool.{Bool, true, false, not, _&&_}
 use mathlib.Core.List.{List, [], _∷_, _++_}
 use mathlib.Core.Option.{Option, none, some}
 use Prim.Native.Nat.{ℕ, _+_}
@@ -9,7 +9,7 @@ use Rattle.definition.specs.Base.{Outcome, refused, accepted, onAccepted
 use Rattle.definition.specs.Letters.{underscore}
 use Rattle.definition.specs.Signature.{Signature}
 use Rattle.definition.specs.Rule.{Structure, Element, Rule, Map, Pair, Kind, MorphismKind, If, Noop, Auxiliary}
-use Rattle.definition.specs.Group.{Variable, Statement, FlatRule, Group}
+use Rattle.definition.specs.Group.{Variable, Statement, FlatRule}
 use Rattle.definition.specs.Names.{decimal, carried, numbered, newVariables}
 use Rattle.definition.specs.Rows.{given}
 use Rattle.definition.specs.Kinds.{Side, Emitted, Step, initialStatements, mapStep}

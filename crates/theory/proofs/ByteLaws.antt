@@ -1,23 +1,23 @@
 -- A written group is bytes: each number in it is below 256.
-use Prim.Native.Nat.{ℕ, zero, suc, _+_, _-_, _*_, _/_, _%_, _≤_, _<_}
+use Prim.Native.Nat.{ℕ, zero, suc, _/_, _%_, _≤_, _<_}
 use native.Mathlib.Omega.{arith}
 use native.Mathlib.Nat.{mod-lt, div-lt-iff-lt-mul}
-use mathlib.Core.Path.{_≡_, refl, ap, sym, _∙_}
-use mathlib.Core.Logic.{_⊎_, inl, inr, ⊎-elim}
-use mathlib.Core.Bool.{Bool, true, false, _&&_}
-use mathlib.Core.List.{List, [], _∷_, _++_, List·Memᴰ·head, List·Memᴰ·tail, List·Memᴰ·not-nil, List·Memᴰ·cases-cons, List·Memᴰ·append-cases}
+use mathlib.Core.Path.{_≡_, refl}
+use mathlib.Core.Logic.{⊎-elim}
+use mathlib.Core.Bool.{true}
+use mathlib.Core.List.{List, [], _∷_, List·Memᴰ·head, List·Memᴰ·tail, List·Memᴰ·not-nil, List·Memᴰ·cases-cons, List·Memᴰ·append-cases}
 use lib.Dec.{leb, ltb}
 use lib.ListN.{length, length-append}
 use borrow.Author.Tests.{leb-true, ltb-true}
 use Rattle.definition.specs.Base.{each, joined, all, _∈_}
 use Rattle.definition.specs.Limits.{groupBytes, groupNameBytes, firstNameByte, lastNameByte}
-use Rattle.definition.specs.Letters.{letterG, letterW, letterU, letterB, letterH}
-use Rattle.definition.specs.Records.{Field, nameByte}
+use Rattle.definition.specs.Letters.{letterB, letterH}
+use Rattle.definition.specs.Records.{Field}
 use Rattle.definition.specs.Signature.{Signature, symbolCount}
 use Rattle.definition.specs.Group.{Variable, Statement, FlatRule, Group, premiseKinds, conclusionKinds}
 use Rattle.definition.specs.Writer.{twoBytes, numberBytes, fieldBytes, recordBytes, variableField, statementField, flatRuleFields, groupFields, groupBytesOf}
 use Rattle.theory.proofs.Lists.{and-right, mem-each, mem-joined, all-mem}
-use Rattle.theory.proofs.Good.{GoodName, GoodStatement, GoodVariable, GoodRule, SmallSignature, GoodGroup}
+use Rattle.theory.proofs.Good.{GoodName, GoodStatement, GoodVariable, GoodRule, GoodGroup}
 use Rattle.theory.proofs.NameLaws.{fine}
 
 -- The two bytes of a number below 65,536.

@@ -3,15 +3,15 @@ use Prim.Native.Nat.{ℕ, zero, suc, _+_, _-_, _*_, _/_, _%_, _^_, _≤_, _<_}
 use native.Mathlib.Omega.{arith}
 use native.Mathlib.Nat.{div-add-mod', mod-lt, div-lt-iff-lt-mul, pow-suc}
 use mathlib.Core.Path.{_≡_, refl, ap, sym, _∙_}
-use mathlib.Core.Logic.{_⊎_, inl, inr, ⊎-elim}
-use mathlib.Core.Bool.{Bool, true, false, not, _&&_, _||_}
+use mathlib.Core.Logic.{⊎-elim}
+use mathlib.Core.Bool.{Bool, true, false, _||_}
 use mathlib.Core.Option.{Option, none, some}
-use mathlib.Core.List.{List, [], _∷_, _++_, append-assoc, List·Memᴰ·head, List·Memᴰ·tail, List·Memᴰ·not-nil, List·Memᴰ·cases-cons, List·Memᴰ·append-cases, List·Memᴰ·eq-of-singleton, Memᴰ·append-left, Memᴰ·append-right}
-use lib.Dec.{eqb, ltb, leb}
+use mathlib.Core.List.{List, [], _∷_, _++_, List·Memᴰ·head, List·Memᴰ·not-nil, List·Memᴰ·append-cases, List·Memᴰ·eq-of-singleton, Memᴰ·append-left}
+use lib.Dec.{ltb, leb}
 use lib.ListN.{length, length-append}
 use borrow.Author.Tests.{ltb-false, ltb-true, le-ltb, le-leb, leb-true}
-use Rattle.definition.specs.Base.{pick, orElse, orDefault, all, lastOf, _∈_}
-use Rattle.definition.specs.Limits.{nameBytes, groupNameBytes, firstNameByte, lastNameByte, numberDigits}
+use Rattle.definition.specs.Base.{pick, orDefault, all, lastOf, _∈_}
+use Rattle.definition.specs.Limits.{firstNameByte, lastNameByte, numberDigits}
 use Rattle.definition.specs.Letters.{digitZero, digitNine}
 use Rattle.definition.specs.Records.{nameByte, badName}
 use Rattle.definition.specs.Names.{digitsTo, decimal}

@@ -1,22 +1,21 @@
 -- The variables that a structure's elements get: those taken over, and the next numbers.
 use Prim.Native.Nat.{ℕ, zero, suc, _+_, _-_, _≤_, _<_}
 use native.Mathlib.Omega.{arith}
-use native.Mathlib.Numerals.{add-one}
-use native.Mathlib.Nat.{add-zero, zero-add}
+use native.Mathlib.Nat.{add-zero}
 use mathlib.Core.Path.{_≡_, refl, ap, sym, _∙_}
 use mathlib.Core.Logic.{_⊎_, inl, inr, ⊎-elim}
-use mathlib.Core.Bool.{Bool, true, false, not}
+use mathlib.Core.Bool.{Bool, true, false}
 use mathlib.Core.Option.{Option, none, some}
-use mathlib.Core.List.{List, [], _∷_, _++_, List·Memᴰ·head, List·Memᴰ·tail, List·Memᴰ·not-nil, List·Memᴰ·cases-cons, Memᴰ·cast}
+use mathlib.Core.List.{List, [], _∷_, List·Memᴰ·head, List·Memᴰ·tail, List·Memᴰ·not-nil, List·Memᴰ·cases-cons}
 use lib.Dec.{eqb, ltb}
-use lib.ListN.{length, getD, take, drop}
-use borrow.Author.Tests.{eq-eqb, eqb-true, ne-eqb, ltb-true}
-use Rattle.definition.specs.Base.{pick, orElse, keep, each, any, lastOf, placeFrom, _∈_}
+use lib.ListN.{length, getD, take}
+use borrow.Author.Tests.{eq-eqb, eqb-true, ltb-true}
+use Rattle.definition.specs.Base.{pick, orElse, each, any, lastOf, placeFrom, _∈_}
 use Rattle.definition.specs.Rule.{Structure, Element, Pair, keysAscend}
 use Rattle.definition.specs.Group.{Variable}
-use Rattle.definition.specs.Names.{numbersOf, variableAt, carriedKey, overMap, carried, numbered, newVariable, newVariables}
+use Rattle.definition.specs.Names.{numbersOf, variableAt, carriedKey, numbered, newVariable, newVariables}
 use Rattle.definition.specs.Rows.{inImage}
-use Rattle.theory.proofs.Lists.{never, and-left, and-right, bool-cases, mem-keep, keep-mem, mem-each, each-mem, length-each, getD-each, any-true, any-mem, any-false, trichotomy}
+use Rattle.theory.proofs.Lists.{never, and-left, and-right, bool-cases, mem-keep, keep-mem, mem-each, each-mem, length-each, getD-each, any-true, trichotomy}
 
 -- How many elements take nothing over.
 unfoldable pub fresh : List (Option ℕ) → ℕ

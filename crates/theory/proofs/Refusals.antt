@@ -1,7 +1,7 @@
 -- A refusal of flatten is one of document 01's numbers for it.
-use Prim.Native.Nat.{ℕ, _≤_, _<_, min}
+use Prim.Native.Nat.{ℕ, _≤_, min}
 use native.Mathlib.Omega.{arith}
-use mathlib.Core.Path.{_≡_, refl, sym, _∙_}
+use mathlib.Core.Path.{_≡_, refl}
 use mathlib.Core.Logic.{_⊎_, inl, inr, ⊎-elim}
 use mathlib.Core.Bool.{Bool, true, false}
 use mathlib.Core.Option.{Option, none, some}
@@ -15,7 +15,7 @@ use Rattle.definition.specs.Rule.{Rule, Row, Pair, Kind, MorphismKind, If, Surj
 use Rattle.definition.specs.Group.{Variable, Statement}
 use Rattle.definition.specs.Rows.{inImage}
 use Rattle.definition.specs.Kinds.{Side, Step, unless, yieldingRow, domainStep, nonSurjStep, ifStep, surjStep, mapStep, newElements}
-use Rattle.definition.specs.Walk.{State, Reached, pairsBetween, unmappedAuxiliary, unmappedKind, initialState, walkedKinds, walkMap, walkFrom, walkOf}
+use Rattle.definition.specs.Walk.{State, Reached, unmappedAuxiliary, unmappedKind, initialState, walkedKinds, walkMap, walkFrom, walkOf}
 use Rattle.definition.specs.Writer.{groupBytesOf}
 use Rattle.definition.specs.Flatten.{groupLeft, fitted, flattenOf}
 use Rattle.theory.proofs.RbRefusals.{Low, signature-refusal, rule-refusal}

@@ -1,22 +1,21 @@
 -- Rows of a sound structure: what they list, and that their statements are good.
-use Prim.Native.Nat.{ℕ, zero, suc, _+_, _-_, _≤_, _<_}
+use Prim.Native.Nat.{ℕ, zero, suc, _-_, _<_}
 use native.Mathlib.Omega.{arith}
-use mathlib.Core.Path.{_≡_, refl, ap, sym, _∙_}
+use mathlib.Core.Path.{_≡_, refl}
 use mathlib.Core.Logic.{_⊎_, inl, inr, ⊎-elim}
 use mathlib.Core.Bool.{Bool, true, false, not}
-use mathlib.Core.Option.{Option, none, some}
 use mathlib.Core.List.{List, [], _∷_, _++_, List·Memᴰ·head, List·Memᴰ·tail, List·Memᴰ·not-nil, List·Memᴰ·cases-cons, List·Memᴰ·append-cases, List·Memᴰ·eq-of-singleton, Memᴰ·append-left, Memᴰ·append-right, Memᴰ·cast}
-use lib.ListN.{length, getD, drop, length-append}
-use Rattle.definition.specs.Base.{pick, orElse, orDefault, keep, each, joined, has, lastOf, butLast, empty, _∈_}
-use Rattle.definition.specs.Letters.{predicate, function, member, equality, typeSet, funcDomain}
-use Rattle.definition.specs.Signature.{Signature, typeParents, predOf, funcOf, columnCount, arity, symbolCount}
+use lib.ListN.{length, length-append}
+use Rattle.definition.specs.Base.{pick, each, butLast, empty, _∈_}
+use Rattle.definition.specs.Letters.{predicate, function, member, typeSet, funcDomain}
+use Rattle.definition.specs.Signature.{Signature, typeParents, arity, symbolCount}
 use Rattle.definition.specs.Rule.{Structure, Element, Row}
 use Rattle.definition.specs.Group.{Statement, premiseKinds, conclusionKinds}
 use Rattle.definition.specs.Names.{numbersOf}
-use Rattle.definition.specs.Rows.{memberRow, rowBefore, insertRow, sortRows, members, rowsOf, lastElement, rowStatement, typeSets, arguments, constrained}
-use Rattle.theory.proofs.Lists.{not-true, never, mem-keep, keep-mem, mem-each, each-mem, length-each, mem-joined, has-mem}
+use Rattle.definition.specs.Rows.{memberRow, rowBefore, insertRow, sortRows, members, rowsOf, rowStatement, typeSets}
+use Rattle.theory.proofs.Lists.{not-true, never, mem-keep, keep-mem, mem-each, each-mem, length-each}
 use Rattle.theory.proofs.Good.{GoodStatement}
-use Rattle.theory.proofs.Sound.{SoundElement, SoundRow, SoundStructure}
+use Rattle.theory.proofs.Sound.{SoundStructure}
 
 -- Sorting keeps the members.
 insert-mem : (x : Row) (rs : List Row) {r : Row} → r ∈ insertRow x rs → (r ≡ x) ⊎ (r ∈ rs)

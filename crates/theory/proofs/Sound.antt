@@ -1,24 +1,23 @@
 -- What an accepted signature and an accepted rule are known to satisfy.
-use Prim.Native.Nat.{ℕ, zero, suc, _+_, _-_, _*_, _%_, _≤_, _<_}
+use Prim.Native.Nat.{ℕ, _+_, _≤_, _<_}
 use native.Mathlib.Omega.{arith}
-use native.Mathlib.Numerals.{add-one}
-use mathlib.Core.Path.{_≡_, refl, ap, sym, _∙_}
-use mathlib.Core.Logic.{_⊎_, inl, inr, ⊎-elim}
-use mathlib.Core.Bool.{Bool, true, false, not, _&&_, _||_, and-false, or-false}
+use mathlib.Core.Path.{_≡_, refl}
+use mathlib.Core.Logic.{⊎-elim}
+use mathlib.Core.Bool.{Bool, true, false}
 use mathlib.Core.Option.{Option, none, some}
-use mathlib.Core.List.{List, [], _∷_, _++_, List·Memᴰ·head, List·Memᴰ·tail, List·Memᴰ·not-nil, List·Memᴰ·cases-cons}
-use lib.Dec.{eqb, ltb, leb}
-use lib.ListN.{length, getD, drop}
-use borrow.Author.Tests.{eq-eqb, eqb-true, ltb-true, lt-ltb, ltb-false, leb-false}
-use Rattle.definition.specs.Base.{Outcome, refused, accepted, pick, orElse, keep, each, all, has, lowest, empty, _∈_}
+use mathlib.Core.List.{List, [], _∷_, List·Memᴰ·not-nil, List·Memᴰ·cases-cons}
+use lib.Dec.{ltb}
+use lib.ListN.{length}
+use borrow.Author.Tests.{leb-false}
+use Rattle.definition.specs.Base.{Outcome, refused, accepted, pick, _∈_}
 use Rattle.definition.specs.Limits.{signatureBytes, symbolLimit, structureLimit, fieldLimit, nameBytes}
-use Rattle.definition.specs.Letters.{letterT, letterP, letterF, letterN, letterS, letterE, letterR, letterA, letterV, letterI, letterM, letterK, letterX, start, predicate, function}
-use Rattle.definition.specs.Records.{Field, Fields, end, bad, _▸_, Part, Block, numbers, numberAt, follows, placed, inFront, withLetter, blocks, upTo, faultFrom, faultAmong, notAbove, badName, readPart, fieldsOf}
-use Rattle.definition.specs.Signature.{Signature, typeFault, symbolFault, signatureFault, signatureOf, signaturePart, readSignature, symbolOf, typeParents, predOf, funcOf, columnCount}
-use Rattle.definition.specs.Rule.{Element, Row, Name, Pair, Map, Kind, Auxiliary, Structure, Rule, ruleGrammar, elementOf, rowOf, nameOf, pairsOf, mapOf, kindOf, auxiliaryOf, namedElements, headFault, structureFault, elementFault, rowFault, nameFault, mapFault, kindFault, auxiliaryFault, keysAscend, sourceTarget, elementsAt, bodyFault, structuresFault, namedIn, ruleFault, structureOf, headField, ruleOf, rulePart, readRule}
+use Rattle.definition.specs.Letters.{letterT, letterP, letterF, predicate, function}
+use Rattle.definition.specs.Records.{Field, Part, withLetter, faultFrom, faultAmong, badName, readPart}
+use Rattle.definition.specs.Signature.{Signature, typeFault, symbolFault, signatureFault, signatureOf, signaturePart, readSignature, typeParents, predOf, funcOf, columnCount}
+use Rattle.definition.specs.Rule.{Element, Row, Name, Pair, Map, Kind, Auxiliary, Structure, Rule, keysAscend}
 use Rattle.definition.specs.Names.{numbersOf}
-use Rattle.definition.specs.Walk.{structureAt, noStructure}
-use Rattle.theory.proofs.Lists.{and-left, and-right, or-left, or-right, not-false, not-true, never, or-else-none, mem-keep, mem-each, each-mem, length-each, all-mem, has-mem, lowest-none}
+use Rattle.definition.specs.Walk.{structureAt}
+use Rattle.theory.proofs.Lists.{or-left, or-else-none, length-each, lowest-none}
 
 -- Acceptance: no fault, and the record's value.
 pub read-part : {A : Type 0} (part : Part) (fault : Option ℕ) (value : A) {v : A} → readPart part fault value ≡ accepted v

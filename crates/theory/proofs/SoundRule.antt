@@ -1,25 +1,24 @@
 -- An accepted rule is sound: from the passed tests of each field.
-use Prim.Native.Nat.{ℕ, zero, suc, _+_, _-_, _*_, _%_, _≤_, _<_}
+use Prim.Native.Nat.{ℕ, _+_, _*_, _≤_, _<_}
 use native.Mathlib.Omega.{arith}
-use native.Mathlib.Numerals.{add-one}
-use mathlib.Core.Path.{_≡_, refl, ap, sym, _∙_}
-use mathlib.Core.Logic.{_⊎_, inl, inr, ⊎-elim}
-use mathlib.Core.Bool.{Bool, true, false, not, _&&_, _||_, and-false, or-false}
-use mathlib.Core.Option.{Option, none, some}
-use mathlib.Core.List.{List, [], _∷_, _++_, List·Memᴰ·head, List·Memᴰ·tail, List·Memᴰ·not-nil, List·Memᴰ·cases-cons, Memᴰ·cast}
-use lib.Dec.{eqb, ltb, leb}
+use mathlib.Core.Path.{_≡_, refl, sym}
+use mathlib.Core.Logic.{⊎-elim}
+use mathlib.Core.Bool.{Bool, true, false, not, _&&_, and-false}
+use mathlib.Core.Option.{Option, none}
+use mathlib.Core.List.{List, [], _∷_, List·Memᴰ·head, List·Memᴰ·not-nil, List·Memᴰ·cases-cons}
+use lib.Dec.{eqb, ltb}
 use lib.ListN.{length, getD, take, drop}
-use borrow.Author.Tests.{eq-eqb, eqb-true, ltb-true, lt-ltb, ltb-false, leb-false}
-use Rattle.definition.specs.Base.{Outcome, refused, accepted, pick, when, orElse, keep, each, any, all, has, lowest, empty, _∈_}
-use Rattle.definition.specs.Limits.{ruleBytes, symbolLimit, structureLimit, fieldLimit, nameBytes}
+use borrow.Author.Tests.{eq-eqb, eqb-true, ltb-true, ltb-false, leb-false}
+use Rattle.definition.specs.Base.{accepted, when, orElse, keep, each, any, all, has, _∈_}
+use Rattle.definition.specs.Limits.{ruleBytes, structureLimit, fieldLimit, nameBytes}
 use Rattle.definition.specs.Letters.{letterN, letterS, letterE, letterR, letterA, letterV, letterI, letterM, letterK, letterX, start, predicate, function}
-use Rattle.definition.specs.Records.{Field, Fields, end, bad, _▸_, Part, Block, numbers, numberAt, follows, placed, inFront, withLetter, blocks, upTo, faultFrom, faultAmong, notAbove, badName, odd, readPart, fieldsOf}
-use Rattle.definition.specs.Signature.{Signature, typeParents, predOf, funcOf, columnCount}
-use Rattle.definition.specs.Rule.{Element, Row, Name, Pair, Map, Kind, Auxiliary, Structure, Rule, ruleGrammar, elementOf, rowOf, nameOf, pairsOf, mapOf, kindOf, auxiliaryOf, namedElements, headFault, structureFault, elementFault, rowFault, nameFault, mapFault, kindFault, auxiliaryFault, keysAscend, sourceTarget, elementsAt, bodyFault, structuresFault, namedIn, ruleFault, structureOf, headField, ruleOf, rulePart, readRule}
+use Rattle.definition.specs.Records.{Field, Fields, end, bad, _▸_, Block, numbers, numberAt, follows, placed, inFront, withLetter, blocks, faultAmong, notAbove, badName, odd, fieldsOf}
+use Rattle.definition.specs.Signature.{Signature, predOf, funcOf, columnCount}
+use Rattle.definition.specs.Rule.{Element, Pair, Rule, ruleGrammar, elementOf, rowOf, nameOf, mapOf, kindOf, auxiliaryOf, namedElements, headFault, structureFault, elementFault, rowFault, nameFault, mapFault, kindFault, auxiliaryFault, keysAscend, sourceTarget, elementsAt, bodyFault, structuresFault, namedIn, ruleFault, structureOf, headField, ruleOf, rulePart, readRule}
 use Rattle.definition.specs.Names.{numbersOf}
 use Rattle.definition.specs.Walk.{noStructure}
-use Rattle.theory.proofs.Lists.{and-left, and-right, or-left, or-right, not-false, not-true, never, or-cases, or-else-none, mem-keep, mem-each, each-mem, length-each, getD-each, all-mem, has-mem, lowest-none}
-use Rattle.theory.proofs.Sound.{read-part, read-within, fault-mem, fault-few, among-mem, among-few, SoundElement, SoundRow, SoundStructure, SoundMap, SoundRule}
+use Rattle.theory.proofs.Lists.{and-left, and-right, or-left, or-right, not-false, never, or-cases, or-else-none, mem-keep, mem-each, each-mem, length-each, getD-each, all-mem, has-mem, lowest-none}
+use Rattle.theory.proofs.Sound.{read-part, read-within, among-mem, among-few, SoundElement, SoundRow, SoundStructure, SoundRule}
 
 -- An element that can be named is one of the structure's.
 named-in : (b : Block) (e : ℕ) → e ∈ namedElements (b .body) → e ∈ numbersOf (structureOf b)

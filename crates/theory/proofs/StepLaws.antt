@@ -1,28 +1,28 @@
 -- One walked map: its target's statements are good and list every variable of the target, its rule is good and bound.
-use Prim.Native.Nat.{ℕ, zero, suc, _+_, _-_, _≤_, _<_}
+use Prim.Native.Nat.{ℕ, zero, suc, _≤_, _<_}
 use native.Mathlib.Omega.{arith}
 use mathlib.Core.Path.{_≡_, refl, ap, sym, _∙_}
 use mathlib.Core.Logic.{_⊎_, inl, inr, ⊎-elim}
-use mathlib.Core.Bool.{Bool, true, false, not, _&&_, _||_}
+use mathlib.Core.Bool.{Bool, true, false, not, _&&_}
 use mathlib.Core.Option.{Option, none, some}
 use mathlib.Core.List.{List, [], _∷_, _++_, List·Memᴰ·head, List·Memᴰ·tail, List·Memᴰ·not-nil, List·Memᴰ·cases-cons, List·Memᴰ·append-cases, List·Memᴰ·eq-of-singleton, Memᴰ·append-left, Memᴰ·append-right, Memᴰ·cast}
 use lib.Dec.{eqb}
-use lib.ListN.{length, getD, drop}
-use borrow.Author.Tests.{eq-eqb, eqb-true, ne-eqb}
-use Rattle.definition.specs.Base.{Outcome, refused, accepted, pick, orElse, orDefault, keep, each, joined, any, all, has, firstOf, lastOf, butLast, sameList, lowest, empty, _∈_}
-use Rattle.definition.specs.Letters.{predicate, function, member, equality, typeSet, funcDomain}
+use lib.ListN.{length, drop}
+use borrow.Author.Tests.{eq-eqb, eqb-true}
+use Rattle.definition.specs.Base.{refused, accepted, pick, orDefault, keep, each, all, lastOf, butLast, sameList, empty, _∈_}
+use Rattle.definition.specs.Letters.{predicate, member, equality, typeSet}
 use Rattle.definition.specs.Signature.{Signature, arity, symbolCount, predOf, funcOf}
 use Rattle.definition.specs.Rule.{Structure, Element, Row, Pair, MorphismKind, If, SurjThen, NonSurjThen, Noop}
 use Rattle.definition.specs.Group.{Variable, Statement, premiseKinds, conclusionKinds}
 use Rattle.definition.specs.Names.{numbersOf}
-use Rattle.definition.specs.Rows.{memberRow, members, rowsOf, lastElement, rowStatement, typeSets, pairImage, imageOf, inImage, given, imageRow, sameRow, newRows, pairsAmong, fiber, kernelPairs, arguments, constrained}
-use Rattle.definition.specs.Kinds.{Side, variableIn, Emitted, Step, unless, typeIn, kernelVariables, equalities, kernelClashes, rowUnmapped, newElements, addedRows, constrainedMember, freeElements, ifStatements, surjConclusion, yields, yieldingRow, domainStatement, domainStep, nonSurjStep, ifStep, surjStep, mapStep}
+use Rattle.definition.specs.Rows.{memberRow, rowsOf, lastElement, rowStatement, typeSets, pairImage, imageOf, inImage, given, imageRow, sameRow, newRows, pairsAmong, fiber, kernelPairs, arguments, constrained}
+use Rattle.definition.specs.Kinds.{Side, variableIn, Emitted, Step, unless, typeIn, kernelVariables, equalities, rowUnmapped, newElements, addedRows, constrainedMember, freeElements, ifStatements, surjConclusion, yields, yieldingRow, domainStatement, domainStep, nonSurjStep, ifStep, surjStep, mapStep}
 use Rattle.definition.specs.Demands.{Occurs}
-use Rattle.theory.proofs.Lists.{and-left, and-right, and-true, or-left, or-right, not-false, not-true, not-and-right, never, bool-cases, mem-keep, keep-mem, mem-each, each-mem, mem-joined, any-true, any-mem, any-false, none-any, all-mem, has-mem, lowest-none, first-mem, picked}
+use Rattle.theory.proofs.Lists.{and-left, and-right, not-false, not-and-right, never, bool-cases, mem-keep, keep-mem, mem-each, each-mem, mem-joined, any-mem, any-false, none-any, all-mem, has-mem, lowest-none, first-mem, picked}
 use Rattle.theory.proofs.Good.{GoodStatement}
 use Rattle.theory.proofs.Sound.{SoundStructure}
 use Rattle.theory.proofs.Numbering.{last-mem, last-none}
-use Rattle.theory.proofs.RowLaws.{premise-three, conclusion-three, rows-cases, pred-in, func-in, member-in, mem-members, number-in, in-number, row-elements, row-good, domain-good, type-set-good, but-last-mem}
+use Rattle.theory.proofs.RowLaws.{premise-three, conclusion-three, pred-in, func-in, member-in, mem-members, in-number, row-elements, row-good, domain-good, type-set-good, but-last-mem}
 
 -- What is known of a map when it is walked: its sides, and the source's statements over so many variables.
 pub record MapFacts (sig : Signature) (table : List Variable) (source target : Side) (pairs : List Pair) (statements : List Statement) (count : ℕ) : Type 0 where

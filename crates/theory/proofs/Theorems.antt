@@ -1,30 +1,29 @@
 -- The theorems about flatten: what it writes, what it refuses with, and demand 3.
-use Prim.Native.Nat.{ℕ, zero, suc, _+_, _-_, _*_, _^_, _≤_, _<_, min}
+use Prim.Native.Nat.{ℕ, _≤_, _<_, min}
 use native.Mathlib.Omega.{arith}
 use mathlib.Core.Path.{_≡_, refl, ap, sym, _∙_}
 use mathlib.Core.Logic.{_⊎_, inl, inr, ⊎-elim}
 use mathlib.Core.Bool.{Bool, true, false}
 use mathlib.Core.Option.{Option, none, some}
-use mathlib.Core.List.{List, [], _∷_, _++_}
+use mathlib.Core.List.{List}
 use lib.Dec.{ltb}
 use lib.ListN.{length, getD}
 use borrow.Author.Tests.{ltb-false}
-use Rattle.definition.specs.Base.{Outcome, refused, accepted, onAccepted, pick, lastOf, _∈_}
-use Rattle.definition.specs.Limits.{answerBytes, groupBytes, variableLimit, ruleLimit, structureLimit, fieldLimit, numberDigits}
+use Rattle.definition.specs.Base.{Outcome, refused, accepted, pick, lastOf, _∈_}
+use Rattle.definition.specs.Limits.{answerBytes, groupBytes, variableLimit}
 use Rattle.definition.specs.Signature.{Signature, readSignature}
-use Rattle.definition.specs.Rule.{Rule, Structure, Name, Map, Kind, readRule}
-use Rattle.definition.specs.Group.{Variable, Statement, FlatRule, Group, readGroup}
-use Rattle.definition.specs.Names.{decimal, numbersOf, variableAt, el}
+use Rattle.definition.specs.Rule.{Rule, readRule}
+use Rattle.definition.specs.Group.{FlatRule, Group, readGroup}
+use Rattle.definition.specs.Names.{variableAt}
 use Rattle.definition.specs.Walk.{State, Reached, structureAt, initialState, walkedKinds, walkOf}
 use Rattle.definition.specs.Writer.{groupBytesOf}
 use Rattle.definition.specs.Flatten.{groupLeft, fitted, flattenOf}
-use Rattle.definition.specs.Demands.{Walked, IsReached, Occurs, Bound, ExactKeys, NoTrailingDigit, endsInDigit, variablesAt, variableGot, printedName, DifferentNames, Demand3}
-use Rattle.theory.proofs.Lists.{never}
-use Rattle.theory.proofs.Good.{GoodName, GoodStatement, GoodVariable, GoodRule, SmallSignature, GoodGroup}
-use Rattle.theory.proofs.Sound.{SoundSignature, SoundRule, sound-signature}
+use Rattle.definition.specs.Demands.{IsReached, Occurs, Bound, ExactKeys, NoTrailingDigit, endsInDigit, variablesAt, variableGot, printedName, DifferentNames, Demand3}
+use Rattle.theory.proofs.Good.{GoodGroup}
+use Rattle.theory.proofs.Sound.{SoundRule, sound-signature}
 use Rattle.theory.proofs.SoundRule.{sound-rule}
 use Rattle.theory.proofs.NameLaws.{name-tells}
-use Rattle.theory.proofs.WalkLaws.{SlotGood, StateGood, BaseOf, noVariable, reached-few, group-name-good}
+use Rattle.theory.proofs.WalkLaws.{BaseOf, noVariable, reached-few, group-name-good}
 use Rattle.theory.proofs.WalkSteps.{WalkedGood, on-accepted, walk-of-good, walked-mem, first-reached}
 use Rattle.theory.proofs.ReadBack.{read-back}
 use Rattle.theory.proofs.ByteLaws.{group-small}

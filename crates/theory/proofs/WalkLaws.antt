@@ -1,34 +1,34 @@
 -- What the walk keeps of its state.
-use Prim.Native.Nat.{ℕ, zero, suc, _+_, _-_, _*_, _^_, _≤_, _<_}
+use Prim.Native.Nat.{ℕ, zero, suc, _+_, _-_, _*_, _≤_, _<_}
 use native.Mathlib.Omega.{arith}
 use native.Mathlib.Decide.{ℕ-discrete, decLt}
 use mathlib.Core.Path.{_≡_, refl, ap, sym, _∙_}
 use mathlib.Core.Logic.{_⊎_, inl, inr, ⊎-elim}
-use mathlib.Core.Bool.{Bool, true, false, not, _&&_}
+use mathlib.Core.Bool.{false}
 use mathlib.Core.Option.{Option, none, some}
-use mathlib.Core.List.{List, [], _∷_, _++_, List·Memᴰ·head, List·Memᴰ·tail, List·Memᴰ·not-nil, List·Memᴰ·cases-cons, List·Memᴰ·append-cases, List·Memᴰ·eq-of-singleton, Memᴰ·append-left, Memᴰ·append-right, Memᴰ·cast}
-use lib.Dec.{eqb, ltb}
+use mathlib.Core.List.{List, [], _∷_, _++_, List·Memᴰ·head, List·Memᴰ·tail, List·Memᴰ·not-nil, List·Memᴰ·cases-cons, List·Memᴰ·append-cases}
+use lib.Dec.{eqb}
 use lib.ListN.{length, getD, set, length-append, length-set, List·getD-append}
 use lib.Seq.{getD-set-same, getD-set-other, getD-append-add}
-use Rattle.definition.specs.Base.{pick, orElse, orDefault, keep, each, all, firstOf, empty, _∈_}
-use Rattle.definition.specs.Limits.{structureLimit, fieldLimit, nameBytes, groupNameBytes, numberDigits}
+use Rattle.definition.specs.Base.{pick, orElse, orDefault, each, all, firstOf, empty, _∈_}
+use Rattle.definition.specs.Limits.{fieldLimit, nameBytes, groupNameBytes}
 use Rattle.definition.specs.Letters.{underscore, typeSet}
 use Rattle.definition.specs.Signature.{Signature}
-use Rattle.definition.specs.Rule.{Structure, Element, Name, Row, Pair, Rule}
+use Rattle.definition.specs.Rule.{Structure, Element, Name, Rule}
 use Rattle.definition.specs.Group.{Variable, Statement, FlatRule, premiseKinds}
 use Rattle.definition.specs.Records.{badName}
 use Rattle.definition.specs.Names.{decimal, numbersOf, variableAt, nameFor, el, baseName, numbered, newVariable, newVariables}
-use Rattle.definition.specs.Rows.{rowsOf, members, memberRow, rowStatement, typeSets}
+use Rattle.definition.specs.Rows.{rowsOf, rowStatement, typeSets}
 use Rattle.definition.specs.Kinds.{Side, variableIn, Emitted, Step, initialStatements}
 use Rattle.definition.specs.Walk.{State, Reached, structureAt, noStructure, groupName, anonymousRule, namedRules, sideOf, reach, untouched, nothingTaken, initialState}
-use Rattle.definition.specs.Demands.{Occurs, Bound, endsInDigit}
-use Rattle.theory.proofs.Lists.{never, bool-cases, mem-keep, keep-mem, mem-each, each-mem, length-each, first-mem, picked}
+use Rattle.definition.specs.Demands.{Occurs, Bound}
+use Rattle.theory.proofs.Lists.{bool-cases, keep-mem, mem-each, each-mem, length-each, first-mem, picked}
 use Rattle.theory.proofs.Good.{GoodName, GoodStatement, GoodVariable, GoodRule}
 use Rattle.theory.proofs.Sound.{SoundStructure, SoundRule}
 use Rattle.theory.proofs.NameLaws.{Fine, fine, not-bad, fine-append, fine-within, fine-decimal}
 use Rattle.theory.proofs.Numbering.{fresh, fresh-few, new-length, new-at, new-mem, variable-taken, variable-new, new-differ}
-use Rattle.theory.proofs.RowLaws.{premise-three, member-in, mem-members, number-in, in-number, row-good, type-set-good}
-use Rattle.theory.proofs.StepLaws.{EmittedGood, StepGood, member-lists, occurs-left, occurs-right, row-occurs}
+use Rattle.theory.proofs.RowLaws.{premise-three, member-in, mem-members, in-number, row-good, type-set-good}
+use Rattle.theory.proofs.StepLaws.{StepGood, member-lists, occurs-left, occurs-right, row-occurs}
 
 -- A base of names: `el`, or a V or I name of a structure.
 abbrev pub BaseOf : Rule → List ℕ → Type 0

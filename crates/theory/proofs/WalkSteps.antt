@@ -1,29 +1,29 @@
 -- The walk over all its maps keeps the state good, and reaches every target.
-use Prim.Native.Nat.{ℕ, zero, suc, _+_, _-_, _*_, _≤_, _<_}
+use Prim.Native.Nat.{ℕ, zero, suc, _+_, _≤_, _<_}
 use native.Mathlib.Omega.{arith}
 use native.Mathlib.Decide.{ℕ-discrete}
 use mathlib.Core.Path.{_≡_, refl, ap, sym, _∙_}
-use mathlib.Core.Logic.{_⊎_, inl, inr, ⊎-elim}
-use mathlib.Core.Bool.{Bool, true, false, not, _&&_}
+use mathlib.Core.Logic.{⊎-elim}
+use mathlib.Core.Bool.{Bool, true, false, _&&_}
 use mathlib.Core.Option.{Option, none, some}
-use mathlib.Core.List.{List, [], _∷_, _++_, List·Memᴰ·head, List·Memᴰ·tail, List·Memᴰ·not-nil, List·Memᴰ·cases-cons, Memᴰ·cast}
-use lib.Dec.{eqb, ltb}
-use lib.ListN.{length, getD, set, length-append, length-set}
+use mathlib.Core.List.{List, [], _∷_, List·Memᴰ·head, List·Memᴰ·tail, List·Memᴰ·not-nil, List·Memᴰ·cases-cons, Memᴰ·cast}
+use lib.Dec.{eqb}
+use lib.ListN.{length, getD}
 use lib.Seq.{getD-set-same, getD-set-other}
 use borrow.Author.Tests.{eqb-true, eq-eqb}
-use Rattle.definition.specs.Base.{Outcome, refused, accepted, onAccepted, pick, orDefault, keep, each, joined, any, firstOf, span, _∈_}
+use Rattle.definition.specs.Base.{Outcome, refused, accepted, onAccepted, pick, orDefault, keep, each, joined, span, _∈_}
 use Rattle.definition.specs.Signature.{Signature}
-use Rattle.definition.specs.Rule.{Structure, Pair, Map, Kind, MorphismKind, Rule, keysAscend}
-use Rattle.definition.specs.Group.{Variable, Statement}
+use Rattle.definition.specs.Rule.{Structure, Pair, Kind, Rule, keysAscend}
+use Rattle.definition.specs.Group.{Variable}
 use Rattle.definition.specs.Names.{numbersOf, variableAt, carriedKey, overMap, carried, numbered}
 use Rattle.definition.specs.Rows.{inImage}
-use Rattle.definition.specs.Kinds.{Side, Step, typeIn, mapStep}
+use Rattle.definition.specs.Kinds.{Step, typeIn, mapStep}
 use Rattle.definition.specs.Walk.{State, Reached, structureAt, noStructure, mapOfPair, pairsBetween, ofPair, completed, walkedKinds, sideOf, reach, takenOver, walkMap, walkFrom, walkOf, initialState, unmappedAuxiliary, unmappedKind}
 use Rattle.theory.proofs.Lists.{and-left, and-right, and-true, never, mem-keep, keep-mem, mem-joined, joined-mem, first-mem, picked, length-each}
 use Rattle.theory.proofs.Good.{GoodVariable}
-use Rattle.theory.proofs.Sound.{SoundStructure, SoundMap, SoundRule}
-use Rattle.theory.proofs.Numbering.{fresh, carried-pair, not-carried, one-image, variable-taken}
-use Rattle.theory.proofs.StepLaws.{MapFacts, StepGood, step-good}
+use Rattle.theory.proofs.Sound.{SoundRule}
+use Rattle.theory.proofs.Numbering.{carried-pair, not-carried, one-image, variable-taken}
+use Rattle.theory.proofs.StepLaws.{MapFacts, step-good}
 use Rattle.theory.proofs.WalkLaws.{SlotGood, StateGood, Taken, mem-at, target-below, countOf, reach-good, statement-more, initial-good}
 
 -- The pairs of a map, or none: what they name is there, and a key has one image.
