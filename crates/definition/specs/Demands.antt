@@ -39,6 +39,7 @@ Bound r = (v : ℕ) → Occurs v (r .conclusion) → Occurs v (r .premise)
 abbrev pub keysOf : Map → List ℕ
 keysOf m = each (λ (p : Pair). p .key) (m .pairs)
 
+-- The keys of a walked map are its source's elements, and no others.
 abbrev pub ExactKeys : Rule → Type 0
 ExactKeys rule = (m : Map) → Walked rule m → (e : ℕ) → (e ∈ keysOf m) ↔ (e ∈ numbersOf (structureAt rule (m .source)))
 
@@ -46,9 +47,11 @@ ExactKeys rule = (m : Map) → Walked rule m → (e : ℕ) → (e ∈ keysOf m) 
 abbrev pub digit : ℕ → Bool
 digit b = leb digitZero b && leb b digitNine
 
+-- A name whose last byte is a digit.
 unfoldable pub endsInDigit : List ℕ → Bool
 endsInDigit name = digit (orDefault (lastOf name) 0)
 
+-- No V or I name of any structure does.
 abbrev pub NoTrailingDigit : Rule → Type 0
 NoTrailingDigit rule = (st : Structure) → st ∈ rule .structures → (n : Name)
     → (n ∈ st .variableNames) ⊎ (n ∈ st .identifierNames) → endsInDigit (n .name) ≡ false
@@ -58,6 +61,7 @@ abbrev pub variablesAt : Option Reached → List ℕ
 variablesAt none = []
 variablesAt (some r) = r .variables
 
+-- By the variables that the structure has when the walk ends.
 unfoldable pub variableGot : Rule → State → ℕ → ℕ → ℕ
 variableGot rule state t e = variableAt (structureAt rule t) (variablesAt (getD (state .slots) t none)) e
 

@@ -34,6 +34,7 @@ pub record Group : Type 0 where
   pub variables : List Variable
   pub rules : List FlatRule
 
+-- 'Group: G name; W variables; then per rule U name, B premise, H conclusion.'
 abbrev pub groupGrammar : Grammar
 groupGrammar = record {
     places = record { letter = letterG; behind = start ∷ [] }
@@ -44,9 +45,11 @@ groupGrammar = record {
     last = letterG ∷ letterW ∷ letterU ∷ letterB ∷ letterH ∷ [];
   }
 
+-- A W field.
 unfoldable pub variableOf : Field → Variable
 variableOf f = record { type = numberAt 0 (f .content); name = drop 2 (f .content) }
 
+-- A B or H field.
 unfoldable pub statementOf : Field → Statement
 statementOf f = record {
     kind = getD (f .content) 0 0;
@@ -58,6 +61,7 @@ statementOf f = record {
 abbrev pub premiseKinds : List ℕ
 premiseKinds = predicate ∷ function ∷ member ∷ equality ∷ typeSet ∷ []
 
+-- 'FuncDomain (H only)'.
 abbrev pub conclusionKinds : List ℕ
 conclusionKinds = predicate ∷ function ∷ member ∷ equality ∷ funcDomain ∷ []
 
@@ -107,6 +111,7 @@ groupFault sig fs =
     (orElse (faultAmong letterW (variableFault sig) fs)
     (flatRulesFault sig (length (withLetter letterW fs)) 0 (blocks letterU fs)))
 
+-- What a rule's fields say.
 unfoldable pub flatRuleOf : Block → FlatRule
 flatRuleOf b = record {
     name = b .head .content;
@@ -118,6 +123,7 @@ flatRuleOf b = record {
 abbrev pub titleField : List Field → Field
 titleField fs = getD fs 0 (record { letter = letterG; content = [] })
 
+-- What a group's fields say.
 unfoldable pub groupOf : List Field → Group
 groupOf fs = record {
     name = titleField fs .content;
@@ -125,9 +131,11 @@ groupOf fs = record {
     rules = each flatRuleOf (blocks letterU fs);
   }
 
+-- The fields before the first that draws 2.
 unfoldable pub groupPart : List ℕ → Part
 groupPart bytes = placed groupGrammar start (fieldsOf bytes)
 
+-- 1 'group over 65,535', else as its fields have it.
 unfoldable pub readGroup : Signature → List ℕ → Outcome Group
 readGroup sig bytes = pick (ltb groupBytes (length bytes)) (refused 1)
     (readPart (groupPart bytes) (groupFault sig (groupPart bytes .fields)) (groupOf (groupPart bytes .fields)))

@@ -18,6 +18,7 @@ pub record Side : Type 0 where
   pub structure : Structure
   pub variables : List ℕ
 
+-- The variable of an element on a side.
 abbrev pub variableIn : Side → ℕ → ℕ
 variableIn side = variableAt (side .structure) (side .variables)
 
@@ -93,6 +94,7 @@ module _ (sig : Signature) (table : List Variable) (source target : Side) (pairs
   abbrev pub yields : ℕ → Row → Option Row
   yields e r = pick (eqb (lastElement r) e) (some r) none
 
+  -- The first A field whose result is the element.
   unfoldable pub yieldingRow : ℕ → Option Row
   yieldingRow e = firstOf (yields e) (target .structure .funcRows)
 

@@ -15,6 +15,7 @@ unfoldable pub digitsTo : ℕ → ℕ → List ℕ
 digitsTo zero n = []
 digitsTo (suc k) n = pick (ltb n 10) ((digitZero + n) ∷ []) (digitsTo k (n / 10) ++ ((digitZero + n % 10) ∷ []))
 
+-- A two-byte number in decimal.
 abbrev pub decimal : ℕ → List ℕ
 decimal n = digitsTo numberDigits n
 
@@ -26,15 +27,20 @@ numbersOf st = each (λ (e : Element). e .number) (st .elements)
 unfoldable pub variableAt : Structure → List ℕ → ℕ → ℕ
 variableAt st variables e = getD variables (placeFrom 0 e (numbersOf st)) 0
 
+-- The keys with an image, ascending.
+unfoldable pub fiber : List Pair → ℕ → List ℕ
+fiber pairs e = each (λ (p : Pair). p .key) (keep (λ (p : Pair). eqb (p .image) e) pairs)
+
 -- 'by ascending key, the image takes the key's variable, a later key replacing': the last key with that image.
 unfoldable pub carriedKey : List Pair → ℕ → Option ℕ
-carriedKey pairs e = lastOf (each (λ (p : Pair). p .key) (keep (λ (p : Pair). eqb (p .image) e) pairs))
+carriedKey pairs e = lastOf (fiber pairs e)
 
 -- The variable that an element takes over through a map, if any.
 abbrev pub overMap : (ℕ → ℕ) → Option ℕ → Option ℕ
 overMap variable none = none
 overMap variable (some key) = some (variable key)
 
+-- What each element of the target takes over.
 unfoldable pub carried : Structure → List ℕ → List Pair → Structure → List (Option ℕ)
 carried source variables pairs target =
     each (λ (e : ℕ). overMap (variableAt source variables) (carriedKey pairs e)) (numbersOf target)
@@ -49,9 +55,11 @@ numbered next (none ∷ cs) = next ∷ numbered (next + 1) cs
 abbrev pub nameFor : ℕ → Name → Option (List ℕ)
 nameFor e n = pick (eqb (n .element) e) (some (n .name)) none
 
+-- `el`.
 abbrev pub el : List ℕ
 el = 101 ∷ 108 ∷ []
 
+-- The base of a new variable's name.
 unfoldable pub baseName : Structure → ℕ → List ℕ
 baseName st e = orDefault (orElse (firstOf (nameFor e) (st .variableNames)) (firstOf (nameFor e) (st .identifierNames))) el
 

@@ -39,6 +39,7 @@ cut (suc k) (letter ∷ high ∷ low ∷ s) = when (leb (high * 256 + low) (leng
     (λ _. record { letter = letter; content = take (high * 256 + low) s } ▸ cut k (drop (high * 256 + low) s))
     (λ _. bad)
 
+-- The fields of a record's bytes.
 unfoldable pub fieldsOf : List ℕ → Fields
 fieldsOf s = cut (length s) s
 
@@ -61,6 +62,7 @@ pub record Part : Type 0 where
   pub fields : List Field
   pub whole : Bool
 
+-- A field in front of a part.
 abbrev pub inFront : Field → Part → Part
 inFront f p = record { fields = f ∷ p .fields; whole = p .whole }
 
@@ -81,10 +83,12 @@ pub record Block : Type 0 where
   pub head : Field
   pub body : List Field
 
+-- The fields before the next of a letter.
 unfoldable pub upTo : ℕ → List Field → List Field
 upTo letter [] = []
 upTo letter (f ∷ fs) = pick (eqb (f .letter) letter) [] (f ∷ upTo letter fs)
 
+-- The blocks of a letter, in order: 'Structures are numbered from 0 as they stand.'
 unfoldable pub blocks : ℕ → List Field → List Block
 blocks letter [] = []
 blocks letter (f ∷ fs) = pick (eqb (f .letter) letter)
@@ -108,13 +112,15 @@ notAbove key (some last) f = not (less (key last) (key f))
 abbrev pub nameByte : ℕ → Bool
 nameByte b = leb firstNameByte b && leb b lastNameByte
 
+-- A name that is none, by its shortest and longest length.
 unfoldable pub badName : ℕ → ℕ → List ℕ → Bool
 badName shortest longest name = ltb (length name) shortest || ltb longest (length name) || not (all nameByte name)
 
--- 'content length impossible for its field': not a whole number of two-byte numbers, or fewer than the least.
+-- 3 'content length impossible for its field': an odd length.
 abbrev pub odd : ℕ → Bool
 odd n = eqb (n % 2) 1
 
+-- Not a whole number of two-byte numbers, or fewer than the least.
 abbrev pub notNumbers : ℕ → List ℕ → Bool
 notNumbers least content = odd (length content) || ltb (length content) (2 * least)
 

@@ -28,6 +28,7 @@ pub record Name : Type 0 where
   pub element : ℕ
   pub name : List ℕ
 
+-- 'S (empty), then E, R, A, V, I'.
 pub record Structure : Type 0 where
   pub elements : List Element
   pub predRows : List Row
@@ -40,6 +41,7 @@ pub record Pair : Type 0 where
   pub key : ℕ
   pub image : ℕ
 
+-- A map with its pairs.
 pub record Map : Type 0 where
   pub source : ℕ
   pub target : ℕ
@@ -49,6 +51,7 @@ pub record Map : Type 0 where
 pub data MorphismKind : Type 0 where
   If SurjThen NonSurjThen Noop : MorphismKind
 
+-- A pair of structures with its kind.
 pub record Kind : Type 0 where
   pub source : ℕ
   pub target : ℕ
@@ -88,6 +91,7 @@ ruleGrammar = record {
 unfoldable pub elementOf : Field → Element
 elementOf f = record { number = numberAt 0 (f .content); type = numberAt 1 (f .content); parents = drop 2 (numbers (f .content)) }
 
+-- An R or A field, as a row of a kind.
 unfoldable pub rowOf : ℕ → Field → Row
 rowOf kind f = record { kind = kind; symbol = numberAt 0 (f .content); elements = drop 1 (numbers (f .content)) }
 
@@ -95,17 +99,21 @@ rowOf kind f = record { kind = kind; symbol = numberAt 0 (f .content); elements 
 unfoldable pub nameOf : ℕ → Field → Name
 nameOf count f = record { element = numberAt (count - 1) (f .content); name = drop (2 * count) (f .content) }
 
+-- 'pairs of key and image'.
 unfoldable pub pairsOf : List ℕ → List Pair
 pairsOf [] = []
 pairsOf (key ∷ []) = []
 pairsOf (key ∷ image ∷ ns) = record { key = key; image = image } ∷ pairsOf ns
 
+-- An M field.
 unfoldable pub mapOf : Field → Map
 mapOf f = record { source = numberAt 0 (f .content); target = numberAt 1 (f .content); pairs = pairsOf (drop 2 (numbers (f .content))) }
 
+-- The byte of a K field.
 abbrev pub kindByte : Field → ℕ
 kindByte f = getD (f .content) 4 0
 
+-- A K field: '0 If, 1 SurjThen, 2 NonSurjThen, 3 Noop'.
 unfoldable pub kindOf : Field → Kind
 kindOf f = record {
     source = numberAt 0 (f .content);
@@ -113,6 +121,7 @@ kindOf f = record {
     kind = getD (If ∷ SurjThen ∷ NonSurjThen ∷ Noop ∷ []) (kindByte f) If;
   }
 
+-- An X field.
 unfoldable pub auxiliaryOf : Field → Auxiliary
 auxiliaryOf f = record { class = getD (f .content) 0 0; structure = numberAt 0 (drop 1 (f .content)) }
 
@@ -143,6 +152,7 @@ elementFault sig els before last f = lowest (
 unfoldable pub rowKey : ℕ → Field → List ℕ
 rowKey results f = take (length (numbers (f .content)) - results) (numbers (f .content))
 
+-- The lowest fault of an R or A field: symbols and columns are those of its letter.
 unfoldable pub rowFault : ℕ → ℕ → (ℕ → ℕ) → List ℕ → ℕ → Option Field → Field → Option ℕ
 rowFault results symbols columns els before last f = lowest (
     (3, notNumbers (1 + results) (f .content))
@@ -233,6 +243,7 @@ ruleFault sig fs =
     (orElse (faultAmong letterK (kindFault (namedIn fs)) fs)
     (faultAmong letterX (auxiliaryFault (namedIn fs)) fs))))
 
+-- What a structure's fields say.
 unfoldable pub structureOf : Block → Structure
 structureOf b = record {
     elements = each elementOf (withLetter letterE (b .body));
@@ -257,9 +268,11 @@ ruleOf fs = record {
     auxiliaries = each auxiliaryOf (withLetter letterX fs);
   }
 
+-- The fields before the first that draws 2.
 unfoldable pub rulePart : List ℕ → Part
 rulePart bytes = placed ruleGrammar start (fieldsOf bytes)
 
+-- 1 'rule over 32,768 bytes', else as its fields have it.
 unfoldable pub readRule : Signature → List ℕ → Outcome Rule
 readRule sig bytes = pick (ltb ruleBytes (length bytes)) (refused 1)
     (readPart (rulePart bytes) (ruleFault sig (rulePart bytes .fields)) (ruleOf (rulePart bytes .fields)))

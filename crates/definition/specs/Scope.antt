@@ -20,10 +20,12 @@ pub data Scope : Type 0 where
 abbrev pub variableNumbered : List Variable → ℕ → Variable
 variableNumbered table v = getD table v (record { type = 0; name = [] })
 
+-- Whether two variables have the same name and type.
 unfoldable pub sameVariable : List Variable → ℕ → ℕ → Bool
 sameVariable table v w = eqb (variableNumbered table v .type) (variableNumbered table w .type)
     && sameList (variableNumbered table v .name) (variableNumbered table w .name)
 
+-- Whether two lists of variables are the same.
 unfoldable pub sameVariables : List Variable → List ℕ → List ℕ → Bool
 sameVariables table [] [] = true
 sameVariables table [] (w ∷ ws) = false
@@ -44,6 +46,7 @@ abbrev pub sharesModel : ℕ → Option ℕ → Bool
 sharesModel m none = false
 sharesModel m (some p) = eqb p m
 
+-- What a conclusion settles, if anything.
 unfoldable pub conclusionVerdict : Signature → List Variable → ℕ → List ℕ → Statement → Option (Outcome Scope)
 conclusionVerdict sig table m owners s = pick (sharesModel m (parentModel sig (s .kind) (s .symbol)))
     (ownersVerdict table owners (ownerCount sig m) s)
@@ -54,6 +57,7 @@ conclusionVerdict sig table m owners s = pick (sharesModel m (parentModel sig (s
 unfoldable pub related : Signature → ℕ → ℕ → Bool
 related sig m p = eqb p m || has m (typeParents sig p) || has p (typeParents sig m)
 
+-- What a premise with a parent model settles, if anything.
 unfoldable pub relationVerdict : Signature → List Variable → ℕ → List ℕ → Statement → Option ℕ → Option (Outcome Scope)
 relationVerdict sig table m owners s none = none
 relationVerdict sig table m owners s (some p) = pick (related sig m p)
@@ -81,6 +85,7 @@ outputScope sig table r s none = accepted global
 outputScope sig table r s (some m) = pick (ltb (length (s .variables)) (ownerCount sig m)) (refused 43)
     (modelScope sig table r m (take (ownerCount sig m) (s .variables)))
 
+-- By the first conclusion, if there is one.
 unfoldable pub conclusionScope : Signature → List Variable → FlatRule → List Statement → Outcome Scope
 conclusionScope sig table r [] = accepted global
 conclusionScope sig table r (s ∷ ss) = outputScope sig table r s (parentModel sig (s .kind) (s .symbol))
@@ -102,6 +107,7 @@ scopeOf signature group position =
 abbrev pub fieldSize : Field → ℕ
 fieldSize f = 3 + length (f .content)
 
+-- The byte at which the first conclusion's field stands.
 unfoldable pub conclusionAt : ℕ → List Field → ℕ → ℕ
 conclusionAt rules [] at = at
 conclusionAt zero (f ∷ fs) at = pick (eqb (f .letter) letterH) at (conclusionAt zero fs (at + fieldSize f))
@@ -117,5 +123,6 @@ ownersPart group position (refused n) = []
 ownersPart group position (accepted global) = []
 ownersPart group position (accepted (model m owners)) = take (2 * length owners) (drop (ownersAt group position) group)
 
+-- The owners' bytes, as scope answers.
 unfoldable pub ownersOf : List ℕ → List ℕ → ℕ → List ℕ
 ownersOf signature group position = ownersPart group position (scopeOf signature group position)

@@ -34,9 +34,11 @@ signatureGrammar = record {
 abbrev pub parentCount : List ℕ → ℕ
 parentCount content = getD content 0 0
 
+-- The parents, then the other columns.
 abbrev pub columnsOf : List ℕ → List ℕ
 columnsOf content = numbers (drop 1 content)
 
+-- What a P or F field says.
 unfoldable pub symbolOf : Field → Symbol
 symbolOf f = record {
     parents = take (parentCount (f .content)) (columnsOf (f .content));
@@ -68,6 +70,7 @@ signatureFault fs =
     (orElse (faultAmong letterP (symbolFault 0 (length (withLetter letterT fs))) fs)
     (faultAmong letterF (symbolFault 1 (length (withLetter letterT fs))) fs))
 
+-- 'Each symbol's number is its position among its letter.'
 unfoldable pub signatureOf : List Field → Signature
 signatureOf fs = record {
     types = each (λ (f : Field). numbers (f .content)) (withLetter letterT fs);
@@ -75,9 +78,11 @@ signatureOf fs = record {
     funcs = each symbolOf (withLetter letterF fs);
   }
 
+-- The fields before the first that draws 2.
 unfoldable pub signaturePart : List ℕ → Part
 signaturePart bytes = placed signatureGrammar start (fieldsOf bytes)
 
+-- 1 'signature over 32,768 bytes', else as its fields have it.
 unfoldable pub readSignature : List ℕ → Outcome Signature
 readSignature bytes = pick (ltb signatureBytes (length bytes)) (refused 1)
     (readPart (signaturePart bytes) (signatureFault (signaturePart bytes .fields)) (signatureOf (signaturePart bytes .fields)))
@@ -86,12 +91,15 @@ readSignature bytes = pick (ltb signatureBytes (length bytes)) (refused 1)
 abbrev pub noSymbol : Symbol
 noSymbol = record { parents = []; others = [] }
 
+-- 'at most 4 parents of a T': the parents of a type by its number.
 abbrev pub typeParents : Signature → ℕ → List ℕ
 typeParents sig t = getD (sig .types) t []
 
+-- The predicate of a number.
 abbrev pub predOf : Signature → ℕ → Symbol
 predOf sig p = getD (sig .preds) p noSymbol
 
+-- The function of a number.
 abbrev pub funcOf : Signature → ℕ → Symbol
 funcOf sig f = getD (sig .funcs) f noSymbol
 

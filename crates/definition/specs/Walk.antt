@@ -18,6 +18,7 @@ use Rattle.definition.specs.Kinds.{Side, Emitted, Step, initialStatement
 abbrev pub sourceInto : ℕ → Map → Option ℕ
 sourceInto t m = pick (eqb (m .target) t) (some (m .source)) none
 
+-- The lowest source of a structure.
 unfoldable pub incomingSource : List Map → ℕ → Option ℕ
 incomingSource maps t = firstOf (sourceInto t) maps
 
@@ -25,6 +26,7 @@ incomingSource maps t = firstOf (sourceInto t) maps
 abbrev pub mapOfPair : ℕ → ℕ → Map → Option (List Pair)
 mapOfPair s t m = pick (eqb (m .source) s && eqb (m .target) t) (some (m .pairs)) none
 
+-- The pairs of the map between two structures, if there is one.
 unfoldable pub pairsBetween : List Map → ℕ → ℕ → Option (List Pair)
 pairsBetween maps s t = firstOf (mapOfPair s t) maps
 
@@ -37,6 +39,7 @@ abbrev pub found : Option (List Pair) → Bool
 found none = false
 found (some pairs) = true
 
+-- Whether some K has no map.
 unfoldable pub unmappedKind : Rule → Bool
 unmappedKind rule = any (λ (k : Kind). not (found (pairsBetween (rule .maps) (k .source) (k .target)))) (rule .kinds)
 
@@ -52,6 +55,7 @@ auxiliaryKind class = pick (eqb class 0) Noop If
 unfoldable pub addPair : List Kind → Kind → List Kind
 addPair kinds k = pick (any (ofPair (k .source) (k .target)) kinds) kinds (kinds ++ (k ∷ []))
 
+-- The kinds of K, then those that the X add.
 unfoldable pub completed : List Map → List Kind → List Auxiliary → List Kind
 completed maps kinds [] = kinds
 completed maps kinds (x ∷ xs) = completed maps (addPair kinds (record {
@@ -76,9 +80,11 @@ pub record State : Type 0 where
   pub variables : List Variable
   pub rules : List FlatRule
 
+-- A structure without fields.
 abbrev pub noStructure : Structure
 noStructure = record { elements = []; predRows = []; funcRows = []; variableNames = []; identifierNames = [] }
 
+-- The structure of a number.
 abbrev pub structureAt : Rule → ℕ → Structure
 structureAt rule s = getD (rule .structures) s noStructure
 
@@ -86,6 +92,7 @@ structureAt rule s = getD (rule .structures) s noStructure
 abbrev pub anonymousRule : List ℕ
 anonymousRule = 97 ∷ 110 ∷ 111 ∷ 110 ∷ 121 ∷ 109 ∷ 111 ∷ 117 ∷ 115 ∷ underscore ∷ 114 ∷ 117 ∷ 108 ∷ 101 ∷ underscore ∷ []
 
+-- The group's name: the rule's, or that of an unnamed one.
 unfoldable pub groupName : Rule → List ℕ
 groupName rule = pick (empty (rule .name)) (anonymousRule ++ decimal (rule .index)) (rule .name)
 
@@ -106,6 +113,7 @@ reach rule state t taken step = record {
     rules = state .rules ++ namedRules (groupName rule) (length (state .rules)) (step .emitted);
   }
 
+-- Before the walk no structure has statements.
 abbrev pub untouched : Rule → State
 untouched rule = record { slots = each (λ (st : Structure). none) (rule .structures); variables = []; rules = [] }
 
@@ -113,6 +121,7 @@ untouched rule = record { slots = each (λ (st : Structure). none) (rule .struct
 abbrev pub nothingTaken : Structure → List (Option ℕ)
 nothingTaken st = each (λ (e : Element). none) (st .elements)
 
+-- The state at structure 0.
 unfoldable pub initialState : Rule → State
 initialState rule = reach rule (untouched rule) 0 (nothingTaken (structureAt rule 0))
     (record { statements = initialStatements (sideOf (structureAt rule 0) 0 (nothingTaken (structureAt rule 0))); emitted = [] })
@@ -132,6 +141,7 @@ walkMap sig rule state k pairs (some source) none = onAccepted
         pairs (k .kind) (source .statements))
     (λ (step : Step). accepted (reach rule state (k .target) (takenOver rule k pairs source) step))
 
+-- The walk over the kinds that are left; a refusal ends it.
 unfoldable pub walkFrom : Signature → Rule → State → List Kind → Outcome State
 walkFrom sig rule state [] = accepted state
 walkFrom sig rule state (k ∷ ks) = onAccepted

@@ -11,6 +11,7 @@ use Rattle.definition.specs.Group.{Variable, Statement, FlatRule, Group}
 abbrev pub twoBytes : ℕ → List ℕ
 twoBytes n = n / 256 ∷ n % 256 ∷ []
 
+-- The bytes of numbers.
 unfoldable pub numberBytes : List ℕ → List ℕ
 numberBytes [] = []
 numberBytes (n ∷ ns) = n / 256 ∷ n % 256 ∷ numberBytes ns
@@ -19,6 +20,7 @@ numberBytes (n ∷ ns) = n / 256 ∷ n % 256 ∷ numberBytes ns
 unfoldable pub fieldBytes : Field → List ℕ
 fieldBytes f = f .letter ∷ length (f .content) / 256 ∷ length (f .content) % 256 ∷ f .content
 
+-- The bytes of fields, one behind the other.
 unfoldable pub recordBytes : List Field → List ℕ
 recordBytes fs = joined fieldBytes fs
 
@@ -38,5 +40,6 @@ flatRuleFields r = record { letter = letterU; content = r .name } ∷ each (stat
 unfoldable pub groupFields : Group → List Field
 groupFields g = record { letter = letterG; content = g .name } ∷ each variableField (g .variables) ++ joined flatRuleFields (g .rules)
 
+-- The bytes of a group.
 unfoldable pub groupBytesOf : Group → List ℕ
 groupBytesOf g = recordBytes (groupFields g)

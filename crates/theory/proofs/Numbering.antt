@@ -13,7 +13,7 @@ use borrow.Author.Tests.{eq-eqb, eqb-true, ltb-true}
 use Rattle.definition.specs.Base.{pick, orElse, each, any, lastOf, placeFrom, _∈_}
 use Rattle.definition.specs.Rule.{Structure, Element, Pair, keysAscend}
 use Rattle.definition.specs.Group.{Variable}
-use Rattle.definition.specs.Names.{numbersOf, variableAt, carriedKey, numbered, newVariable, newVariables}
+use Rattle.definition.specs.Names.{numbersOf, variableAt, fiber, carriedKey, numbered, newVariable, newVariables}
 use Rattle.definition.specs.Rows.{inImage}
 use Rattle.theory.proofs.Lists.{never, and-left, and-right, bool-cases, mem-keep, keep-mem, mem-each, each-mem, length-each, getD-each, any-true, trichotomy}
 
@@ -137,13 +137,13 @@ last-none (x ∷ xs) e m = go (lastOf xs) e
 
 -- The carried key: a pair of the map; there is one just where the element is an image.
 pub carried-pair : (pairs : List Pair) (e : ℕ) {k : ℕ} → carriedKey pairs e ≡ some k → (p : Pair) × (p ∈ pairs) × (k ≡ p .key) × (p .image ≡ e)
-unfolding carriedKey
+unfolding carriedKey fiber
 carried-pair pairs e h =
     let r = mem-each (λ (p : Pair). p .key) _ (last-mem _ h) in
     let q = mem-keep (λ (p : Pair). eqb (p .image) e) pairs (r .1) in (r .0, q .0, r .2, eqb-true _ _ (q .1))
 
 pub not-carried : (pairs : List Pair) (e : ℕ) → carriedKey pairs e ≡ none → inImage pairs e ≡ false
-unfolding carriedKey inImage
+unfolding carriedKey fiber inImage
 not-carried pairs e h = ⊎-elim
     (λ t. let r = any-true (λ (p : Pair). eqb (p .image) e) pairs t in absurd (last-none _ h (each-mem (λ (p : Pair). p .key) _ (keep-mem (λ (p : Pair). eqb (p .image) e) pairs (r .1) (r .2)))))
     (λ f. f) (bool-cases (any (λ (p : Pair). eqb (p .image) e) pairs))

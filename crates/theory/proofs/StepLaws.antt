@@ -14,8 +14,8 @@ use Rattle.definition.specs.Letters.{predicate, member, equality, typeSet}
 use Rattle.definition.specs.Signature.{Signature, arity, symbolCount, predOf, funcOf}
 use Rattle.definition.specs.Rule.{Structure, Element, Row, Pair, MorphismKind, If, SurjThen, NonSurjThen, Noop}
 use Rattle.definition.specs.Group.{Variable, Statement, premiseKinds, conclusionKinds}
-use Rattle.definition.specs.Names.{numbersOf}
-use Rattle.definition.specs.Rows.{memberRow, rowsOf, lastElement, rowStatement, typeSets, pairImage, imageOf, inImage, given, imageRow, sameRow, newRows, pairsAmong, fiber, kernelPairs, arguments, constrained}
+use Rattle.definition.specs.Names.{numbersOf, fiber}
+use Rattle.definition.specs.Rows.{memberRow, rowsOf, lastElement, rowStatement, typeSets, pairImage, imageOf, inImage, given, imageRow, sameRow, newRows, pairsAmong, kernelPairs, arguments, constrained}
 use Rattle.definition.specs.Kinds.{Side, variableIn, Emitted, Step, unless, typeIn, kernelVariables, equalities, rowUnmapped, newElements, addedRows, constrainedMember, freeElements, ifStatements, surjConclusion, yields, yieldingRow, domainStatement, domainStep, nonSurjStep, ifStep, surjStep, mapStep}
 use Rattle.definition.specs.Demands.{Occurs}
 use Rattle.theory.proofs.Lists.{and-left, and-right, not-false, not-and-right, never, bool-cases, mem-keep, keep-mem, mem-each, each-mem, mem-joined, any-mem, any-false, none-any, all-mem, has-mem, lowest-none, first-mem, picked}
