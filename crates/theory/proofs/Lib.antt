@@ -5,6 +5,7 @@ pub mod Lists
 pub mod NameLaws
 pub mod Numbering
 pub mod Numbers
+pub mod Orders
 pub mod RbFields
 pub mod RbPlaces
 pub mod RbRefusals
@@ -13,7 +14,9 @@ pub mod Refusals
 pub mod RowLaws
 pub mod ScopeLaws
 pub mod Sound
+pub mod SoundOrder
 pub mod SoundRule
+pub mod StepForm
 pub mod StepLaws
 pub mod Theorems
 pub mod WalkLaws

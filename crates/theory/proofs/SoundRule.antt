@@ -97,7 +97,7 @@ module _ (sig : Signature) (els : List ℕ) (body : List Field) where
   abbrev ofI : Option ℕ
   ofI = faultAmong letterI (nameFault 2 (λ (g : Field). take 1 (numbers (g .content))) els) body
 
-  body-parts : bodyFault sig els body ≡ none → (ofE ≡ none) × (ofR ≡ none) × (ofA ≡ none) × (ofV ≡ none) × (ofI ≡ none)
+  pub body-parts : bodyFault sig els body ≡ none → (ofE ≡ none) × (ofR ≡ none) × (ofA ≡ none) × (ofV ≡ none) × (ofI ≡ none)
   unfolding bodyFault
   body-parts e =
       let te = or-else-none ofE (orElse ofR (orElse ofA (orElse ofV ofI))) e in
@@ -171,9 +171,9 @@ head-passed : (n : ℕ) (l : Option Field) (f : Field) → headFault n l f ≡ n
 unfolding headFault
 head-passed n l f e = let t3 = lowest-none 3 _ _ e in lowest-none 8 _ _ (t3 .1) .0
 
--- The structures, each sound, and no more than the limit.
+-- The structures: no more than the limit, and no fault in a body.
 structures-passed : (sig : Signature) (n : ℕ) (bs : List Block) → n ≤ structureLimit → structuresFault sig n bs ≡ none
-    → (n + length bs ≤ structureLimit) × ((b : Block) → b ∈ bs → SoundStructure sig (structureOf b))
+    → (n + length bs ≤ structureLimit) × ((b : Block) → b ∈ bs → bodyFault sig (namedElements (b .body)) (b .body) ≡ none)
 unfolding structuresFault structureFault
 structures-passed sig n [] h e = (omega arith, λ b m. absurd (List·Memᴰ·not-nil m))
 structures-passed sig n (b ∷ bs) h e =
@@ -181,7 +181,10 @@ structures-passed sig n (b ∷ bs) h e =
     let r = or-else-none (bodyFault sig (namedElements (b .body)) (b .body)) (structuresFault sig (n + 1) bs) (s .1) in
     let few : n < structureLimit = leb-false _ _ (lowest-none 4 _ _ (lowest-none 3 _ _ (s .0) .1) .0) in
     let rest = structures-passed sig (n + 1) bs (omega arith) (r .1) in
-    (omega (arith, rest .0), λ x m. ⊎-elim (λ q. rw q (structure-sound sig b (r .0))) (λ t. rest .1 x t) (List·Memᴰ·cases-cons m))
+    (omega (arith, rest .0), λ x m. ⊎-elim (λ q. rw q (r .0)) (λ t. rest .1 x t) (List·Memᴰ·cases-cons m))
+
+pub structure-bodies : (sig : Signature) (bs : List Block) → structuresFault sig 0 bs ≡ none → (b : Block) → b ∈ bs → bodyFault sig (namedElements (b .body)) (b .body) ≡ none
+structure-bodies sig bs e = structures-passed sig 0 bs (omega arith) e .1
 
 -- What can be named in a structure is what it has.
 named-at : (fs : List Field) (s e : ℕ) → s < length (namedIn fs) → e ∈ elementsAt (namedIn fs) s
@@ -251,7 +254,7 @@ module _ (sig : Signature) (fs : List Field) where
   abbrev ofX : Option ℕ
   ofX = faultAmong letterX (auxiliaryFault (namedIn fs)) fs
 
-  rule-parts : ruleFault sig fs ≡ none → (ofN ≡ none) × (ofS ≡ none) × (ofM ≡ none) × (ofK ≡ none) × (ofX ≡ none)
+  pub rule-parts : ruleFault sig fs ≡ none → (ofN ≡ none) × (ofS ≡ none) × (ofM ≡ none) × (ofK ≡ none) × (ofX ≡ none)
   unfolding ruleFault
   rule-parts e =
       let tn = or-else-none ofN (orElse ofS (orElse ofM (orElse ofK ofX))) e in
@@ -283,7 +286,7 @@ module _ (sig : Signature) (fs : List Field) where
         name-sound = head-passed (hd .0) (hd .1) (headField fs) (hd .2);
         structures-some = rw length-each (structures-some b);
         structures-few = rw length-each (omega (arith, st .0));
-        structures-sound = λ x m. let r = mem-each structureOf _ m in rw (r .2) (st .1 (r .0) (r .1));
+        structures-sound = λ x m. let r = mem-each structureOf _ m in rw (r .2) (structure-sound sig (r .0) (st .1 (r .0) (r .1)));
         maps-sound = λ x m. let r = mem-each mapOf _ m in let p = among-mem letterM _ fs (t .2) (r .1) in
             let q = map-passed (namedIn fs) (p .0) (p .1) (r .0) (p .2) in
             rw (r .2) record {
