@@ -1,6 +1,7 @@
 -- Laws and theorems about the definition.
 pub mod ByteLaws
 pub mod Good
+pub mod KindTable
 pub mod Lists
 pub mod NameLaws
 pub mod Numbering

@@ -119,6 +119,11 @@ module _ {A B : Type 0} where
   joined-mem f [] m n = absurd (List·Memᴰ·not-nil m)
   joined-mem f (x ∷ xs) {a} {b} m n = ⊎-elim (λ q. Memᴰ·append-left (joined f xs) (rw q at n)) (λ t. Memᴰ·append-right (f x) (joined-mem f xs t n)) (List·Memᴰ·cases-cons m)
 
+  pub joined-same : (f g : A → List B) → ((a : A) → f a ≡ g a) → (xs : List A) → joined f xs ≡ joined g xs
+  unfolding joined
+  joined-same f g h [] = refl
+  joined-same f g h (x ∷ xs) = rw (h x, joined-same f g h xs)
+
   pub joined-append : (f : A → List B) (xs ys : List A) → joined f (xs ++ ys) ≡ joined f xs ++ joined f ys
   unfolding joined
   joined-append f [] ys = refl
