@@ -1,5 +1,6 @@
 -- Laws and theorems about the definition.
 pub mod ByteLaws
+pub mod FieldLaws
 pub mod Good
 pub mod KindTable
 pub mod Lists
@@ -7,10 +8,9 @@ pub mod NameLaws
 pub mod Numbering
 pub mod Numbers
 pub mod Orders
-pub mod RbFields
-pub mod RbPlaces
-pub mod RbRefusals
+pub mod PlaceLaws
 pub mod ReadBack
+pub mod ReadingRefusals
 pub mod Refusals
 pub mod RowLaws
 pub mod ScopeLaws

@@ -19,7 +19,7 @@ use Rattle.definition.specs.Writer.{numberBytes, variableField, statementField,
 use Rattle.theory.proofs.Lists.{mem-has, mem-all, length-each}
 use Rattle.theory.proofs.Good.{GoodStatement, GoodVariable, GoodRule, GoodGroup}
 use Rattle.theory.proofs.Numbers.{numbers-front, numbers-written, length-numbers-written, fields-written}
-use Rattle.theory.proofs.RbFields.{with-append, with-each, with-each-none, with-joined-none, each-back, Steps, placed-whole, steps-each, upto-skip, blocks-skip, faults-none}
+use Rattle.theory.proofs.FieldLaws.{with-append, with-each, with-each-none, with-joined-none, each-back, Steps, placed-whole, steps-each, upto-skip, blocks-skip, faults-none}
 
 -- A variable's field means the variable.
 pub variable-back : (v : Variable) → variableOf (variableField v) ≡ v

@@ -20,8 +20,8 @@ use Rattle.definition.specs.Group.{Variable, Statement, FlatRule, Group, statem
 use Rattle.definition.specs.Scope.{Scope, global, model, ownerCount, sameVariables, ownersVerdict, sharesModel, conclusionVerdict, related, relationVerdict, premiseVerdict, settle, modelScope, outputScope, conclusionScope, inferScope, scopeOf, conclusionAt, ownersAt, ownersPart, ownersOf}
 use Rattle.theory.proofs.Sound.{read-part, read-within}
 use Rattle.theory.proofs.Numbers.{take-numbers, drop-numbers, length-numbers}
-use Rattle.theory.proofs.RbRefusals.{Low, signature-refusal, group-refusal}
-use Rattle.theory.proofs.RbPlaces.{FieldAt, fields-stand, conclusion-stands}
+use Rattle.theory.proofs.ReadingRefusals.{Low, signature-refusal, group-refusal}
+use Rattle.theory.proofs.PlaceLaws.{FieldAt, fields-stand, conclusion-stands}
 
 -- Bytes are what is before a part, the part and what is behind it.
 middle : (k n : ℕ) (s : List ℕ) → s ≡ take k s ++ take n (drop k s) ++ drop n (drop k s)
