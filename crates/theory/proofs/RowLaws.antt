@@ -15,7 +15,7 @@ use Rattle.definition.specs.Names.{numbersOf}
 use Rattle.definition.specs.Rows.{memberRow, rowBefore, insertRow, sortRows, members, rowsOf, rowStatement, typeSets}
 use Rattle.theory.proofs.Lists.{not-true, never, mem-keep, keep-mem, mem-each, each-mem, length-each}
 use Rattle.theory.proofs.Good.{GoodStatement}
-use Rattle.theory.proofs.Sound.{SoundStructure}
+use Rattle.theory.proofs.Sound.{SoundRow, SoundStructure}
 
 -- Sorting keeps the members.
 insert-mem : (x : Row) (rs : List Row) {r : Row} → r ∈ insertRow x rs → (r ≡ x) ⊎ (r ∈ rs)
@@ -133,25 +133,24 @@ module _ (sig : Signature) (st : Structure) (sound : SoundStructure sig st) wher
     variables-below : (els : List ℕ) → ((e : ℕ) → e ∈ els → e ∈ numbersOf st) → (v : ℕ) → v ∈ each variable els → v < count
     variables-below els h v m = let r = mem-each variable els m in rw (r .2) (below (r .0) (h (r .0) (r .1)))
 
-    pred-good : {r : Row} → r ∈ st .predRows → GoodStatement sig kinds count (rowStatement variable r)
-    unfolding rowStatement symbolCount arity
-    pred-good {r} m = let s = sound .preds-sound r m in let k = s .0 in record {
-        kind-in = rw k (three 0 (omega arith));
-        symbol-in = rw k (s .1 .symbol-in);
-        variables-in = variables-below (r .elements) (s .1 .elements-in);
-        columns = rw (length-each, k) (s .1 .columns-count);
-        has-parents = λ q. let z : r .kind ≡ member = q in absurd (omega arith);
+    -- A row of a predicate or a function.
+    of-kind : (k : ℕ) → k < 2 → (r : Row) → r .kind ≡ k → SoundRow (symbolCount sig k) (arity sig k) (numbersOf st) r → GoodStatement sig kinds count (rowStatement variable r)
+    unfolding rowStatement
+    of-kind k l r q s = record {
+        kind-in = rw q (three k (omega arith));
+        symbol-in = rw q (s .symbol-in);
+        variables-in = variables-below (r .elements) (s .elements-in);
+        columns = rw (length-each, q) (s .columns-count);
+        has-parents = λ e. let z : r .kind ≡ member = e in absurd (omega arith);
       }
 
+    pred-good : {r : Row} → r ∈ st .predRows → GoodStatement sig kinds count (rowStatement variable r)
+    unfolding symbolCount arity
+    pred-good {r} m = let s = sound .preds-sound r m in of-kind predicate (omega arith) r (s .0) (record { symbol-in = s .1 .symbol-in; elements-in = s .1 .elements-in; columns-count = s .1 .columns-count })
+
     func-good : {r : Row} → r ∈ st .funcRows → GoodStatement sig kinds count (rowStatement variable r)
-    unfolding rowStatement symbolCount arity
-    func-good {r} m = let s = sound .funcs-sound r m in let k = s .0 in record {
-        kind-in = rw k (three 1 (omega arith));
-        symbol-in = rw k (s .2 .symbol-in);
-        variables-in = variables-below (r .elements) (s .2 .elements-in);
-        columns = rw (length-each, k) (s .2 .columns-count);
-        has-parents = λ q. let z : r .kind ≡ member = q in absurd (omega arith);
-      }
+    unfolding symbolCount arity
+    func-good {r} m = let s = sound .funcs-sound r m in of-kind function (omega arith) r (s .0) (record { symbol-in = s .2 .symbol-in; elements-in = s .2 .elements-in; columns-count = s .2 .columns-count })
 
     member-good : (x : Element) → x ∈ st .elements → empty (x .parents) ≡ false → GoodStatement sig kinds count (rowStatement variable (memberRow x))
     unfolding rowStatement memberRow symbolCount arity
