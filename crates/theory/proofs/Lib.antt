@@ -1,4 +1,5 @@
 -- Laws and theorems about the definition.
+pub mod ByteForm
 pub mod ByteLaws
 pub mod FieldLaws
 pub mod Good
