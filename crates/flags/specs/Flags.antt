@@ -1,0 +1,16 @@
+-- Flags in a number.
+use mathlib.Core.Bool.{Bool, false}
+use mathlib.Core.List.{List}
+use mathlib.Core.Path.{_≡_}
+use Prim.Native.Nat.{ℕ, _/_, _%_, _^_, _<_}
+use lib.Dec.{eqb}
+use lib.ListN.{getD}
+
+-- The flag of a place: the binary digit there.
+abbrev pub flagAt : ℕ → ℕ → Bool
+flagAt mask i = eqb (mask / 2 ^ i % 2) 1
+
+-- The flags of the first places of a row, and none above them.
+pub record Packed (mask : ℕ) (row : List Bool) (count : ℕ) : Type 0 where
+  pub small : mask < 2 ^ count
+  pub same : (i : ℕ) → i < count → flagAt mask i ≡ getD row i false

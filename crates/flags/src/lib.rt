@@ -1,0 +1,37 @@
+// Flags of up to 64 places in one number: a table of them for 32 structures is 256 bytes, not 2,048.
+ghost use mathlib.Core.Path.{_≡_};
+ghost use Prim.Native.Nat.{ℕ, _+_, _^_, _≤_, _<_};
+ghost use lib.ListN.{length};
+ghost use Rattle.flags.specs.Flags.{flagAt, Packed};
+
+// Is the flag of a place set?
+pub fn flag(mask: u64, i: usize) -> bool
+    requires { ⌜ i < 64 ⌝ }
+    ensures { λ r. ⌜ r ≡ flagAt mask i ⌝ }
+{
+    (mask >> i) % 2 == 1
+}
+
+// The flags with one more, above all that are set.
+fn with_flag(mask: u64, i: usize) -> u64
+    requires { ⌜ (i < 64) × (mask < 2 ^ i) ⌝ }
+    ensures { λ r. ⌜ r ≡ mask + 2 ^ i ⌝ }
+{
+    mask + (1 << i)
+}
+
+// The flags of the first places.
+pub fn packed(row: [bool; 64], count: usize) -> u64
+    requires { ⌜ count ≤ 64 ⌝ }
+    ensures { λ r. ⌜ Packed r row count ⌝ }
+{
+    let mut mask: u64 = 0;
+    let mut i: usize = 0;
+    while i < count {
+        if row[i] {
+            mask = with_flag(mask, i);
+        }
+        i += 1;
+    }
+    mask
+}
