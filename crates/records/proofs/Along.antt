@@ -1,18 +1,15 @@
 -- Loops along one or two stretches: what is left at an index, and a turn of each.
-use Prim.Native.Nat.{ℕ, zero, suc, _+_, _-_, _*_, _/_, _%_, _≤_, _<_}
-use native.Mathlib.Omega.{arith}
-use native.Mathlib.Numerals.{add-one}
-use mathlib.Core.Bool.{Bool, true, false, not, _&&_}
+use Prim.Native.Nat.{ℕ, suc, _+_, _-_, _≤_, _<_}
+use mathlib.Core.Bool.{Bool, true, false, _&&_}
 use mathlib.Core.List.{List, [], _∷_}
-use mathlib.Core.Path.{_≡_, refl, sym, _∙_, ap}
-use lib.Dec.{eqb, ltb, leb}
-use lib.ListN.{length, getD, take, drop, drop-of-length-le}
+use mathlib.Core.Path.{_≡_, refl, _∙_, ap}
+use lib.Dec.{eqb, ltb}
+use lib.ListN.{length, getD, drop, drop-of-length-le}
 use borrow.Author.Tests.{lt-ltb, le-ltb, ltb-true, ltb-false, eq-eqb, ne-eqb}
-use Rattle.definition.specs.Base.{pick, less, sameList, all}
-use Rattle.definition.specs.Records.{numbers}
-use Rattle.records.specs.Places.{twoAt, stretch}
+use Rattle.definition.specs.Base.{less, sameList, all}
+use Rattle.records.specs.Places.{stretch}
 use Rattle.records.proofs.Link.{one-more}
-use Rattle.records.proofs.Numbers.{length-stretch, stretch-at, length-numbers-in, numbers-in}
+use Rattle.records.proofs.Numbers.{length-stretch, stretch-at}
 
 -- What is left of a list at an index.
 module _ (xs : List ℕ) {n i : ℕ} (e : length xs ≡ n) where

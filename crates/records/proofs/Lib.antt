@@ -6,3 +6,5 @@ pub mod Numbers
 pub mod Along
 pub mod NameBytes
 pub mod Pairs
+pub mod Index
+pub mod Lists

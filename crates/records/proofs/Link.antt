@@ -47,6 +47,10 @@ module _ (s : List ℕ) (at : ℕ) where
   bad-is : fieldAt s at ≡ Bad → (length s < at + 3) ⊎ ((at + 3 ≤ length s) × (length s < at + 3 + twoAt s (at + 1)))
   bad-is e = rw e at seen
 
+-- A field whose letter was tested.
+pub got-letter : (s : List ℕ) (at : ℕ) {l letter start len next : ℕ} → fieldAt s at ≡ Got l start len next → l ≡ letter → fieldAt s at ≡ Got letter start len next
+got-letter s at e q = e ∙ rw q
+
 -- A byte at a position, and the rest; three bytes.
 pub one-more : (s : List ℕ) (at : ℕ) → at < length s → drop at s ≡ getD s at 0 ∷ drop (at + 1) s
 one-more s at h = rw (add-one, drop-cons s at 0)

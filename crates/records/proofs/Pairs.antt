@@ -1,11 +1,11 @@
 -- Numbers with the high byte first compare like their bytes.
-use Prim.Native.Nat.{ℕ, zero, suc, _+_, _*_, _/_, _%_, _≤_, _<_}
+use Prim.Native.Nat.{ℕ, suc, _+_, _*_, _/_, _%_, _≤_, _<_}
 use native.Mathlib.Omega.{arith}
 use mathlib.Core.Bool.{Bool, true, false, _&&_}
 use mathlib.Core.List.{List, [], _∷_}
-use mathlib.Core.Path.{_≡_, refl, sym, _∙_, ap}
+use mathlib.Core.Path.{_≡_, refl, sym, _∙_}
 use lib.Dec.{eqb, ltb}
-use lib.ListN.{length, getD, take, List·getD-eq-default}
+use lib.ListN.{length, getD, List·getD-eq-default}
 use lib.Seq.{take-all}
 use borrow.Author.Tests.{lt-ltb, le-ltb, ltb-true, ltb-false, eq-eqb, ne-eqb, eqb-true, eqb-false}
 use Rattle.definition.specs.Base.{pick, less, sameList}
@@ -38,27 +38,29 @@ module _ (x w y z : ℕ) (hw : w < 256) (hz : z < 256) where
       go true false p q = let k = eqb-false w z q in let e = eqb-true x y p in rw (ne-eqb (x * 256 + w) (y * 256 + z) (λ h. k (omega arith)))
       go false b p q = let k = eqb-false x y p in rw (ne-eqb (x * 256 + w) (y * 256 + z) (λ h. k (omega arith)))
 
+-- A test of two lists that goes member by member, and treats a number as its two bytes.
+module _ (test : List ℕ → List ℕ → Bool)
+    (none-left : (a b : ℕ) (cs bs : List ℕ) → test [] (a ∷ cs) ≡ test [] (b ∷ bs))
+    (none-right : (a b : ℕ) (cs bs : List ℕ) → test (a ∷ cs) [] ≡ test (b ∷ bs) [])
+    (two : (x w y z : ℕ) (xs ys ns ms : List ℕ) → w < 256 → z < 256 → test ns ms ≡ test xs ys → test ((x * 256 + w) ∷ ns) ((y * 256 + z) ∷ ms) ≡ test (x ∷ w ∷ xs) (y ∷ z ∷ ys)) where
+  pairs : (xs ys : List ℕ) → Bytes xs → Bytes ys → length xs % 2 ≡ 0 → length ys % 2 ≡ 0 → test (numbers xs) (numbers ys) ≡ test xs ys
+  unfolding numbers
+  pairs [] [] p q e f = refl
+  pairs [] (y ∷ []) p q e f = absurd (omega arith)
+  pairs [] (y ∷ z ∷ ys) p q e f = none-left _ _ _ _
+  pairs (x ∷ []) ys p q e f = absurd (omega arith)
+  pairs (x ∷ w ∷ xs) [] p q e f = none-right _ _ _ _
+  pairs (x ∷ w ∷ xs) (y ∷ []) p q e f = absurd (omega arith)
+  pairs (x ∷ w ∷ xs) (y ∷ z ∷ ys) p q e f =
+      two x w y z xs ys (numbers xs) (numbers ys) (p 1) (q 1) (pairs xs ys (λ i. p (suc (suc i))) (λ i. q (suc (suc i))) (omega arith) (omega arith))
+
 less-pairs : (xs ys : List ℕ) → Bytes xs → Bytes ys → length xs % 2 ≡ 0 → length ys % 2 ≡ 0 → less (numbers xs) (numbers ys) ≡ less xs ys
-unfolding less numbers
-less-pairs [] [] p q e f = refl
-less-pairs [] (y ∷ []) p q e f = absurd (omega arith)
-less-pairs [] (y ∷ z ∷ ys) p q e f = refl
-less-pairs (x ∷ []) ys p q e f = absurd (omega arith)
-less-pairs (x ∷ w ∷ xs) [] p q e f = refl
-less-pairs (x ∷ w ∷ xs) (y ∷ []) p q e f = absurd (omega arith)
-less-pairs (x ∷ w ∷ xs) (y ∷ z ∷ ys) p q e f =
-    rw (less-pairs xs ys (λ i. p (suc (suc i))) (λ i. q (suc (suc i))) (omega arith) (omega arith)) (less-two x w y z (p 1) (q 1) (less xs ys))
+unfolding less
+less-pairs = pairs less (λ a b cs bs. refl) (λ a b cs bs. refl) (λ x w y z xs ys ns ms p q e. rw e (less-two x w y z p q (less xs ys)))
 
 same-pairs : (xs ys : List ℕ) → Bytes xs → Bytes ys → length xs % 2 ≡ 0 → length ys % 2 ≡ 0 → sameList (numbers xs) (numbers ys) ≡ sameList xs ys
-unfolding sameList numbers
-same-pairs [] [] p q e f = refl
-same-pairs [] (y ∷ []) p q e f = absurd (omega arith)
-same-pairs [] (y ∷ z ∷ ys) p q e f = refl
-same-pairs (x ∷ []) ys p q e f = absurd (omega arith)
-same-pairs (x ∷ w ∷ xs) [] p q e f = refl
-same-pairs (x ∷ w ∷ xs) (y ∷ []) p q e f = absurd (omega arith)
-same-pairs (x ∷ w ∷ xs) (y ∷ z ∷ ys) p q e f =
-    rw (same-pairs xs ys (λ i. p (suc (suc i))) (λ i. q (suc (suc i))) (omega arith) (omega arith)) (same-two x w y z (p 1) (q 1) (sameList xs ys))
+unfolding sameList
+same-pairs = pairs sameList (λ a b cs bs. refl) (λ a b cs bs. refl) (λ x w y z xs ys ns ms p q e. rw e (same-two x w y z p q (sameList xs ys)))
 
 -- An odd byte at the end of a stretch is no number.
 module _ (s : List ℕ) (start len : ℕ) (h : start + len ≤ length s) where
@@ -81,8 +83,15 @@ stretch-bytes s start len h b i = go (ltb i len) refl
         rw (List·getD-eq-default (stretch s start len) 0 l) (omega arith)
 
 module _ (s : List ℕ) (a m b n : ℕ) (h : (a + m ≤ length s) × (b + n ≤ length s)) (bytes : Bytes s) where
+  -- A test of bytes that goes by pairs is one of numbers.
+  by-pairs : (test : List ℕ → List ℕ → Bool) → ((xs ys : List ℕ) → Bytes xs → Bytes ys → length xs % 2 ≡ 0 → length ys % 2 ≡ 0 → test (numbers xs) (numbers ys) ≡ test xs ys)
+      → test (stretch s a (m / 2 * 2)) (stretch s b (n / 2 * 2)) ≡ test (numbers (stretch s a m)) (numbers (stretch s b n))
+  by-pairs test k = sym (rw (even s a m (h .0), even s b n (h .1))
+      (k (stretch s a (m / 2 * 2)) (stretch s b (n / 2 * 2)) (stretch-bytes s a (m / 2 * 2) (omega (arith, h .0)) bytes) (stretch-bytes s b (n / 2 * 2) (omega (arith, h .1)) bytes)
+      (even-length s a m (h .0)) (even-length s b n (h .1))))
+
   pub less-numbers : less (stretch s a (m / 2 * 2)) (stretch s b (n / 2 * 2)) ≡ less (numbers (stretch s a m)) (numbers (stretch s b n))
-  less-numbers = sym (rw (even s a m (h .0), even s b n (h .1)) (less-pairs (stretch s a (m / 2 * 2)) (stretch s b (n / 2 * 2)) (stretch-bytes s a (m / 2 * 2) (omega (arith, h .0)) bytes) (stretch-bytes s b (n / 2 * 2) (omega (arith, h .1)) bytes) (even-length s a m (h .0)) (even-length s b n (h .1))))
+  less-numbers = by-pairs less less-pairs
 
   pub same-numbers : sameList (stretch s a (m / 2 * 2)) (stretch s b (n / 2 * 2)) ≡ sameList (numbers (stretch s a m)) (numbers (stretch s b n))
-  same-numbers = sym (rw (even s a m (h .0), even s b n (h .1)) (same-pairs (stretch s a (m / 2 * 2)) (stretch s b (n / 2 * 2)) (stretch-bytes s a (m / 2 * 2) (omega (arith, h .0)) bytes) (stretch-bytes s b (n / 2 * 2) (omega (arith, h .1)) bytes) (even-length s a m (h .0)) (even-length s b n (h .1))))
+  same-numbers = by-pairs sameList same-pairs

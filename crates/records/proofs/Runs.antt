@@ -2,12 +2,12 @@
 use Prim.Native.Nat.{ℕ, _+_, _≤_, _<_}
 use native.Mathlib.Omega.{arith}
 use mathlib.Core.List.{List, [], _∷_, _++_}
-use mathlib.Core.Path.{_≡_, refl, sym, _∙_, ap}
+use mathlib.Core.Path.{_≡_, refl}
 use lib.ListN.{length}
 use Rattle.definition.specs.Records.{Field}
 use Rattle.records.specs.Places.{fieldAt, fieldOf, Run, none, more}
 use Rattle.records.specs.declared.fields.Field.the-variants.{Got, Bad}
-use Rattle.records.proofs.Link.{GotAt, got-is}
+use Rattle.records.proofs.Link.{got-is}
 
 -- The first field of a run, and the run behind it.
 pub record Behind (s : List ℕ) (end letter start len next : ℕ) (fs : List Field) : Type 0 where

@@ -1,2 +1,3 @@
 -- What the contracts of this crate cite beside the definition.
 pub mod Places
+pub mod Held

@@ -1,6 +1,6 @@
 // Fields of a record: a letter, a two-byte length, content.
 ghost use mathlib.Core.Path.{_≡_};
-ghost use Prim.Native.Nat.{ℕ, _+_, _≤_, _<_};
+ghost use Prim.Native.Nat.{_+_, _≤_, _<_};
 ghost use lib.ListN.{length};
 ghost use Rattle.records.specs.Places.{twoAt, fieldAt, Ahead};
 
@@ -15,8 +15,22 @@ pub enum Field {
     Bad,
 }
 
-// A byte as a wider number.
-fn wide(x: u8) -> u16
+// A byte as a length or a place.
+pub fn wide(x: u8) -> usize
+    ensures { λ r. ⌜ (r ≡ x) × (r < 256) ⌝ }
+{
+    x as usize
+}
+
+// A number as a length or a place.
+pub fn place(x: u16) -> usize
+    ensures { λ r. ⌜ (r ≡ x) × (r < 65536) ⌝ }
+{
+    x as usize
+}
+
+// A byte as a number.
+fn short(x: u8) -> u16
     ensures { λ r. ⌜ (r ≡ x) × (r < 256) ⌝ }
 {
     x as u16
@@ -27,7 +41,7 @@ pub fn num(s: &[u8], at: usize) -> u16
     requires { ⌜ at + 2 ≤ length (now s) ⌝ }
     ensures { λ r. ⌜ r ≡ twoAt (now (s .entry)) at ⌝ }
 {
-    wide(s[at]) * 256 + wide(s[at + 1])
+    short(s[at]) * 256 + short(s[at + 1])
 }
 
 // The same as a length or a place.
@@ -36,7 +50,7 @@ pub fn two(s: &[u8], at: usize) -> usize
     ensures { λ r. ⌜ r ≡ twoAt (now (s .entry)) at ⌝ }
     ensures { λ r. ⌜ r < 65536 ⌝ }
 {
-    num(s, at) as usize
+    place(num(s, at))
 }
 
 // The field that starts at a position; Bad where it passes the end.

@@ -1,3 +1,4 @@
+-- Invariant: all bytes are good where all from index i on are.
 use Prim.Native.Nat.{_-_}
 use mathlib.Core.Path.{_≡_, refl, _∙_, sym, ap}
 use mathlib.Core.Bool.{not}

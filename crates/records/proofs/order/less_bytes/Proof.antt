@@ -1,3 +1,4 @@
+-- Invariant: the order from index i on is the order.
 use Prim.Native.Nat.{_-_}
 use mathlib.Core.Path.{_≡_, refl, _∙_, sym}
 use borrow.Author.Needs.{needs}

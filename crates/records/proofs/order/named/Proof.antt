@@ -1,3 +1,4 @@
+-- Invariant: all are below the limit where all from index i on are.
 use Prim.Native.Nat.{ℕ, _-_, _/_}
 use mathlib.Core.Path.{_≡_, refl, _∙_, sym}
 use lib.Dec.{ltb}

@@ -1,3 +1,4 @@
+-- Invariant: the two are the same where they are the same from index i on.
 use Prim.Native.Nat.{_-_}
 use mathlib.Core.Path.{_≡_, refl, _∙_, sym}
 use borrow.Author.Needs.{needs}

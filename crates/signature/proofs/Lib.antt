@@ -1,0 +1,6 @@
+pub mod Drawn
+pub mod Passing
+pub mod Checking
+pub mod Whole
+pub mod Symbols
+pub mod ByKind

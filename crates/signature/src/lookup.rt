@@ -1,0 +1,254 @@
+// Arities. A signature that was accepted is its bytes, its index and its counts, which are handed on together.
+ghost use mathlib.Core.Bool.{not};
+ghost use mathlib.Core.List.{List};
+ghost use mathlib.Core.Path.{_≡_};
+ghost use Prim.Native.Nat.{ℕ, _+_, _-_, _<_};
+ghost use lib.ListN.{length, getD};
+ghost use Rattle.definition.specs.Base.{empty, lastOf};
+ghost use Rattle.definition.specs.Signature as definition;
+ghost use Rattle.definition.specs.Signature.{symbolOf, typeParents, predOf, funcOf, columnCount, symbolCount, parentModel};
+ghost use Rattle.records.specs.Places.{twoAt};
+ghost use Rattle.records.specs.Held.{fieldIn};
+ghost use Rattle.signature.specs.Index.{indexSize, signatureAt, Indexed};
+ghost use Rattle.signature.specs.Entries.{Sits, Columned, AllNamed, modelOf, Named};
+use crate::ids::Counts;
+use crate::ids::EQUALITY;
+use crate::ids::FUNC_DOMAIN;
+use crate::ids::FUNCS_FROM;
+use crate::ids::FUNCTION;
+use crate::ids::FuncId;
+use crate::ids::INDEX;
+use crate::ids::MEMBER;
+use crate::ids::PREDICATE;
+use crate::ids::PREDS_FROM;
+use crate::ids::PredId;
+use crate::ids::TYPE_SET;
+use crate::ids::TYPES_FROM;
+use crate::ids::TypeId;
+use records::fields::num;
+use records::fields::place;
+use records::fields::two;
+use records::fields::wide;
+
+// The model that a symbol belongs to: its last parent.
+pub enum ParentModel {
+    Model(TypeId),
+    Nothing,
+}
+
+// The content of a field.
+struct Content {
+    start: usize,
+    len: usize,
+}
+
+// The content of the field at an entry of the index.
+fn content_at(s: &[u8], index: &[u16; INDEX], entry: usize) -> Content
+    requires { ⌜ entry < indexSize ⌝ }
+    requires { ⌜ Sits (now s) (getD (now index) entry 0) ⌝ }
+    ensures { λ r. ⌜ r .start ≡ getD (now (index .entry)) entry 0 + 3 ⌝ }
+    ensures { λ r. ⌜ r .len ≡ twoAt (now (s .entry)) (getD (now (index .entry)) entry 0 + 1) ⌝ }
+{
+    let at = place(index[entry]);
+    Content {
+        start: at + 3,
+        len: two(s, at + 1),
+    }
+}
+
+// The parents of a type.
+pub fn type_parents(s: &[u8], index: &[u16; INDEX], counts: Counts, t: TypeId) -> usize
+    requires { ⌜ Indexed (now s) (now index) counts ⌝ }
+    requires { ⌜ t .0 < counts .types ⌝ }
+    ensures { λ r. ⌜ r ≡ length (typeParents (signatureAt (now (s .entry)) (now (index .entry)) counts) (t .0)) ⌝ }
+{
+    let c = content_at(s, index, TYPES_FROM + place(t.0));
+    c.len / 2
+}
+
+pub fn type_parent(s: &[u8], index: &[u16; INDEX], counts: Counts, t: TypeId, i: usize) -> TypeId
+    requires { ⌜ Indexed (now s) (now index) counts ⌝ }
+    requires { ⌜ (t .0 < counts .types) × (i < length (typeParents (signatureAt (now s) (now index) counts) (t .0))) ⌝ }
+    ensures { λ r. ⌜ r .0 ≡ getD (typeParents (signatureAt (now (s .entry)) (now (index .entry)) counts) (t .0)) i 0 ⌝ }
+    ensures { λ r. ⌜ r .0 < counts .types ⌝ }
+{
+    let c = content_at(s, index, TYPES_FROM + place(t.0));
+    TypeId(num(s, c.start + 2 * i))
+}
+
+// Only a type with parents has a member relation.
+pub fn has_members(s: &[u8], index: &[u16; INDEX], counts: Counts, t: TypeId) -> bool
+    requires { ⌜ Indexed (now s) (now index) counts ⌝ }
+    requires { ⌜ t .0 < counts .types ⌝ }
+    ensures { λ r. ⌜ r ≡ not (empty (typeParents (signatureAt (now (s .entry)) (now (index .entry)) counts) (t .0))) ⌝ }
+{
+    0 < type_parents(s, index, counts, t)
+}
+
+// Of a predicate or function, by its entry: the columns in all, and its parents.
+fn columns(s: &[u8], index: &[u16; INDEX], entry: usize) -> usize
+    requires { ⌜ entry < indexSize ⌝ }
+    requires { ⌜ Columned (now s) (getD (now index) entry 0) ⌝ }
+    ensures { λ r. ⌜ r ≡ columnCount (symbolOf (fieldIn (now (s .entry)) (getD (now (index .entry)) entry 0))) ⌝ }
+{
+    let c = content_at(s, index, entry);
+    c.len / 2
+}
+
+fn parents(s: &[u8], index: &[u16; INDEX], entry: usize) -> usize
+    requires { ⌜ entry < indexSize ⌝ }
+    requires { ⌜ Columned (now s) (getD (now index) entry 0) ⌝ }
+    ensures { λ r. ⌜ r ≡ length (symbolOf (fieldIn (now (s .entry)) (getD (now (index .entry)) entry 0)) .parents) ⌝ }
+{
+    let c = content_at(s, index, entry);
+    let start = c.start;
+    wide(s[start])
+}
+
+fn parent(s: &[u8], index: &[u16; INDEX], entry: usize, i: usize) -> TypeId
+    requires { ⌜ (entry < indexSize) × (i < length (symbolOf (fieldIn (now s) (getD (now index) entry 0)) .parents)) ⌝ }
+    requires { ⌜ Columned (now s) (getD (now index) entry 0) ⌝ }
+    ensures { λ r. ⌜ r .0 ≡ getD (symbolOf (fieldIn (now (s .entry)) (getD (now (index .entry)) entry 0)) .parents) i 0 ⌝ }
+    ensures { λ r. ⌜ ((types : ℕ) → AllNamed types (now (s .entry)) (getD (now (index .entry)) entry 0) → r .0 < types) ⌝ }
+{
+    let c = content_at(s, index, entry);
+    TypeId(num(s, c.start + 1 + 2 * i))
+}
+
+fn model(s: &[u8], index: &[u16; INDEX], entry: usize) -> ParentModel
+    requires { ⌜ entry < indexSize ⌝ }
+    requires { ⌜ Columned (now s) (getD (now index) entry 0) ⌝ }
+    ensures { λ r. ⌜ modelOf r ≡ lastOf (symbolOf (fieldIn (now (s .entry)) (getD (now (index .entry)) entry 0)) .parents) ⌝ }
+    ensures { λ r. ⌜ ((types : ℕ) → AllNamed types (now (s .entry)) (getD (now (index .entry)) entry 0) → Named r types) ⌝ }
+{
+    let n = parents(s, index, entry);
+    if n == 0 {
+        return ParentModel::Nothing;
+    }
+    ParentModel::Model(parent(s, index, entry, n - 1))
+}
+
+// The same of a type.
+fn type_model(s: &[u8], index: &[u16; INDEX], counts: Counts, t: TypeId) -> ParentModel
+    requires { ⌜ Indexed (now s) (now index) counts ⌝ }
+    requires { ⌜ t .0 < counts .types ⌝ }
+    ensures { λ r. ⌜ modelOf r ≡ lastOf (typeParents (signatureAt (now (s .entry)) (now (index .entry)) counts) (t .0)) ⌝ }
+    ensures { λ r. ⌜ Named r (counts .types) ⌝ }
+{
+    let n = type_parents(s, index, counts, t);
+    if n == 0 {
+        return ParentModel::Nothing;
+    }
+    ParentModel::Model(type_parent(s, index, counts, t, n - 1))
+}
+
+// The columns and the parents of a predicate.
+pub fn pred_columns(s: &[u8], index: &[u16; INDEX], counts: Counts, p: PredId) -> usize
+    requires { ⌜ Indexed (now s) (now index) counts ⌝ }
+    requires { ⌜ p .0 < counts .preds ⌝ }
+    ensures { λ r. ⌜ r ≡ columnCount (predOf (signatureAt (now (s .entry)) (now (index .entry)) counts) (p .0)) ⌝ }
+{
+    columns(s, index, PREDS_FROM + place(p.0))
+}
+
+pub fn pred_parents(s: &[u8], index: &[u16; INDEX], counts: Counts, p: PredId) -> usize
+    requires { ⌜ Indexed (now s) (now index) counts ⌝ }
+    requires { ⌜ p .0 < counts .preds ⌝ }
+    ensures { λ r. ⌜ r ≡ length (predOf (signatureAt (now (s .entry)) (now (index .entry)) counts) (p .0) .parents) ⌝ }
+{
+    parents(s, index, PREDS_FROM + place(p.0))
+}
+
+pub fn pred_parent(s: &[u8], index: &[u16; INDEX], counts: Counts, p: PredId, i: usize) -> TypeId
+    requires { ⌜ Indexed (now s) (now index) counts ⌝ }
+    requires { ⌜ (p .0 < counts .preds) × (i < length (predOf (signatureAt (now s) (now index) counts) (p .0) .parents)) ⌝ }
+    ensures { λ r. ⌜ r .0 ≡ getD (predOf (signatureAt (now (s .entry)) (now (index .entry)) counts) (p .0) .parents) i 0 ⌝ }
+    ensures { λ r. ⌜ r .0 < counts .types ⌝ }
+{
+    parent(s, index, PREDS_FROM + place(p.0), i)
+}
+
+// The same of a function; its columns end with the result.
+pub fn func_columns(s: &[u8], index: &[u16; INDEX], counts: Counts, f: FuncId) -> usize
+    requires { ⌜ Indexed (now s) (now index) counts ⌝ }
+    requires { ⌜ f .0 < counts .funcs ⌝ }
+    ensures { λ r. ⌜ r ≡ columnCount (funcOf (signatureAt (now (s .entry)) (now (index .entry)) counts) (f .0)) ⌝ }
+{
+    columns(s, index, FUNCS_FROM + place(f.0))
+}
+
+pub fn func_parents(s: &[u8], index: &[u16; INDEX], counts: Counts, f: FuncId) -> usize
+    requires { ⌜ Indexed (now s) (now index) counts ⌝ }
+    requires { ⌜ f .0 < counts .funcs ⌝ }
+    ensures { λ r. ⌜ r ≡ length (funcOf (signatureAt (now (s .entry)) (now (index .entry)) counts) (f .0) .parents) ⌝ }
+{
+    parents(s, index, FUNCS_FROM + place(f.0))
+}
+
+pub fn func_parent(s: &[u8], index: &[u16; INDEX], counts: Counts, f: FuncId, i: usize) -> TypeId
+    requires { ⌜ Indexed (now s) (now index) counts ⌝ }
+    requires { ⌜ (f .0 < counts .funcs) × (i < length (funcOf (signatureAt (now s) (now index) counts) (f .0) .parents)) ⌝ }
+    ensures { λ r. ⌜ r .0 ≡ getD (funcOf (signatureAt (now (s .entry)) (now (index .entry)) counts) (f .0) .parents) i 0 ⌝ }
+    ensures { λ r. ⌜ r .0 < counts .types ⌝ }
+{
+    parent(s, index, FUNCS_FROM + place(f.0), i)
+}
+
+// The columns of a function without its result.
+pub fn flat_domain(s: &[u8], index: &[u16; INDEX], counts: Counts, f: FuncId) -> usize
+    requires { ⌜ Indexed (now s) (now index) counts ⌝ }
+    requires { ⌜ f .0 < counts .funcs ⌝ }
+    ensures { λ r. ⌜ r ≡ columnCount (funcOf (signatureAt (now (s .entry)) (now (index .entry)) counts) (f .0)) - 1 ⌝ }
+{
+    func_columns(s, index, counts, f) - 1
+}
+
+// How many symbols a kind can have.
+pub fn symbol_count(counts: Counts, kind: u8) -> usize
+    ensures { λ r. ⌜ ((s index : List ℕ) → r ≡ symbolCount (signatureAt s index counts) kind) ⌝ }
+{
+    match kind {
+        PREDICATE => counts.preds,
+        FUNCTION | FUNC_DOMAIN => counts.funcs,
+        MEMBER | EQUALITY | TYPE_SET => counts.types,
+        _ => 0,
+    }
+}
+
+// The columns of a statement.
+pub fn arity(s: &[u8], index: &[u16; INDEX], counts: Counts, kind: u8, symbol: u16) -> usize
+    requires { ⌜ Indexed (now s) (now index) counts ⌝ }
+    requires { ⌜ symbol < symbolCount (signatureAt (now s) (now index) counts) kind ⌝ }
+    ensures { λ r. ⌜ r ≡ definition.arity (signatureAt (now (s .entry)) (now (index .entry)) counts) kind symbol ⌝ }
+{
+    match kind {
+        PREDICATE => pred_columns(s, index, counts, PredId(symbol)),
+        FUNCTION => func_columns(s, index, counts, FuncId(symbol)),
+        MEMBER => type_parents(s, index, counts, TypeId(symbol)) + 1,
+        EQUALITY => 2,
+        TYPE_SET => 1,
+        FUNC_DOMAIN => flat_domain(s, index, counts, FuncId(symbol)),
+        _ => 0,
+    }
+}
+
+// The parent model of a statement's symbol; an Equality and a TypeSet have none.
+pub fn parent_model_type(
+    s: &[u8],
+    index: &[u16; INDEX],
+    counts: Counts,
+    kind: u8,
+    symbol: u16,
+) -> ParentModel
+    requires { ⌜ Indexed (now s) (now index) counts ⌝ }
+    requires { ⌜ symbol < symbolCount (signatureAt (now s) (now index) counts) kind ⌝ }
+    ensures { λ r. ⌜ modelOf r ≡ parentModel (signatureAt (now (s .entry)) (now (index .entry)) counts) kind symbol ⌝ }
+    ensures { λ r. ⌜ Named r (counts .types) ⌝ }
+{
+    match kind {
+        PREDICATE => model(s, index, PREDS_FROM + place(symbol)),
+        FUNCTION | FUNC_DOMAIN => model(s, index, FUNCS_FROM + place(symbol)),
+        MEMBER => type_model(s, index, counts, TypeId(symbol)),
+        _ => ParentModel::Nothing,
+    }
+}
