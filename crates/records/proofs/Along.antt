@@ -19,62 +19,79 @@ module _ (xs : List ℕ) {n i : ℕ} (e : length xs ≡ n) where
   left-end : n ≤ i → drop i xs ≡ []
   left-end h = let l : length xs ≤ i = rw e h in drop-of-length-le xs l
 
+-- What is left of a stretch at an index.
+unfoldable pub stretchFrom : List ℕ → ℕ → ℕ → ℕ → List ℕ
+stretchFrom s start len i = drop i (stretch s start len)
+
+module _ (s : List ℕ) (start len : ℕ) (h : start + len ≤ length s) (i : ℕ) where
+  pub stretch-on : i < len → stretchFrom s start len i ≡ getD s (start + i) 0 ∷ stretchFrom s start len (i + 1)
+  unfolding stretchFrom
+  stretch-on l = left-on (stretch s start len) (length-stretch s start len h) l (stretch-at s start len i l)
+
+  pub stretch-end : len ≤ i → stretchFrom s start len i ≡ []
+  unfolding stretchFrom
+  stretch-end l = left-end (stretch s start len) (length-stretch s start len h) l
+
+pub stretch-start : (s : List ℕ) (start len : ℕ) → stretch s start len ≡ stretchFrom s start len 0
+unfolding stretchFrom
+stretch-start s start len = refl
+
 -- The order of two stretches from an index on.
 unfoldable pub lessFrom : List ℕ → ℕ → ℕ → ℕ → ℕ → ℕ → Bool
-lessFrom s a m b n i = less (drop i (stretch s a m)) (drop i (stretch s b n))
+lessFrom s a m b n i = less (stretchFrom s a m i) (stretchFrom s b n i)
 
 unfoldable pub sameFrom : List ℕ → ℕ → ℕ → ℕ → ℕ → ℕ → Bool
-sameFrom s a m b n i = sameList (drop i (stretch s a m)) (drop i (stretch s b n))
+sameFrom s a m b n i = sameList (stretchFrom s a m i) (stretchFrom s b n i)
 
 module _ (s : List ℕ) (a m b n : ℕ) (h : (a + m ≤ length s) × (b + n ≤ length s)) (i : ℕ) where
-  fst-on : i < m → drop i (stretch s a m) ≡ getD s (a + i) 0 ∷ drop (i + 1) (stretch s a m)
-  fst-on l = left-on (stretch s a m) (length-stretch s a m (h .0)) l (stretch-at s a m i l)
+  first-on : i < m → stretchFrom s a m i ≡ getD s (a + i) 0 ∷ stretchFrom s a m (i + 1)
+  first-on = stretch-on s a m (h .0) i
 
-  snd-on : i < n → drop i (stretch s b n) ≡ getD s (b + i) 0 ∷ drop (i + 1) (stretch s b n)
-  snd-on l = left-on (stretch s b n) (length-stretch s b n (h .1)) l (stretch-at s b n i l)
+  second-on : i < n → stretchFrom s b n i ≡ getD s (b + i) 0 ∷ stretchFrom s b n (i + 1)
+  second-on = stretch-on s b n (h .1) i
 
-  fst-end : m ≤ i → drop i (stretch s a m) ≡ []
-  fst-end l = left-end (stretch s a m) (length-stretch s a m (h .0)) l
+  first-end : m ≤ i → stretchFrom s a m i ≡ []
+  first-end = stretch-end s a m (h .0) i
 
-  snd-end : n ≤ i → drop i (stretch s b n) ≡ []
-  snd-end l = left-end (stretch s b n) (length-stretch s b n (h .1)) l
+  second-end : n ≤ i → stretchFrom s b n i ≡ []
+  second-end = stretch-end s b n (h .1) i
 
   pub less-short : i < m → n ≤ i → lessFrom s a m b n i ≡ false
   unfolding lessFrom less
-  less-short l k = rw (fst-on l, snd-end k)
+  less-short l k = rw (first-on l, second-end k)
 
   pub less-yes : i < m → i < n → getD s (a + i) 0 < getD s (b + i) 0 → lessFrom s a m b n i ≡ true
   unfolding lessFrom less
-  less-yes l k q = rw (fst-on l, snd-on k, lt-ltb _ _ q)
+  less-yes l k q = rw (first-on l, second-on k, lt-ltb _ _ q)
 
   pub less-no : i < m → i < n → getD s (b + i) 0 ≤ getD s (a + i) 0 → getD s (b + i) 0 < getD s (a + i) 0 → lessFrom s a m b n i ≡ false
   unfolding lessFrom less
-  less-no l k p q = rw (fst-on l, snd-on k, le-ltb _ _ p, lt-ltb _ _ q)
+  less-no l k p q = rw (first-on l, second-on k, le-ltb _ _ p, lt-ltb _ _ q)
 
   pub less-on : i < m → i < n → getD s (b + i) 0 ≤ getD s (a + i) 0 → getD s (a + i) 0 ≤ getD s (b + i) 0
       → lessFrom s a m b n i ≡ lessFrom s a m b n (i + 1)
   unfolding lessFrom less
-  less-on l k p q = rw (fst-on l, snd-on k, le-ltb _ _ p, le-ltb _ _ q)
+  less-on l k p q = rw (first-on l, second-on k, le-ltb _ _ p, le-ltb _ _ q)
 
   pub less-end : m ≤ i → ltb i n ≡ lessFrom s a m b n i
   unfolding lessFrom less
-  less-end l = rw (fst-end l) (go (ltb i n) refl)
+  less-end l = rw (first-end l) (go (ltb i n) refl)
     where
-      go : (t : Bool) → ltb i n ≡ t → t ≡ less [] (drop i (stretch s b n))
-      go true e = rw (snd-on (ltb-true _ _ e))
-      go false e = rw (snd-end (ltb-false _ _ e))
+      go : (t : Bool) → ltb i n ≡ t → t ≡ less [] (stretchFrom s b n i)
+      go true e = rw (second-on (ltb-true _ _ e))
+      go false e = rw (second-end (ltb-false _ _ e))
 
   pub same-no : i < m → i < n → (getD s (a + i) 0 ≡ getD s (b + i) 0 → ⊥) → sameFrom s a m b n i ≡ false
   unfolding sameFrom sameList
-  same-no l k q = rw (fst-on l, snd-on k, ne-eqb _ _ q)
+  same-no l k q = rw (first-on l, second-on k, ne-eqb _ _ q)
 
   pub same-on : i < m → i < n → getD s (a + i) 0 ≡ getD s (b + i) 0 → sameFrom s a m b n i ≡ sameFrom s a m b n (i + 1)
   unfolding sameFrom sameList
-  same-on l k q = rw (fst-on l, snd-on k, eq-eqb _ _ q)
+  same-on l k q = rw (first-on l, second-on k, eq-eqb _ _ q)
 
   pub same-end : m ≤ i → n ≤ i → sameFrom s a m b n i ≡ true
   unfolding sameFrom sameList
-  same-end l k = rw (fst-end l, snd-end k)
+  same-end l k = rw (first-end l, second-end k)
 
 -- Lists of different lengths are not the same.
 same-length : (xs ys : List ℕ) → (length xs ≡ length ys → ⊥) → sameList xs ys ≡ false
@@ -113,9 +130,9 @@ unfolding allFrom
 all-start p xs = refl
 
 pub less-start : (s : List ℕ) (a m b n : ℕ) → less (stretch s a m) (stretch s b n) ≡ lessFrom s a m b n 0
-unfolding lessFrom
+unfolding lessFrom stretchFrom
 less-start s a m b n = refl
 
 pub same-start : (s : List ℕ) (a m b n : ℕ) → sameList (stretch s a m) (stretch s b n) ≡ sameFrom s a m b n 0
-unfolding sameFrom
+unfolding sameFrom stretchFrom
 same-start s a m b n = refl

@@ -8,3 +8,5 @@ pub mod NameBytes
 pub mod Pairs
 pub mod Index
 pub mod Lists
+pub mod Tail
+pub mod Decimal

@@ -1,3 +1,4 @@
 pub mod fields;
 pub mod names;
 pub mod order;
+pub mod write;

@@ -49,7 +49,7 @@ pub fn same_bytes(s: &[u8], a: usize, m: usize, b: usize, n: usize) -> bool
     true
 }
 
-// The same of the numbers that stand there. The high byte comes first, so numbers compare like their bytes; an odd byte at the end is none.
+// The same of the numbers that stand there: with the high byte first they compare like their bytes. An odd byte at the end is no number.
 pub fn less_numbers(s: &[u8], a: usize, m: usize, b: usize, n: usize) -> bool
     requires { ⌜ (a + m ≤ length (now s)) × (b + n ≤ length (now s)) ⌝ }
     ensures { λ r. ⌜ r ≡ less (numbers (stretch (now (s .entry)) a m)) (numbers (stretch (now (s .entry)) b n)) ⌝ }
@@ -57,6 +57,7 @@ pub fn less_numbers(s: &[u8], a: usize, m: usize, b: usize, n: usize) -> bool
     less_bytes(s, a, m / 2 * 2, b, n / 2 * 2)
 }
 
+// Are they the same numbers?
 pub fn same_numbers(s: &[u8], a: usize, m: usize, b: usize, n: usize) -> bool
     requires { ⌜ (a + m ≤ length (now s)) × (b + n ≤ length (now s)) ⌝ }
     ensures { λ r. ⌜ r ≡ sameList (numbers (stretch (now (s .entry)) a m)) (numbers (stretch (now (s .entry)) b n)) ⌝ }

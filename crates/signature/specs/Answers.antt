@@ -30,14 +30,16 @@ abbrev CheckedAs : Checked → List ℕ → List ℕ → ℕ → ℕ → ℕ →
 CheckedAs (checked.Refused n) s index letter types from fs = faultAmong letter (checkOf letter types) fs ≡ some n
 CheckedAs (checked.Count n) s index letter types from fs = (faultAmong letter (checkOf letter types) fs ≡ none) × (heldAt s index from n ≡ withLetter letter fs)
 
+-- The same, in a form by which its arguments are found.
 pub record Checks (r : Checked) (s index : List ℕ) (letter types from : ℕ) (fs : List Field) : Type 0 where
   pub is : CheckedAs r s index letter types from fs
 
--- The index after the check: as it was before its entries, and they are sound.
+-- The new entries after the check: where none was refused, they are sound.
 abbrev HeldBy : Checked → List ℕ → List ℕ → ℕ → ℕ → ℕ → Type 0
 HeldBy (checked.Refused n) s index letter types from = Unit
 HeldBy (checked.Count n) s index letter types from = Held s index letter types from n
 
+-- The index after the check: as it was in front of the new entries.
 pub record Stored (r : Checked) (s index₀ index : List ℕ) (letter types from : ℕ) : Type 0 where
   pub long : length index ≡ indexSize
   pub kept : (i : ℕ) → i < from → getD index i 0 ≡ getD index₀ i 0

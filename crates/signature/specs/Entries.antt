@@ -25,11 +25,12 @@ pub record Columned (s : List ℕ) (p : ℕ) : Type 0 where
 pub record AllNamed (types : ℕ) (s : List ℕ) (p : ℕ) : Type 0 where
   pub is : named types (columnsOf (fieldIn s p .content)) ≡ true
 
--- The model as the definition's, and that it is one of the types.
+-- The model as the definition's.
 abbrev pub modelOf : ParentModel → Option ℕ
 modelOf (Model t) = some (t .0)
 modelOf Nothing = none
 
+-- The model is one of so many types.
 abbrev pub Named : ParentModel → ℕ → Type 0
 Named (Model t) types = t .0 < types
 Named Nothing types = Unit

@@ -18,6 +18,7 @@ abbrev pub faultOf : Fault → Option ℕ
 faultOf Sound = none
 faultOf (Draws n) = some n
 
+-- The number that it draws; 0 where there is none.
 abbrev pub drawnBy : Fault → ℕ
 drawnBy Sound = 0
 drawnBy (Draws n) = n

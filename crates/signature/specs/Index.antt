@@ -14,16 +14,19 @@ use Rattle.records.specs.Held.{fieldIn, heldAt}
 use Rattle.signature.specs.Faults.{checkOf}
 use Rattle.signature.specs.declared.ids.Counts.{Counts}
 
--- Where the entries of each letter begin, and how many entries there are.
+-- Where the positions of the T fields begin.
 abbrev pub typesFrom : ℕ
 typesFrom = 0
 
+-- Where those of the P fields do: each letter has room for its limit.
 abbrev pub predsFrom : ℕ
 predsFrom = symbolLimit
 
+-- Where those of the F fields do.
 abbrev pub funcsFrom : ℕ
 funcsFrom = 2 * symbolLimit
 
+-- How many entries there are.
 abbrev pub indexSize : ℕ
 indexSize = 3 * symbolLimit
 

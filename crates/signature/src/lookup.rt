@@ -56,7 +56,7 @@ fn content_at(s: &[u8], index: &[u16; INDEX], entry: usize) -> Content
     }
 }
 
-// The parents of a type.
+// How many parents a type has.
 pub fn type_parents(s: &[u8], index: &[u16; INDEX], counts: Counts, t: TypeId) -> usize
     requires { ⌜ Indexed (now s) (now index) counts ⌝ }
     requires { ⌜ t .0 < counts .types ⌝ }
@@ -66,6 +66,7 @@ pub fn type_parents(s: &[u8], index: &[u16; INDEX], counts: Counts, t: TypeId) -
     c.len / 2
 }
 
+// One of them.
 pub fn type_parent(s: &[u8], index: &[u16; INDEX], counts: Counts, t: TypeId, i: usize) -> TypeId
     requires { ⌜ Indexed (now s) (now index) counts ⌝ }
     requires { ⌜ (t .0 < counts .types) × (i < length (typeParents (signatureAt (now s) (now index) counts) (t .0))) ⌝ }
@@ -85,7 +86,7 @@ pub fn has_members(s: &[u8], index: &[u16; INDEX], counts: Counts, t: TypeId) ->
     0 < type_parents(s, index, counts, t)
 }
 
-// Of a predicate or function, by its entry: the columns in all, and its parents.
+// Of a predicate or function, by its entry: how many columns it has in all.
 fn columns(s: &[u8], index: &[u16; INDEX], entry: usize) -> usize
     requires { ⌜ entry < indexSize ⌝ }
     requires { ⌜ Columned (now s) (getD (now index) entry 0) ⌝ }
@@ -95,6 +96,7 @@ fn columns(s: &[u8], index: &[u16; INDEX], entry: usize) -> usize
     c.len / 2
 }
 
+// How many of them are parents.
 fn parents(s: &[u8], index: &[u16; INDEX], entry: usize) -> usize
     requires { ⌜ entry < indexSize ⌝ }
     requires { ⌜ Columned (now s) (getD (now index) entry 0) ⌝ }
@@ -105,6 +107,7 @@ fn parents(s: &[u8], index: &[u16; INDEX], entry: usize) -> usize
     wide(s[start])
 }
 
+// One of the parents.
 fn parent(s: &[u8], index: &[u16; INDEX], entry: usize, i: usize) -> TypeId
     requires { ⌜ (entry < indexSize) × (i < length (symbolOf (fieldIn (now s) (getD (now index) entry 0)) .parents)) ⌝ }
     requires { ⌜ Columned (now s) (getD (now index) entry 0) ⌝ }
@@ -115,6 +118,7 @@ fn parent(s: &[u8], index: &[u16; INDEX], entry: usize, i: usize) -> TypeId
     TypeId(num(s, c.start + 1 + 2 * i))
 }
 
+// The last of the parents.
 fn model(s: &[u8], index: &[u16; INDEX], entry: usize) -> ParentModel
     requires { ⌜ entry < indexSize ⌝ }
     requires { ⌜ Columned (now s) (getD (now index) entry 0) ⌝ }
@@ -128,7 +132,7 @@ fn model(s: &[u8], index: &[u16; INDEX], entry: usize) -> ParentModel
     ParentModel::Model(parent(s, index, entry, n - 1))
 }
 
-// The same of a type.
+// The last parent of a type.
 fn type_model(s: &[u8], index: &[u16; INDEX], counts: Counts, t: TypeId) -> ParentModel
     requires { ⌜ Indexed (now s) (now index) counts ⌝ }
     requires { ⌜ t .0 < counts .types ⌝ }
@@ -142,7 +146,7 @@ fn type_model(s: &[u8], index: &[u16; INDEX], counts: Counts, t: TypeId) -> Pare
     ParentModel::Model(type_parent(s, index, counts, t, n - 1))
 }
 
-// The columns and the parents of a predicate.
+// How many columns a predicate has.
 pub fn pred_columns(s: &[u8], index: &[u16; INDEX], counts: Counts, p: PredId) -> usize
     requires { ⌜ Indexed (now s) (now index) counts ⌝ }
     requires { ⌜ p .0 < counts .preds ⌝ }
@@ -151,6 +155,7 @@ pub fn pred_columns(s: &[u8], index: &[u16; INDEX], counts: Counts, p: PredId) -
     columns(s, index, PREDS_FROM + place(p.0))
 }
 
+// How many of them are parents.
 pub fn pred_parents(s: &[u8], index: &[u16; INDEX], counts: Counts, p: PredId) -> usize
     requires { ⌜ Indexed (now s) (now index) counts ⌝ }
     requires { ⌜ p .0 < counts .preds ⌝ }
@@ -159,6 +164,7 @@ pub fn pred_parents(s: &[u8], index: &[u16; INDEX], counts: Counts, p: PredId) -
     parents(s, index, PREDS_FROM + place(p.0))
 }
 
+// One of the parents.
 pub fn pred_parent(s: &[u8], index: &[u16; INDEX], counts: Counts, p: PredId, i: usize) -> TypeId
     requires { ⌜ Indexed (now s) (now index) counts ⌝ }
     requires { ⌜ (p .0 < counts .preds) × (i < length (predOf (signatureAt (now s) (now index) counts) (p .0) .parents)) ⌝ }
@@ -168,7 +174,7 @@ pub fn pred_parent(s: &[u8], index: &[u16; INDEX], counts: Counts, p: PredId, i:
     parent(s, index, PREDS_FROM + place(p.0), i)
 }
 
-// The same of a function; its columns end with the result.
+// How many columns a function has; the last is its result.
 pub fn func_columns(s: &[u8], index: &[u16; INDEX], counts: Counts, f: FuncId) -> usize
     requires { ⌜ Indexed (now s) (now index) counts ⌝ }
     requires { ⌜ f .0 < counts .funcs ⌝ }
@@ -177,6 +183,7 @@ pub fn func_columns(s: &[u8], index: &[u16; INDEX], counts: Counts, f: FuncId) -
     columns(s, index, FUNCS_FROM + place(f.0))
 }
 
+// How many of them are parents.
 pub fn func_parents(s: &[u8], index: &[u16; INDEX], counts: Counts, f: FuncId) -> usize
     requires { ⌜ Indexed (now s) (now index) counts ⌝ }
     requires { ⌜ f .0 < counts .funcs ⌝ }
@@ -185,6 +192,7 @@ pub fn func_parents(s: &[u8], index: &[u16; INDEX], counts: Counts, f: FuncId) -
     parents(s, index, FUNCS_FROM + place(f.0))
 }
 
+// One of the parents.
 pub fn func_parent(s: &[u8], index: &[u16; INDEX], counts: Counts, f: FuncId, i: usize) -> TypeId
     requires { ⌜ Indexed (now s) (now index) counts ⌝ }
     requires { ⌜ (f .0 < counts .funcs) × (i < length (funcOf (signatureAt (now s) (now index) counts) (f .0) .parents)) ⌝ }
