@@ -1,0 +1,181 @@
+-- The rules and their entries in the index.
+use Prim.Native.Nat.{ℕ, _+_, _≤_, _<_}
+use native.Mathlib.Omega.{arith}
+use native.Mathlib.Decide.{ℕ-discrete}
+use mathlib.Core.List.{List, [], _∷_, _++_, append-assoc, append-nil}
+use mathlib.Core.Option.{Option, none, some}
+use mathlib.Core.Path.{_≡_, refl, sym, _∙_, ap}
+use lib.ListN.{length, getD, set, length-set, length-append, List·getD-append}
+use lib.Seq.{getD-set-same, getD-set-other, getD-at}
+use Rattle.definition.specs.Base.{pick, orElse}
+use Rattle.definition.specs.Letters.{letterU, letterB, letterH}
+use Rattle.definition.specs.Limits.{ruleLimit}
+use Rattle.definition.specs.Records.{Field, Block, blocks, faultAmong}
+use Rattle.definition.specs.Signature.{Signature}
+use Rattle.definition.specs.Group.{premiseKinds, conclusionKinds, flatRuleFault, statementFault, flatRulesFault}
+use Rattle.records.specs.Places.{Run, none, more}
+use Rattle.records.proofs.Runs.{run-end}
+use Rattle.group.specs.Sections.{AtRule, blockFault}
+use Rattle.group.specs.Index.{rulesFrom, conclusionsFrom, indexSize, ruleAt, conclusionsAt, ruleEnd, RuleAt, noBlock, Rules}
+use Rattle.group.specs.Answers.{Rule, RuleRead, ruleOf, AllRules, Kept}
+use Rattle.group.specs.declared.reader.Checked.the-variants as checked
+use Rattle.group.specs.declared.reader.Ruled.the-variants as ruled
+
+-- The faults of the first rule come before those of the others.
+module _ (sig : Signature) (variables before : ℕ) (b : Block) (bs : List Block) where
+  first-rule : flatRulesFault sig variables before (b ∷ bs) ≡ orElse (blockFault sig variables before b) (flatRulesFault sig variables (before + 1) bs)
+  unfolding flatRulesFault blockFault
+  first-rule = go (flatRuleFault before (b .head)) (faultAmong letterB (statementFault sig premiseKinds variables) (b .body))
+      (faultAmong letterH (statementFault sig conclusionKinds variables) (b .body)) (flatRulesFault sig variables (before + 1) bs)
+    where
+      go : (w x y z : Option ℕ) → orElse w (orElse x (orElse y z)) ≡ orElse (orElse w (orElse x y)) z
+      go (some n) x y z = refl
+      go none (some n) y z = refl
+      go none none y z = refl
+
+-- The entries so far: each rule ends where the next one starts, the last one at a position.
+pub record Entered (index₀ index : List ℕ) (at count : ℕ) : Type 0 where
+  pub size : length index ≡ indexSize
+  pub few : count ≤ ruleLimit
+  pub kept : Kept index₀ index
+  pub here : getD index (rulesFrom + count) 0 ≡ at
+
+-- The first entry is where the rules start.
+pub entered-start : (index : List ℕ) (from : ℕ) → length index ≡ indexSize → Entered (set index rulesFrom from) (set index rulesFrom from) from 0
+entered-start index from l = record {
+  size = length-set index rulesFrom from ∙ l;
+  few = omega arith;
+  kept = record { same = λ i h. refl };
+  here = getD-set-same index rulesFrom from 0 (omega arith);
+}
+
+pub kept-start : {index index′ : List ℕ} (from : ℕ) → Kept (set index rulesFrom from) index′ → Kept index index′
+kept-start {index} from k = record { same = λ i h. k .same i h ∙ getD-set-other index rulesFrom i from 0 (λ q. omega arith) }
+
+-- One rule more: where its conclusions start, and where it ends.
+abbrev pub entered : List ℕ → ℕ → ℕ → ℕ → List ℕ
+entered index count conclusions next = set (set index (conclusionsFrom + count) conclusions) (rulesFrom + count + 1) next
+
+module _ {index₀ index : List ℕ} {at count : ℕ} (w : Entered index₀ index at count) (few : count < ruleLimit) (conclusions next : ℕ) where
+  -- Entries other than the two new ones.
+  other : (i : ℕ) → (conclusionsFrom + count ≡ i → ⊥) → (rulesFrom + count + 1 ≡ i → ⊥) → getD (entered index count conclusions next) i 0 ≡ getD index i 0
+  other i p q = getD-set-other (set index (conclusionsFrom + count) conclusions) (rulesFrom + count + 1) i next 0 (λ e. q (omega arith))
+      ∙ getD-set-other index (conclusionsFrom + count) i conclusions 0 (λ e. p (omega arith))
+
+  new-end : ruleEnd (entered index count conclusions next) count ≡ next
+  new-end = getD-set-same (set index (conclusionsFrom + count) conclusions) (rulesFrom + count + 1) next 0 (rw length-set (omega (arith, w .size)))
+
+  new-conclusions : conclusionsAt (entered index count conclusions next) count ≡ conclusions
+  new-conclusions = getD-set-other (set index (conclusionsFrom + count) conclusions) (rulesFrom + count + 1) (conclusionsFrom + count) next 0 (λ e. omega arith)
+      ∙ getD-set-same index (conclusionsFrom + count) conclusions 0 (omega (arith, w .size))
+
+  new-rule : ruleAt (entered index count conclusions next) count ≡ at
+  new-rule = other (rulesFrom + count) (λ e. omega arith) (λ e. omega arith) ∙ w .here
+
+  pub entered-next : Entered index₀ (entered index count conclusions next) next (count + 1)
+  entered-next =
+      let e : rulesFrom + (count + 1) ≡ rulesFrom + count + 1 = omega arith in
+      record {
+        size = rw (length-set, length-set) (w .size);
+        few = omega arith;
+        kept = record { same = λ i h. other i (λ q. omega arith) (λ q. omega arith) ∙ w .kept .same i h };
+        here = rw e new-end;
+      }
+
+  module _ {sig : Signature} {variables : ℕ} {s : List ℕ} where
+    -- The rules entered before stay as they were.
+    rule-kept : {k : ℕ} {b : Block} → k < count → RuleAt sig variables s index k b → RuleAt sig variables s (entered index count conclusions next) k b
+    rule-kept {k} h r =
+        let a : ruleAt (entered index count conclusions next) k ≡ ruleAt index k = other (rulesFrom + k) (λ e. omega arith) (λ e. omega arith) in
+        let c : conclusionsAt (entered index count conclusions next) k ≡ conclusionsAt index k = other (conclusionsFrom + k) (λ e. omega arith) (λ e. omega arith) in
+        let e : ruleEnd (entered index count conclusions next) k ≡ ruleEnd index k = other (rulesFrom + k + 1) (λ e. omega arith) (λ e. omega arith) in
+        record {
+          head = rw a (r .head);
+          within = rw a (r .within);
+          premise = rw (a, c) (r .premise);
+          conclusion = rw (c, e) (r .conclusion);
+          premise-sound = r .premise-sound;
+          conclusion-sound = r .conclusion-sound;
+        }
+
+    rule-new : {end : ℕ} {f : Field} {fs : List Field} → RuleRead sig variables s at conclusions next end f fs → RuleAt sig variables s (entered index count conclusions next) count (ruleOf f fs)
+    rule-new r = record {
+      head = rw new-rule (r .head);
+      within = rw new-rule (r .within);
+      premise = rw (new-rule, new-conclusions) (r .premise);
+      conclusion = rw (new-conclusions, new-end) (r .conclusion);
+      premise-sound = r .premise-sound;
+      conclusion-sound = r .conclusion-sound;
+    }
+
+-- The check of the rules stands at a position, behind so many rules: what is left gives the answer.
+pub record Ruling (sig : Signature) (variables : ℕ) (s index : List ℕ) (end : ℕ) (fs : List Field) (at count : ℕ) : Type 0 where
+  pub done : List Block
+  pub rest : List Field
+  pub run : Run s at end rest
+  pub order : AtRule rest
+  pub split : blocks letterU fs ≡ done ++ blocks letterU rest
+  pub counted : length done ≡ count
+  pub fault : flatRulesFault sig variables 0 (blocks letterU fs) ≡ flatRulesFault sig variables count (blocks letterU rest)
+  pub each : (k : ℕ) → k < count → RuleAt sig variables s index k (getD done k noBlock)
+
+pub ruling-start : {sig : Signature} {variables : ℕ} {s index : List ℕ} {end from : ℕ} {fs : List Field} → Run s from end fs → AtRule fs
+    → Ruling sig variables s index end fs from 0
+ruling-start {fs = fs} r o = record { done = []; rest = fs; run = r; order = o; split = refl; counted = refl; fault = refl; each = λ k h. absurd (omega arith) }
+
+-- What is left begins with a rule.
+record Begins (s : List ℕ) (at end : ℕ) (rest : List Field) : Type 0 where
+  head : Field
+  tail : List Field
+  same : rest ≡ head ∷ tail
+  run : Run s at end (head ∷ tail)
+  order : AtRule (head ∷ tail)
+  first : blocks letterU rest ≡ ruleOf head tail ∷ blocks letterU tail
+
+begins : {s : List ℕ} {at end : ℕ} (rest : List Field) → at < end → Run s at end rest → AtRule rest → Begins s at end rest
+unfolding blocks
+begins [] lt none o = absurd (omega arith)
+begins (f ∷ fs) lt r o = record { head = f; tail = fs; same = refl; run = r; order = o; first = rw (o .0) }
+
+module _ {sig : Signature} {variables : ℕ} {s index : List ℕ} {end : ℕ} {fs : List Field} {at count : ℕ} (w : Ruling sig variables s index end fs at count) where
+  pub ruling-end : count ≤ ruleLimit → end ≤ at → AllRules (checked.Upto count at) sig variables s index fs
+  unfolding blocks flatRulesFault
+  ruling-end few h =
+      let e = run-end (w .run) h in
+      let b : blocks letterU fs ≡ w .done = w .split ∙ rw (e, append-nil) in
+      record { is = (w .fault ∙ rw e, record { few = few; counted = rw b (w .counted); each = rw b (w .each) }) }
+
+  module _ (lt : at < end) where
+    here : Begins s at end (w .rest)
+    here = begins (w .rest) lt (w .run) (w .order)
+
+    pub ruling-fault : {n : ℕ} → ((f : Field) (gs : List Field) → Run s at end (f ∷ gs) → AtRule (f ∷ gs) → Rule (ruled.Refused n) sig variables count s at end f gs)
+        → AllRules (checked.Refused n) sig variables s index fs
+    ruling-fault q =
+        let b = here in
+        record { is = w .fault ∙ rw (b .first, first-rule sig variables count (ruleOf (b .head) (b .tail)) (blocks letterU (b .tail)), q (b .head) (b .tail) (b .run) (b .order) .is) }
+
+    pub ruling-next : {index₀ : List ℕ} {conclusions next : ℕ} → Entered index₀ index at count → count < ruleLimit
+        → ((f : Field) (gs : List Field) → Run s at end (f ∷ gs) → AtRule (f ∷ gs) → Rule (ruled.Upto conclusions next) sig variables count s at end f gs)
+        → Ruling sig variables s (entered index count conclusions next) end fs next (count + 1)
+    ruling-next {index₀} {conclusions} {next} v few q =
+        let b = here in
+        let r = q (b .head) (b .tail) (b .run) (b .order) .is in
+        let e : blocks letterU (w .rest) ≡ ruleOf (b .head) (b .tail) ∷ blocks letterU (r .1 .rest) = b .first ∙ rw (r .1 .others) in
+        record {
+          done = w .done ++ (ruleOf (b .head) (b .tail) ∷ []);
+          rest = r .1 .rest;
+          run = r .1 .run;
+          order = r .1 .order;
+          split = w .split ∙ rw (e, append-assoc);
+          counted = length-append (w .done) (ruleOf (b .head) (b .tail) ∷ []) ∙ rw (w .counted);
+          fault = w .fault ∙ rw (e, first-rule sig variables count (ruleOf (b .head) (b .tail)) (blocks letterU (r .1 .rest)), r .0);
+          each = λ k h. each k h (ruleOf (b .head) (b .tail)) (rule-new v few conclusions next (r .1)) (ℕ-discrete k count);
+        }
+      where
+        each : (k : ℕ) → k < count + 1 → (b : Block) → RuleAt sig variables s (entered index count conclusions next) count b → Dec (k ≡ count)
+            → RuleAt sig variables s (entered index count conclusions next) k (getD (w .done ++ (b ∷ [])) k noBlock)
+        each k h b r (yes e) = rw (e, getD-at (w .done) b [] noBlock count (w .counted)) r
+        each k h b r (no n) =
+            let l : k < count = omega (arith, n) in
+            rw (List·getD-append (w .done) (b ∷ []) noBlock k (rw (w .counted) l)) (rule-kept v few conclusions next l (w .each k l))

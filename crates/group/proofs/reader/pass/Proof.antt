@@ -1,0 +1,62 @@
+use Prim.Native.Nat.{_-_}
+use native.Mathlib.Omega.{arith}
+use mathlib.Core.Path.{sym, _∙_}
+use lib.ListN.{length}
+use borrow.Author.Tests.{not-true, not-false}
+use borrow.Author.Needs.{needs}
+use Rattle.group.proofs.Passing.{Passing, pass-start, pass-next, pass-stop, pass-bad, pass-end}
+use Rattle.group.proofs.reader.pass.Statement.{statement}
+use Rattle.group.proofs.reader.pass.Tie as tie
+
+abbrev Inv-loop : tie.InvT-loop
+Inv-loop s at₀ behind₀ at behind = Passing s at behind
+
+abbrev μ-loop : tie.MeasureT-loop
+μ-loop s at₀ behind₀ at behind = length s - at
+
+loop-holds : tie.Need-loop-holds Inv-loop μ-loop
+loop-holds c = pass-start _
+
+read-field-requires : tie.Need-read-field-requires Inv-loop μ-loop
+read-field-requires c κs = search needs
+
+enum-known-f : tie.Need-enum-known-f Inv-loop μ-loop
+enum-known-f c = search needs
+
+enum-told : tie.Need-enum-told Inv-loop μ-loop
+enum-told c = search needs
+
+returns : tie.Need-returns Inv-loop μ-loop
+returns c = pass-bad (c .before .before .before .before .loop .inv) (c .before .before .before .loop-test .taken) (sym (c .before .before .read-field .ensures .0) ∙ c .enum-told .given .1)
+
+may-follow-requires : tie.Need-may-follow-requires Inv-loop μ-loop
+may-follow-requires c κs = search needs
+
+returns-2 : tie.Need-returns-2 Inv-loop μ-loop
+returns-2 c = pass-stop (c .before .before .before .before .before .before .before .loop .inv) (sym (c .before .before .before .before .before .read-field .ensures .0) ∙ c .before .before .before .f .given .1) (sym (c .before .may-follow .ensures) ∙ not-true _ (c .if1 .taken))
+
+loop-less : tie.Need-loop-less Inv-loop μ-loop
+loop-less c = let a = rw (c .before .before .before .f .given .1) at (c .before .before .before .before .before .read-field .ensures .1) in omega arith
+
+loop-again : tie.Need-loop-again Inv-loop μ-loop
+loop-again c = pass-next (c .before .before .before .before .before .before .before .loop .inv) (sym (c .before .before .before .before .before .read-field .ensures .0) ∙ c .before .before .before .f .given .1) (sym (c .before .may-follow .ensures) ∙ not-false _ (c .if1 .left))
+
+returns-3 : tie.Need-returns-3 Inv-loop μ-loop
+returns-3 c = pass-end (c .before .loop .inv) (c .loop-test .left)
+
+pub pass-spec : {M : Type 1} → statement M
+pass-spec =
+    tie.close
+    (tie.spec
+    Inv-loop
+    μ-loop
+    loop-holds
+    read-field-requires
+    enum-known-f
+    enum-told
+    returns
+    may-follow-requires
+    returns-2
+    loop-less
+    loop-again
+    returns-3)

@@ -1,0 +1,114 @@
+-- The reader's answers as the definition's.
+use mathlib.Core.Bool.{Bool}
+use mathlib.Core.List.{List}
+use mathlib.Core.Option.{Option, none, some}
+use mathlib.Core.Path.{_≡_}
+use Prim.Native.Nat.{ℕ, _+_, _≤_, _<_}
+use lib.ListN.{length, getD}
+use Rattle.definition.specs.Base.{Outcome, refused, accepted}
+use Rattle.definition.specs.Letters.{letterW, letterU, letterB, letterH}
+use Rattle.definition.specs.Limits.{ruleLimit}
+use Rattle.definition.specs.Records.{Field, Block, faultFrom, withLetter, upTo, blocks}
+use Rattle.definition.specs.Signature.{Signature}
+use Rattle.definition.specs.Group.{Group, groupOf, groupPart, variableFault, flatRulesFault}
+use Rattle.records.specs.Places.{twoAt, Run}
+use Rattle.records.specs.Held.{fieldIn}
+use Rattle.group.specs.Sections.{leading, trailing, AtRule, Stated, blockFault}
+use Rattle.group.specs.Index.{rulesFrom, Variables, Rules, Indexed}
+use Rattle.group.specs.declared.reader.Checked.{Checked}
+use Rattle.group.specs.declared.reader.Checked.the-variants as checked
+use Rattle.group.specs.declared.reader.Ruled.{Ruled}
+use Rattle.group.specs.declared.reader.Ruled.the-variants as ruled
+use Rattle.group.specs.declared.reader.Reading.{Reading}
+use Rattle.group.specs.declared.reader.Reading.the-variants as reading
+
+-- A group read: refused with document 01's number, or accepted with what its fields say.
+abbrev pub groupReading : List ℕ → Reading → Outcome Group
+groupReading s (reading.Refused n) = refused n
+groupReading s (reading.Sound variables rules) = accepted (groupOf (groupPart s .fields))
+
+-- What is accepted can be looked up.
+abbrev pub Usable : Signature → List ℕ → List ℕ → Reading → Type 0
+Usable sig s index (reading.Refused n) = Unit
+Usable sig s index (reading.Sound variables rules) = Indexed sig s index variables rules
+
+-- The number of a refusal.
+abbrev pub numberOf : Checked → ℕ
+numberOf (checked.Refused n) = n
+numberOf (checked.Upto count next) = 0
+
+abbrev pub ruleNumberOf : Ruled → ℕ
+ruleNumberOf (ruled.Refused n) = n
+ruleNumberOf (ruled.Upto conclusions next) = 0
+
+-- Where a section, or a rule, ends: not before its start, and in the record.
+abbrev pub Onward : Checked → ℕ → ℕ → Type 0
+Onward (checked.Refused n) from size = Unit
+Onward (checked.Upto count next) from size = (from ≤ next) × (next ≤ size)
+
+abbrev pub RuleOnward : Ruled → ℕ → ℕ → ℕ → Type 0
+RuleOnward (ruled.Refused n) before from size = Unit
+RuleOnward (ruled.Upto conclusions next) before from size = (before < ruleLimit) × (from < next) × (conclusions ≤ next) × (next ≤ size)
+
+-- The first field checked: its fault, or what stands behind it.
+abbrev FirstAs : Checked → List ℕ → ℕ → Option ℕ → List Field → Type 0
+FirstAs (checked.Refused n) s end fault fs = fault ≡ some n
+FirstAs (checked.Upto count next) s end fault fs = (fault ≡ none) × Run s next end fs
+
+pub record First (r : Checked) (s : List ℕ) (end : ℕ) (fault : Option ℕ) (fs : List Field) : Type 0 where
+  pub is : FirstAs r s end fault fs
+
+-- A section checked: its first fault, or how many fields it has and where they stand.
+abbrev SectionAs : Checked → List ℕ → ℕ → ℕ → ℕ → (ℕ → Option Field → Field → Option ℕ) → List Field → Type 0
+SectionAs (checked.Refused n) s from end letter check fs = faultFrom check 0 none (leading letter fs) ≡ some n
+SectionAs (checked.Upto count next) s from end letter check fs = (faultFrom check 0 none (leading letter fs) ≡ none)
+    × (length (leading letter fs) ≡ count) × Run s from next (leading letter fs) × Run s next end (trailing letter fs)
+
+pub record Section (r : Checked) (s : List ℕ) (from end letter : ℕ) (check : ℕ → Option Field → Field → Option ℕ) (fs : List Field) : Type 0 where
+  pub is : SectionAs r s from end letter check fs
+
+-- The W fields checked: the index holds those of the section.
+abbrev Listed : Checked → List ℕ → List ℕ → List Field → Type 0
+Listed (checked.Refused n) s index fs = Unit
+Listed (checked.Upto count next) s index fs = Variables s index count fs
+
+pub record Variable (r : Checked) (sig : Signature) (s index : List ℕ) (from end : ℕ) (fs : List Field) : Type 0 where
+  pub section : Section r s from end letterW (variableFault sig) fs
+  pub listed : Listed r s index (leading letterW fs)
+
+-- A rule that was checked stands at a position: its U field f, and behind it fs.
+pub record RuleRead (sig : Signature) (variables : ℕ) (s : List ℕ) (at conclusions next end : ℕ) (f : Field) (fs : List Field) : Type 0 where
+  pub head : fieldIn s at ≡ f
+  pub within : at + 3 + twoAt s (at + 1) ≤ length s
+  pub premise : Run s (at + 3 + twoAt s (at + 1)) conclusions (withLetter letterB (upTo letterU fs))
+  pub conclusion : Run s conclusions next (withLetter letterH (upTo letterU fs))
+  pub premise-sound : Stated sig letterB variables (withLetter letterB (upTo letterU fs))
+  pub conclusion-sound : Stated sig letterH variables (withLetter letterH (upTo letterU fs))
+  pub rest : List Field
+  pub run : Run s next end rest
+  pub order : AtRule rest
+  pub others : blocks letterU fs ≡ blocks letterU rest
+
+abbrev pub ruleOf : Field → List Field → Block
+ruleOf f fs = record { head = f; body = upTo letterU fs }
+
+abbrev RuleAs : Ruled → Signature → ℕ → ℕ → List ℕ → ℕ → ℕ → Field → List Field → Type 0
+RuleAs (ruled.Refused n) sig variables before s at end f fs = blockFault sig variables before (ruleOf f fs) ≡ some n
+RuleAs (ruled.Upto conclusions next) sig variables before s at end f fs = (blockFault sig variables before (ruleOf f fs) ≡ none)
+    × RuleRead sig variables s at conclusions next end f fs
+
+pub record Rule (r : Ruled) (sig : Signature) (variables before : ℕ) (s : List ℕ) (at end : ℕ) (f : Field) (fs : List Field) : Type 0 where
+  pub is : RuleAs r sig variables before s at end f fs
+
+-- The rules checked: their first fault, or how many there are, and the index holds them.
+abbrev RulesAs : Checked → Signature → ℕ → List ℕ → List ℕ → List Field → Type 0
+RulesAs (checked.Refused n) sig variables s index fs = flatRulesFault sig variables 0 (blocks letterU fs) ≡ some n
+RulesAs (checked.Upto count next) sig variables s index fs = (flatRulesFault sig variables 0 (blocks letterU fs) ≡ none)
+    × Rules sig variables s index count (blocks letterU fs)
+
+pub record AllRules (r : Checked) (sig : Signature) (variables : ℕ) (s index : List ℕ) (fs : List Field) : Type 0 where
+  pub is : RulesAs r sig variables s index fs
+
+-- The entries of the variables are as they were.
+pub record Kept (index₀ index : List ℕ) : Type 0 where
+  pub same : (i : ℕ) → i < rulesFrom → getD index i 0 ≡ getD index₀ i 0

@@ -1,0 +1,4 @@
+-- What the contracts of this crate cite beside the definition.
+pub mod Sections
+pub mod Index
+pub mod Answers
