@@ -1,14 +1,10 @@
 -- The check of a section: the fields of one letter from a position on, whatever a field's check is.
 use Prim.Native.Nat.{ℕ, _+_, _≤_, _<_}
-use native.Mathlib.Omega.{arith}
-use mathlib.Core.Bool.{Bool, true, false}
 use mathlib.Core.List.{List, [], _∷_, _++_, append-assoc, append-nil}
 use mathlib.Core.Option.{Option, none, some}
-use mathlib.Core.Path.{_≡_, refl, sym, _∙_, ap}
-use lib.Dec.{eqb}
+use mathlib.Core.Path.{_≡_, refl, _∙_}
 use lib.ListN.{length, length-append}
 use borrow.Author.Tests.{eq-eqb, ne-eqb}
-use Rattle.definition.specs.Base.{pick, orElse}
 use Rattle.definition.specs.Records.{Field, faultFrom}
 use Rattle.records.specs.Places.{fieldAt, fieldOf, Run, none}
 use Rattle.records.specs.declared.fields.Field.the-variants.{Got, Bad}

@@ -1,31 +1,29 @@
 -- A rule among the fields of a group: its U field, its B fields, its H fields.
-use Prim.Native.Nat.{ℕ, _+_, _≤_, _<_}
+use Prim.Native.Nat.{ℕ, zero, suc, _+_, _<_}
 use native.Mathlib.Omega.{arith}
-use mathlib.Core.Bool.{Bool, true, false}
 use mathlib.Core.List.{List, [], _∷_, _++_, append-nil}
 use mathlib.Core.Option.{Option, none, some}
 use mathlib.Core.Path.{_≡_, refl, sym, _∙_, ap}
-use lib.Dec.{eqb}
-use lib.ListN.{length}
 use borrow.Author.Tests.{leb-false}
-use Rattle.definition.specs.Base.{pick, orElse, keep, lowest}
-use Rattle.definition.specs.Letters.{letterW, letterU, letterB, letterH}
+use Rattle.definition.specs.Base.{orElse}
+use Rattle.definition.specs.Letters.{letterU, letterB, letterH}
 use Rattle.definition.specs.Limits.{ruleLimit}
-use Rattle.definition.specs.Records.{Field, Block, withLetter, upTo, blocks, faultFrom, faultAmong}
+use Rattle.definition.specs.Records.{Field, withLetter, upTo, blocks, faultFrom, faultAmong}
 use Rattle.definition.specs.Signature.{Signature}
-use Rattle.definition.specs.Group.{groupGrammar, premiseKinds, conclusionKinds, flatRuleFault, statementFault, flatRulesFault}
-use Rattle.records.specs.Places.{twoAt, fieldAt, fieldOf, Run, more}
-use Rattle.records.specs.Held.{fieldIn}
+use Rattle.definition.specs.Group.{groupGrammar, premiseKinds, conclusionKinds, flatRuleFault, statementFault}
+use Rattle.definition.specs.Scope.{conclusionAt}
+use Rattle.records.specs.Places.{twoAt, fieldAt, fieldOf, Run}
 use Rattle.records.specs.declared.fields.Field.the-variants.{Got}
 use Rattle.records.proofs.Link.{got-is}
 use Rattle.records.proofs.Index.{got-field}
-use Rattle.records.proofs.Runs.{Behind, run-got}
+use Rattle.records.proofs.Runs.{Behind}
 use Rattle.records.proofs.Lists.{keep-append, lowest-none}
 use Rattle.group.specs.Sections.{leading, trailing, Ordered, AtRule, Stated, kindsOf, blockFault}
-use Rattle.group.specs.Answers.{Section, Rule, RuleRead, ruleOf}
+use Rattle.group.specs.Answers.{Section, Rule}
 use Rattle.group.specs.declared.reader.Checked.the-variants as checked
 use Rattle.group.specs.declared.reader.Ruled.the-variants as ruled
 use Rattle.group.proofs.First.{run-cons}
+use Rattle.group.proofs.Positions.{passed-over, begun, found}
 use Rattle.group.proofs.Shape.{after-premises, after-conclusions}
 use Rattle.group.proofs.Leading.{split, with-same, with-other, upto-leading, blocks-leading}
 
@@ -129,6 +127,24 @@ module _ (sig : Signature) (variables before : ℕ) {s : List ℕ} {at end : ℕ
       unfolding blockFault
       conclusion-fault q = record { is = rw (head-sound, premise-sound, conclusion-check ∙ q (trailing letterB fs) mid-run .is) }
 
+      -- Where its first conclusion stands, and those of the rules behind it.
+      begins : (k : ℕ) → conclusionAt (suc k) (f ∷ fs) at ≡ conclusionAt k fs next
+      begins k =
+          let q = run-cons r e .0 in
+          rw q (begun s at e (sym (ap (λ (x : Field). x .letter) q) ∙ o .0) k fs)
+
+      over : (k : ℕ) {behind : ℕ} → Run s next conclusions (leading letterB fs) → Run s conclusions behind (leading letterH (trailing letterB fs))
+          → conclusionAt (suc k) fs next ≡ conclusionAt (suc k) (rest-of fs (o .1)) behind
+      over k a b = ap (λ (gs : List Field). conclusionAt (suc k) gs next) (split letterB fs)
+          ∙ passed-over a (suc k) (trailing letterB fs) (with-other letterB letterU (λ q. omega arith) fs)
+          ∙ ap (λ (gs : List Field). conclusionAt (suc k) gs conclusions) (split letterH (trailing letterB fs))
+          ∙ passed-over b (suc k) (rest-of fs (o .1)) (with-other letterH letterU (λ q. omega arith) (trailing letterB fs))
+
+      reached : Run s next conclusions (leading letterB fs) → (leading letterH (trailing letterB fs) ≡ [] → ⊥) → conclusionAt zero fs next ≡ conclusions
+      reached a m = ap (λ (gs : List Field). conclusionAt zero gs next) (split letterB fs)
+          ∙ passed-over a zero (trailing letterB fs) (with-other letterB letterH (λ q. omega arith) fs)
+          ∙ found (trailing letterB fs) conclusions m
+
       pub rule-done : {n₂ behind : ℕ} → ((gs : List Field) → Run s conclusions end gs
           → Section (checked.Upto n₂ behind) s conclusions end letterH (statementFault sig (kindsOf letterH) variables) gs)
           → Rule (ruled.Upto conclusions behind) sig variables before s at end f fs
@@ -146,12 +162,16 @@ module _ (sig : Signature) (variables before : ℕ) {s : List ℕ} {at end : ℕ
                 within = rw n (g .within);
                 premise = rw (n, premises-are fs (o .1)) (b .2);
                 conclusion = rw (conclusions-are fs (o .1)) (h .2);
-                premise-sound = rw (premises-are fs (o .1)) (stated sig letterB variables 0 none (leading letterB fs) (b .0));
-                conclusion-sound = rw (conclusions-are fs (o .1)) (stated sig letterH variables 0 none (leading letterH (trailing letterB fs)) (h .0));
+                sound = record {
+                  premise = rw (premises-are fs (o .1)) (stated sig letterB variables 0 none (leading letterB fs) (b .0));
+                  conclusion = rw (conclusions-are fs (o .1)) (stated sig letterH variables 0 none (leading letterH (trailing letterB fs)) (h .0));
+                };
                 rest = rest-of fs (o .1);
                 run = h .3;
                 order = rest-order fs (o .1);
                 others = others-are fs (o .1);
+                passed = λ k. begins (suc k) ∙ over k (b .2) (h .2);
+                first = λ m. begins zero ∙ reached (b .2) (λ z. m (conclusions-are fs (o .1) ∙ z));
               },
             );
           }

@@ -1,31 +1,31 @@
 -- The faults of a field, from the tests that the code makes.
-use Prim.Native.Nat.{ℕ, zero, suc, _+_, _-_, _*_, _/_, _%_, _≤_, _<_}
+use Prim.Native.Nat.{ℕ, zero, suc, _+_, _-_, _/_, _%_, _≤_, _<_}
 use native.Mathlib.Omega.{arith}
 use native.Mathlib.Nat.{add-zero}
 use mathlib.Core.Bool.{Bool, true, false, not, _&&_, _||_}
 use mathlib.Core.List.{List, [], _∷_}
 use mathlib.Core.Option.{Option, none, some}
-use mathlib.Core.Path.{_≡_, refl, sym, _∙_, ap}
+use mathlib.Core.Path.{_≡_, refl, _∙_, ap}
 use lib.Dec.{eqb, ltb, leb}
-use lib.ListN.{length, getD, drop}
+use lib.ListN.{length, getD}
 use borrow.Author.Tests.{lt-ltb, le-ltb, eq-eqb, ne-eqb}
 use Rattle.definition.specs.Base.{pick, any, has, empty, lowest}
-use Rattle.definition.specs.Limits.{variableLimit, ruleLimit, groupNameBytes}
+use Rattle.definition.specs.Limits.{variableLimit, groupNameBytes}
 use Rattle.definition.specs.Letters.{letterB, member, typeSet, funcDomain}
-use Rattle.definition.specs.Records.{Field, numbers, numberAt, badName, odd}
+use Rattle.definition.specs.Records.{Field, numbers, badName, odd}
 use Rattle.definition.specs.Signature.{Signature, arity, symbolCount, typeParents, named}
-use Rattle.definition.specs.Group.{premiseKinds, conclusionKinds, Statement, variableOf, statementOf, titleFault, variableFault, flatRuleFault, statementFault, badColumns}
+use Rattle.definition.specs.Group.{premiseKinds, conclusionKinds, variableOf, statementOf, variableFault, statementFault, badColumns}
 use Rattle.records.specs.Places.{twoAt, stretch, fieldOf}
 use Rattle.group.specs.Sections.{kindsOf}
 use Rattle.records.proofs.Numbers.{length-stretch, stretch-at, drop-stretch, number-in, length-numbers-in, drop-numbers}
 
 module _ (s : List ℕ) (start len : ℕ) (h : start + len ≤ length s) (letter : ℕ) where
   -- A W of at least two bytes is a type and a name.
-  variable-type : 2 ≤ len → variableOf (fieldOf s letter start len) .type ≡ twoAt s start
+  pub variable-type : 2 ≤ len → variableOf (fieldOf s letter start len) .type ≡ twoAt s start
   unfolding variableOf
   variable-type l = number-in s start len h 0 (omega arith) ∙ rw (add-zero start)
 
-  variable-name : variableOf (fieldOf s letter start len) .name ≡ stretch s (start + 2) (len - 2)
+  pub variable-name : variableOf (fieldOf s letter start len) .name ≡ stretch s (start + 2) (len - 2)
   unfolding variableOf
   variable-name = drop-stretch s start len 2
 

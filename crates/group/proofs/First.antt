@@ -31,11 +31,11 @@ run-cons-bad (more d r) e = let z : _≡_ {A = ℕ} 0 1 = cc in absurd (omega ar
 
 module _ {s : List ℕ} {at end l start len next : ℕ} {f : Field} {fs : List Field} (r : Run s at end (f ∷ fs)) (e : fieldAt s at ≡ Got l start len next)
     (check : Field → Option ℕ) where
-  pub first-fault : {n : ℕ} → ((letter : ℕ) → some n ≡ check (fieldOf s letter start len)) → First (checked.Refused n) s end (check f) fs
+  pub first-fault : {n : ℕ} → ((letter : ℕ) → some n ≡ check (fieldOf s letter start len)) → First (checked.Refused n) s at end (check f) f fs
   first-fault k = record { is = ap check (run-cons r e .0) ∙ sym (k l) }
 
-  pub first-sound : {count : ℕ} → ((letter : ℕ) → option.none ≡ check (fieldOf s letter start len)) → First (checked.Upto count next) s end (check f) fs
-  first-sound k = record { is = (ap check (run-cons r e .0) ∙ sym (k l), run-cons r e .1) }
+  pub first-sound : {count : ℕ} → ((letter : ℕ) → option.none ≡ check (fieldOf s letter start len)) → First (checked.Upto count next) s at end (check f) f fs
+  first-sound k = record { is = (ap check (run-cons r e .0) ∙ sym (k l), rw (run-cons r e .0) (more e none), run-cons r e .1) }
 
 -- A refusal that is passed on with its number.
 pub refused-as : {r : Checked} {m n : ℕ} → r ≡ checked.Refused m → n ≡ numberOf r → r ≡ checked.Refused n

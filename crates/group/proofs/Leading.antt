@@ -1,13 +1,12 @@
 -- The leading fields of a letter among the fields of a group.
 use Prim.Native.Nat.{ℕ}
 use mathlib.Core.Bool.{Bool, true, false}
-use mathlib.Core.List.{List, [], _∷_, _++_, append-nil}
+use mathlib.Core.List.{List, [], _∷_, _++_}
 use mathlib.Core.Path.{_≡_, refl, sym, _∙_, ap}
 use lib.Dec.{eqb}
 use borrow.Author.Tests.{eqb-true, eq-eqb, ne-eqb}
-use Rattle.definition.specs.Base.{pick, consIf, keep}
-use Rattle.definition.specs.Records.{Field, Block, withLetter, upTo, blocks}
-use Rattle.records.proofs.Lists.{keep-append}
+use Rattle.definition.specs.Base.{pick, keep}
+use Rattle.definition.specs.Records.{Field, withLetter, upTo, blocks}
 use Rattle.group.specs.Sections.{leading, trailing}
 
 pub split : (letter : ℕ) (fs : List Field) → fs ≡ leading letter fs ++ trailing letter fs

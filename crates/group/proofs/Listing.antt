@@ -2,29 +2,25 @@
 use Prim.Native.Nat.{ℕ, _+_, _≤_, _<_}
 use native.Mathlib.Omega.{arith}
 use native.Mathlib.Decide.{ℕ-discrete}
-use mathlib.Core.Bool.{Bool, true, false}
-use mathlib.Core.List.{List, [], _∷_, _++_, append-nil}
+use mathlib.Core.List.{List, []}
 use mathlib.Core.Option.{Option, none, some}
-use mathlib.Core.Path.{_≡_, refl, sym, _∙_, ap}
-use lib.Dec.{ltb, leb}
+use mathlib.Core.Path.{_≡_, refl, sym, _∙_}
 use lib.ListN.{length, getD, set, length-set, replicate, length-replicate}
 use lib.Seq.{getD-set-same, getD-set-other}
 use borrow.Author.Tests.{leb-false, ltb-false, ltb-true, not-false}
-use Rattle.definition.specs.Base.{orElse, lowest}
 use Rattle.definition.specs.Letters.{letterW}
 use Rattle.definition.specs.Limits.{variableLimit}
-use Rattle.definition.specs.Records.{Field, faultFrom}
+use Rattle.definition.specs.Records.{Field}
 use Rattle.definition.specs.Signature.{Signature}
 use Rattle.definition.specs.Group.{variableFault, variableOf}
-use Rattle.records.specs.Places.{twoAt, fieldAt, fieldOf, Run}
-use Rattle.records.specs.Held.{fieldIn, heldAt}
+use Rattle.records.specs.Places.{fieldAt, fieldOf, Run}
+use Rattle.records.specs.Held.{heldAt}
 use Rattle.records.specs.declared.fields.Field.the-variants.{Got}
 use Rattle.records.proofs.Link.{got-is}
 use Rattle.records.proofs.Numbers.{length-stretch}
-use Rattle.records.proofs.Index.{got-field, held-store, length-held, held-get}
+use Rattle.records.proofs.Index.{got-field, held-store}
 use Rattle.records.proofs.Lists.{lowest-none}
-use Rattle.group.specs.Sections.{leading}
-use Rattle.group.specs.Index.{variablesFrom, indexSize, VariableAt, Variables}
+use Rattle.group.specs.Index.{variablesFrom, indexSize, VariableAt}
 use Rattle.group.proofs.Along.{Along, Over, along-start, along-next, along-over, over-front}
 use Rattle.group.specs.Answers.{Section, Variable}
 use Rattle.group.specs.declared.reader.Checked.the-variants as checked

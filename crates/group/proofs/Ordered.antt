@@ -2,10 +2,10 @@
 use Prim.Native.Nat.{ℕ}
 use mathlib.Core.Bool.{Bool, true, false}
 use mathlib.Core.List.{List, [], _∷_}
-use mathlib.Core.Path.{_≡_, refl, sym, _∙_}
+use mathlib.Core.Path.{_≡_, refl}
 use lib.Dec.{eqb}
 use Rattle.definition.specs.Base.{pick, when, keep}
-use Rattle.definition.specs.Records.{Field, Fields, end, bad, _▸_, Part, Grammar, follows, placed, inFront, withLetter}
+use Rattle.definition.specs.Records.{Field, Fields, end, bad, _▸_, Grammar, follows, placed, inFront, withLetter}
 use borrow.Author.Tests.{eqb-true, eqb-false, ne-eqb}
 use Rattle.group.specs.Sections.{trailing, Ordered}
 

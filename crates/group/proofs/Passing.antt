@@ -1,8 +1,8 @@
 -- The pass along a group's letters.
 use Prim.Native.Nat.{ℕ, _≤_, _<_}
-use mathlib.Core.Bool.{Bool, true, false, not}
+use mathlib.Core.Bool.{true, false, not}
 use mathlib.Core.List.{List, []}
-use mathlib.Core.Path.{_≡_, refl, sym, _∙_, ap}
+use mathlib.Core.Path.{_≡_, refl, sym}
 use lib.Dec.{eqb}
 use lib.ListN.{length}
 use Rattle.definition.specs.Base.{any, has}

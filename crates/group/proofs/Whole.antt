@@ -2,19 +2,20 @@
 use Prim.Native.Nat.{ℕ, zero, suc, _+_, _≤_, _<_}
 use native.Mathlib.Omega.{arith}
 use native.Mathlib.Nat.{add-zero}
+use native.Mathlib.Numerals.{add-one}
 use mathlib.Core.Bool.{Bool, true, false}
-use mathlib.Core.List.{List, [], _∷_, _++_, append-nil}
+use mathlib.Core.List.{List, [], _∷_, append-nil}
 use mathlib.Core.Option.{Option, none, some}
 use mathlib.Core.Path.{_≡_, refl, sym, _∙_, ap}
-use lib.Dec.{eqb}
 use lib.ListN.{length, getD}
-use borrow.Author.Tests.{lt-ltb, le-ltb, ne-eqb}
-use Rattle.definition.specs.Base.{refused, accepted, pick, when, orElse, any, has, keep}
+use borrow.Author.Tests.{lt-ltb, le-ltb}
+use Rattle.definition.specs.Base.{refused, accepted, when, orElse, any, has, keep}
 use Rattle.definition.specs.Letters.{letterG, letterW, letterU, start}
 use Rattle.definition.specs.Limits.{groupBytes}
 use Rattle.definition.specs.Records.{Field, Fields, end, bad, _▸_, follows, placed, inFront, fieldsOf, withLetter, blocks, faultFrom, faultAmong, readPart, numbers}
 use Rattle.definition.specs.Signature.{Signature}
 use Rattle.definition.specs.Group.{groupGrammar, groupPart, groupFault, groupOf, readGroup, titleFault, variableFault, flatRulesFault, variableOf}
+use Rattle.definition.specs.Scope.{conclusionAt}
 use Rattle.records.specs.Places.{Run, Parted}
 use Rattle.records.specs.Held.{fieldIn, heldAt}
 use Rattle.records.proofs.Index.{held-same, held-get, length-held}
@@ -23,14 +24,15 @@ use Rattle.signature.specs.Index.{typesFrom, signatureAt}
 use Rattle.signature.specs.declared.ids.Counts.{Counts}
 use Rattle.records.proofs.Runs.{run-end}
 use Rattle.group.specs.Sections.{leading, trailing, Ordered, AtRule}
-use Rattle.group.specs.Index.{variablesFrom, Variables, Rules, Indexed}
+use Rattle.group.specs.Index.{variablesFrom, Indexed}
 use Rattle.group.specs.Answers.{First, Variable, AllRules, Kept}
 use Rattle.group.specs.declared.reader.Checked.the-variants as checked
 use Rattle.group.proofs.First.{run-nil}
+use Rattle.group.proofs.Positions.{passed-over}
 use Rattle.group.proofs.Blocks.{or-else-none}
 use Rattle.group.proofs.Ordered.{placed-ordered}
 use Rattle.group.proofs.Shape.{at-title, after-variables, no-title, no-variables}
-use Rattle.group.proofs.Leading.{split, with-first, with-skip, with-same, blocks-skip, blocks-leading}
+use Rattle.group.proofs.Leading.{split, with-first, with-skip, with-same, with-other, blocks-skip, blocks-leading}
 use Rattle.group.proofs.Listing.{type-named}
 
 -- A signature has as many types as its index counts.
@@ -125,16 +127,16 @@ module _ (sig : Signature) {s : List ℕ} {end : ℕ} {whole : Bool} (p : Parted
   drawn q = read-is q
 
   -- A fault of the G.
-  pub read-title : {m : ℕ} → ((end : ℕ) (f : Field) (fs : List Field) → Run s 0 end (f ∷ fs) → First (checked.Refused m) s end (titleFault 0 none f) fs)
+  pub read-title : {m : ℕ} → ((end : ℕ) (f : Field) (fs : List Field) → Run s 0 end (f ∷ fs) → First (checked.Refused m) s 0 end (titleFault 0 none f) f fs)
       → refused m ≡ readGroup sig s
   read-title t = drawn (faults it sig ∙ rw (t end (it .head) (it .tail) (it .run) .is))
 
-  module _ {c₁ next₁ : ℕ} (t : (end : ℕ) (f : Field) (fs : List Field) → Run s 0 end (f ∷ fs) → First (checked.Upto c₁ next₁) s end (titleFault 0 none f) fs) where
+  module _ {c₁ next₁ : ℕ} (t : (end : ℕ) (f : Field) (fs : List Field) → Run s 0 end (f ∷ fs) → First (checked.Upto c₁ next₁) s 0 end (titleFault 0 none f) f fs) where
     title-sound : titleFault 0 none (it .head) ≡ none
     title-sound = t end (it .head) (it .tail) (it .run) .is .0
 
     tail-run : Run s next₁ end (it .tail)
-    tail-run = t end (it .head) (it .tail) (it .run) .is .1
+    tail-run = t end (it .head) (it .tail) (it .run) .is .2
 
     -- A fault of a W.
     pub read-variables : {index : List ℕ} {m : ℕ} → ((fs : List Field) → Run s next₁ end fs → Variable (checked.Refused m) sig s index next₁ end fs)
@@ -152,11 +154,11 @@ module _ (sig : Signature) {s : List ℕ} {end : ℕ} {whole : Bool} (p : Parted
       rules-run = v (it .tail) tail-run .section .is .3
 
       -- A fault of a rule.
-      pub read-rules : {index : List ℕ} {m : ℕ} → ((fs : List Field) → Run s next₂ end fs → AtRule fs → AllRules (checked.Refused m) sig variables s index fs)
+      pub read-rules : {index : List ℕ} {m : ℕ} → ((fs : List Field) → Run s next₂ end fs → AtRule fs → AllRules (checked.Refused m) sig variables s index next₂ fs)
           → refused m ≡ readGroup sig s
       read-rules u = drawn (faults it sig ∙ rw (title-sound, variables-sound, variables-counted, u (trailing letterW (it .tail)) rules-run (rules-order it) .is))
 
-      module _ {index₂ : List ℕ} {rules next₃ : ℕ} (u : (fs : List Field) → Run s next₂ end fs → AtRule fs → AllRules (checked.Upto rules next₃) sig variables s index₂ fs) where
+      module _ {index₂ : List ℕ} {rules next₃ : ℕ} (u : (fs : List Field) → Run s next₂ end fs → AtRule fs → AllRules (checked.Upto rules next₃) sig variables s index₂ next₂ fs) where
         rules-sound : flatRulesFault sig variables 0 (blocks letterU (trailing letterW (it .tail))) ≡ none
         rules-sound = u (trailing letterW (it .tail)) rules-run (rules-order it) .is .0
 
@@ -172,6 +174,16 @@ module _ (sig : Signature) {s : List ℕ} {end : ℕ} {whole : Bool} (p : Parted
         unfolding readPart
         read-all w = rw (← (p .same), w) at (read-is faultless)
 
+        -- The first conclusion is found behind the G and W fields.
+        before-rules : (k : ℕ) → conclusionAt (k + 1) (groupPart s .fields) 0 ≡ conclusionAt (k + 1) (trailing letterW (it .tail)) next₂
+        unfolding withLetter keep
+        before-rules k =
+            let h = t end (it .head) (it .tail) (it .run) .is .1 in
+            let l = v (it .tail) tail-run .section .is .2 in
+            rw (it .same, add-one) (passed-over h (suc k) (it .tail) (with-skip letterU (it .head) [] (λ q. omega (arith, it .is-title)))
+            ∙ ap (λ (gs : List Field). conclusionAt (suc k) gs next₁) (split letterW (it .tail))
+            ∙ passed-over l (suc k) (trailing letterW (it .tail)) (with-other letterW letterU (λ q. omega arith) (it .tail)))
+
         -- The index of the rules left that of the variables as it was.
         pub usable : Kept index₁ index₂ → Indexed sig s index₂ variables rules
         usable k =
@@ -184,6 +196,8 @@ module _ (sig : Signature) {s : List ℕ} {end : ℕ} {whole : Bool} (p : Parted
               };
               typed = λ i h. let f = l .few in rw (k .same (variablesFrom + i) (omega arith)) (typed i h (l .held));
               rule = rw (rules-are it) (u (trailing letterW (it .tail)) rules-run (rules-order it) .is .1);
+              sound = rw (rules-are it) (u (trailing letterW (it .tail)) rules-run (rules-order it) .is .2);
+              first = λ k h. rw (rules-are it) (λ m. before-rules k ∙ u (trailing letterW (it .tail)) rules-run (rules-order it) .is .3 k h m);
             }
           where
             typed : (i : ℕ) → i < variables → heldAt s index₁ variablesFrom variables ≡ leading letterW (it .tail)

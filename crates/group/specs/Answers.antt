@@ -1,9 +1,8 @@
 -- The reader's answers as the definition's.
-use mathlib.Core.Bool.{Bool}
-use mathlib.Core.List.{List}
+use mathlib.Core.List.{List, [], _∷_}
 use mathlib.Core.Option.{Option, none, some}
 use mathlib.Core.Path.{_≡_}
-use Prim.Native.Nat.{ℕ, _+_, _≤_, _<_}
+use Prim.Native.Nat.{ℕ, zero, suc, _+_, _≤_, _<_}
 use lib.ListN.{length, getD}
 use Rattle.definition.specs.Base.{Outcome, refused, accepted}
 use Rattle.definition.specs.Letters.{letterW, letterU, letterB, letterH}
@@ -11,10 +10,11 @@ use Rattle.definition.specs.Limits.{ruleLimit}
 use Rattle.definition.specs.Records.{Field, Block, faultFrom, withLetter, upTo, blocks}
 use Rattle.definition.specs.Signature.{Signature}
 use Rattle.definition.specs.Group.{Group, groupOf, groupPart, variableFault, flatRulesFault}
+use Rattle.definition.specs.Scope.{conclusionAt}
 use Rattle.records.specs.Places.{twoAt, Run}
 use Rattle.records.specs.Held.{fieldIn}
-use Rattle.group.specs.Sections.{leading, trailing, AtRule, Stated, blockFault}
-use Rattle.group.specs.Index.{rulesFrom, Variables, Rules, Indexed}
+use Rattle.group.specs.Sections.{leading, trailing, AtRule, blockFault}
+use Rattle.group.specs.Index.{rulesFrom, Variables, RuleSound, FirstConclusion, noBlock, Rules, Indexed}
 use Rattle.group.specs.declared.reader.Checked.{Checked}
 use Rattle.group.specs.declared.reader.Checked.the-variants as checked
 use Rattle.group.specs.declared.reader.Ruled.{Ruled}
@@ -51,12 +51,12 @@ RuleOnward (ruled.Refused n) before from size = Unit
 RuleOnward (ruled.Upto conclusions next) before from size = (before < ruleLimit) × (from < next) × (conclusions ≤ next) × (next ≤ size)
 
 -- The first field checked: its fault, or what stands behind it.
-abbrev FirstAs : Checked → List ℕ → ℕ → Option ℕ → List Field → Type 0
-FirstAs (checked.Refused n) s end fault fs = fault ≡ some n
-FirstAs (checked.Upto count next) s end fault fs = (fault ≡ none) × Run s next end fs
+abbrev FirstAs : Checked → List ℕ → ℕ → ℕ → Option ℕ → Field → List Field → Type 0
+FirstAs (checked.Refused n) s at end fault f fs = fault ≡ some n
+FirstAs (checked.Upto count next) s at end fault f fs = (fault ≡ none) × Run s at next (f ∷ []) × Run s next end fs
 
-pub record First (r : Checked) (s : List ℕ) (end : ℕ) (fault : Option ℕ) (fs : List Field) : Type 0 where
-  pub is : FirstAs r s end fault fs
+pub record First (r : Checked) (s : List ℕ) (at end : ℕ) (fault : Option ℕ) (f : Field) (fs : List Field) : Type 0 where
+  pub is : FirstAs r s at end fault f fs
 
 -- A section checked: its first fault, or how many fields it has and where they stand.
 abbrev SectionAs : Checked → List ℕ → ℕ → ℕ → ℕ → (ℕ → Option Field → Field → Option ℕ) → List Field → Type 0
@@ -76,21 +76,23 @@ pub record Variable (r : Checked) (sig : Signature) (s index : List ℕ) (from e
   pub section : Section r s from end letterW (variableFault sig) fs
   pub listed : Listed r s index (leading letterW fs)
 
+-- A U field and what stands behind it.
+abbrev pub ruleOf : Field → List Field → Block
+ruleOf f fs = record { head = f; body = upTo letterU fs }
+
 -- A rule that was checked stands at a position: its U field f, and behind it fs.
 pub record RuleRead (sig : Signature) (variables : ℕ) (s : List ℕ) (at conclusions next end : ℕ) (f : Field) (fs : List Field) : Type 0 where
   pub head : fieldIn s at ≡ f
   pub within : at + 3 + twoAt s (at + 1) ≤ length s
   pub premise : Run s (at + 3 + twoAt s (at + 1)) conclusions (withLetter letterB (upTo letterU fs))
   pub conclusion : Run s conclusions next (withLetter letterH (upTo letterU fs))
-  pub premise-sound : Stated sig letterB variables (withLetter letterB (upTo letterU fs))
-  pub conclusion-sound : Stated sig letterH variables (withLetter letterH (upTo letterU fs))
+  pub sound : RuleSound sig variables (ruleOf f fs)
   pub rest : List Field
   pub run : Run s next end rest
   pub order : AtRule rest
   pub others : blocks letterU fs ≡ blocks letterU rest
-
-abbrev pub ruleOf : Field → List Field → Block
-ruleOf f fs = record { head = f; body = upTo letterU fs }
+  pub passed : (r : ℕ) → conclusionAt (suc (suc r)) (f ∷ fs) at ≡ conclusionAt (suc r) rest next
+  pub first : (withLetter letterH (upTo letterU fs) ≡ [] → ⊥) → conclusionAt (suc zero) (f ∷ fs) at ≡ conclusions
 
 abbrev RuleAs : Ruled → Signature → ℕ → ℕ → List ℕ → ℕ → ℕ → Field → List Field → Type 0
 RuleAs (ruled.Refused n) sig variables before s at end f fs = blockFault sig variables before (ruleOf f fs) ≡ some n
@@ -101,13 +103,15 @@ pub record Rule (r : Ruled) (sig : Signature) (variables before : ℕ) (s : List
   pub is : RuleAs r sig variables before s at end f fs
 
 -- The rules checked: their first fault, or how many there are, and the index holds them.
-abbrev RulesAs : Checked → Signature → ℕ → List ℕ → List ℕ → List Field → Type 0
-RulesAs (checked.Refused n) sig variables s index fs = flatRulesFault sig variables 0 (blocks letterU fs) ≡ some n
-RulesAs (checked.Upto count next) sig variables s index fs = (flatRulesFault sig variables 0 (blocks letterU fs) ≡ none)
-    × Rules sig variables s index count (blocks letterU fs)
+abbrev RulesAs : Checked → Signature → ℕ → List ℕ → List ℕ → ℕ → List Field → Type 0
+RulesAs (checked.Refused n) sig variables s index from fs = flatRulesFault sig variables 0 (blocks letterU fs) ≡ some n
+RulesAs (checked.Upto count next) sig variables s index from fs = (flatRulesFault sig variables 0 (blocks letterU fs) ≡ none)
+    × Rules s index count (blocks letterU fs)
+    × ((k : ℕ) → k < count → RuleSound sig variables (getD (blocks letterU fs) k noBlock))
+    × ((k : ℕ) → k < count → FirstConclusion index fs from k (getD (blocks letterU fs) k noBlock))
 
-pub record AllRules (r : Checked) (sig : Signature) (variables : ℕ) (s index : List ℕ) (fs : List Field) : Type 0 where
-  pub is : RulesAs r sig variables s index fs
+pub record AllRules (r : Checked) (sig : Signature) (variables : ℕ) (s index : List ℕ) (from : ℕ) (fs : List Field) : Type 0 where
+  pub is : RulesAs r sig variables s index from fs
 
 -- The entries of the variables are as they were.
 pub record Kept (index₀ index : List ℕ) : Type 0 where

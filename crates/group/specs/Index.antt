@@ -8,6 +8,7 @@ use Rattle.definition.specs.Limits.{variableLimit, ruleLimit}
 use Rattle.definition.specs.Records.{Field, Block, withLetter, blocks}
 use Rattle.definition.specs.Signature.{Signature}
 use Rattle.definition.specs.Group.{groupPart, variableOf}
+use Rattle.definition.specs.Scope.{conclusionAt}
 use Rattle.records.specs.Places.{twoAt, Run}
 use Rattle.records.specs.Held.{fieldIn, heldAt}
 use Rattle.group.specs.Sections.{Stated}
@@ -49,27 +50,36 @@ conclusionsAt index k = getD index (conclusionsFrom + k) 0
 abbrev pub ruleEnd : List ℕ → ℕ → ℕ
 ruleEnd index k = getD index (rulesFrom + k + 1) 0
 
--- The index tells where a rule's fields stand, and its statements have no fault.
-pub record RuleAt (sig : Signature) (variables : ℕ) (s index : List ℕ) (k : ℕ) (b : Block) : Type 0 where
+-- The index tells where a rule's fields stand.
+pub record RuleAt (s index : List ℕ) (k : ℕ) (b : Block) : Type 0 where
   pub head : fieldIn s (ruleAt index k) ≡ b .head
   pub within : premisesAt s index k ≤ length s
   pub premise : Run s (premisesAt s index k) (conclusionsAt index k) (withLetter letterB (b .body))
   pub conclusion : Run s (conclusionsAt index k) (ruleEnd index k) (withLetter letterH (b .body))
-  pub premise-sound : Stated sig letterB variables (withLetter letterB (b .body))
-  pub conclusion-sound : Stated sig letterH variables (withLetter letterH (b .body))
+
+-- Its statements have no fault.
+pub record RuleSound (sig : Signature) (variables : ℕ) (b : Block) : Type 0 where
+  pub premise : Stated sig letterB variables (withLetter letterB (b .body))
+  pub conclusion : Stated sig letterH variables (withLetter letterH (b .body))
+
+-- Where a rule has conclusions, the index tells where the first one stands, as scope has it: of fields that start at a position.
+abbrev pub FirstConclusion : List ℕ → List Field → ℕ → ℕ → Block → Type 0
+FirstConclusion index fs from k b = (withLetter letterH (b .body) ≡ [] → ⊥) → conclusionAt (k + 1) fs from ≡ conclusionsAt index k
 
 -- No rule.
 abbrev pub noBlock : Block
 noBlock = record { head = record { letter = letterU; content = [] }; body = [] }
 
 -- The rules' entries.
-pub record Rules (sig : Signature) (variables : ℕ) (s index : List ℕ) (count : ℕ) (bs : List Block) : Type 0 where
+pub record Rules (s index : List ℕ) (count : ℕ) (bs : List Block) : Type 0 where
   pub few : count ≤ ruleLimit
   pub counted : length bs ≡ count
-  pub each : (k : ℕ) → k < count → RuleAt sig variables s index k (getD bs k noBlock)
+  pub each : (k : ℕ) → k < count → RuleAt s index k (getD bs k noBlock)
 
 -- The index of an accepted group.
 pub record Indexed (sig : Signature) (s index : List ℕ) (variables rules : ℕ) : Type 0 where
   pub variable : Variables s index variables (withLetter letterW (groupPart s .fields))
   pub typed : (i : ℕ) → i < variables → variableOf (fieldIn s (getD index (variablesFrom + i) 0)) .type < length (sig .types)
-  pub rule : Rules sig variables s index rules (blocks letterU (groupPart s .fields))
+  pub rule : Rules s index rules (blocks letterU (groupPart s .fields))
+  pub sound : (k : ℕ) → k < rules → RuleSound sig variables (getD (blocks letterU (groupPart s .fields)) k noBlock)
+  pub first : (k : ℕ) → k < rules → FirstConclusion index (groupPart s .fields) 0 k (getD (blocks letterU (groupPart s .fields)) k noBlock)

@@ -2,3 +2,4 @@
 pub mod Sections
 pub mod Index
 pub mod Answers
+pub mod Lookups

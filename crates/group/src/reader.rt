@@ -125,9 +125,9 @@ fn pass(s: &[u8]) -> Passed
     }
 }
 
-// The G field, which is the first.
+// The G field, which is the first. The pass has read every field of the part, so here and below none is found bad.
 fn title(s: &[u8]) -> Checked
-    ensures { λ r. ⌜ ((end : ℕ) (f : definition.Field) (fs : List definition.Field) → Run (now (s .entry)) 0 end (f ∷ fs) → First r (now (s .entry)) end (titleFault 0 none f) fs) ⌝ }
+    ensures { λ r. ⌜ ((end : ℕ) (f : definition.Field) (fs : List definition.Field) → Run (now (s .entry)) 0 end (f ∷ fs) → First r (now (s .entry)) 0 end (titleFault 0 none f) f fs) ⌝ }
     ensures { λ r. ⌜ Onward r 0 (length (now (s .entry))) ⌝ }
 {
     let f = read_field(s, 0);
@@ -321,7 +321,7 @@ fn rules(
     requires { ⌜ (from ≤ length (now s)) × (length (now s) ≤ groupBytes) ⌝ }
     requires { ⌜ length (now index) ≡ indexSize ⌝ }
     ensures { λ r. ⌜ ((fs : List definition.Field) → Run (now (s .entry)) from end fs → AtRule fs
-        → AllRules r (signatureAt (now (sig .entry)) (now (symbols .entry)) counts) variables (now (s .entry)) (now (index .exit)) fs) ⌝ }
+        → AllRules r (signatureAt (now (sig .entry)) (now (symbols .entry)) counts) variables (now (s .entry)) (now (index .exit)) from fs) ⌝ }
     ensures { λ r. ⌜ Kept (now (index .entry)) (now (index .exit)) ⌝ }
 {
     let mut at = from;
@@ -351,6 +351,7 @@ fn number(c: Checked) -> u8
 }
 
 // The group's answer; where it is accepted, the index holds the positions of its fields. The bytes are only read.
+// The index has the entries that its type says; a proof cannot tell that of a lent array, so the lender does.
 pub fn read_group(
     sig: &[u8],
     symbols: &[u16; INDEX],

@@ -13,7 +13,7 @@ use Rattle.group.proofs.reader.rules.Statement.{statement}
 use Rattle.group.proofs.reader.rules.Tie as tie
 
 abbrev Inv-loop : tie.InvT-loop
-Inv-loop sig symbols counts s from end variables index₀ at₀ count₀ index at count = (at ≤ length s) × Entered index₀ index at count × ((fs : List Field) → Run s from end fs → AtRule fs → Ruling (signatureAt sig symbols counts) variables s index end fs at count)
+Inv-loop sig symbols counts s from end variables index₀ at₀ count₀ index at count = (at ≤ length s) × Entered index₀ index at count × ((fs : List Field) → Run s from end fs → AtRule fs → Ruling (signatureAt sig symbols counts) variables s index from end fs at count)
 
 abbrev μ-loop : tie.MeasureT-loop
 μ-loop sig symbols counts s from end variables index₀ at₀ count₀ index at count = end - at

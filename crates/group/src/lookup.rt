@@ -1,0 +1,153 @@
+// What an accepted group says: its variables, where its rules stand, and its statements.
+ghost use mathlib.Core.Path.{_≡_};
+ghost use Prim.Native.Nat.{ℕ, _+_, _*_, _%_, _≤_, _<_};
+ghost use lib.ListN.{length, getD};
+ghost use Rattle.definition.specs.Letters.{letterU};
+ghost use Rattle.definition.specs.Records.{numbers, blocks};
+ghost use Rattle.definition.specs.Group.{statementOf, groupPart};
+ghost use Rattle.definition.specs.Scope.{variableNumbered, sameVariable, sameVariables};
+ghost use Rattle.records.specs.Places.{stretch, fieldOf};
+ghost use Rattle.group.specs.Index.{noBlock, Rules};
+ghost use Rattle.group.specs.Lookups.{table, Listed, NameAt, SectionsAt, Says, VariablesAt};
+use crate::ids::CONCLUSIONS_FROM;
+use crate::ids::GROUP_INDEX;
+use crate::ids::RULES_FROM;
+use crate::ids::VARIABLES_FROM;
+use crate::ids::VarId;
+use records::fields::num;
+use records::fields::two;
+use records::order::same_bytes;
+use signature::ids::TypeId;
+
+// Where a name stands.
+pub struct Name {
+    pub start: usize,
+    pub len: usize,
+}
+
+// A rule: its B fields stand from `premises` to `conclusions`, its H fields from there to `end`.
+pub struct Sections {
+    pub premises: usize,
+    pub conclusions: usize,
+    pub end: usize,
+}
+
+// A statement: its kind and symbol, how many variables it has, and where they stand, two bytes each.
+pub struct Statement {
+    pub kind: u8,
+    pub symbol: u16,
+    pub count: usize,
+    pub at: usize,
+}
+
+fn place(x: u16) -> usize
+    ensures { λ r. ⌜ (r ≡ x) × (r < 65536) ⌝ }
+{
+    x as usize
+}
+
+// The type of a variable.
+pub fn variable_type(s: &[u8], index: &[u16; GROUP_INDEX], variables: usize, v: VarId) -> TypeId
+    requires { ⌜ Listed (now s) (now index) variables ⌝ }
+    requires { ⌜ v .0 < variables ⌝ }
+    ensures { λ r. ⌜ r .0 ≡ variableNumbered (table (now (s .entry))) (v .0) .type ⌝ }
+{
+    let at = place(index[VARIABLES_FROM + place(v.0)]);
+    TypeId(num(s, at + 3))
+}
+
+// Where the name of a variable stands.
+pub fn variable_name(s: &[u8], index: &[u16; GROUP_INDEX], variables: usize, v: VarId) -> Name
+    requires { ⌜ Listed (now s) (now index) variables ⌝ }
+    requires { ⌜ v .0 < variables ⌝ }
+    ensures { λ r. ⌜ NameAt (now (s .entry)) (r .start) (r .len) (variableNumbered (table (now (s .entry))) (v .0) .name) ⌝ }
+{
+    let at = place(index[VARIABLES_FROM + place(v.0)]);
+    Name {
+        start: at + 5,
+        len: two(s, at + 1) - 2,
+    }
+}
+
+// Are two variables the same, by name and type? Their numbers say nothing: `a1` at 2 and `a` at 12 both print `a12`.
+pub fn same_variable(
+    s: &[u8],
+    index: &[u16; GROUP_INDEX],
+    variables: usize,
+    v: VarId,
+    w: VarId,
+) -> bool
+    requires { ⌜ Listed (now s) (now index) variables ⌝ }
+    requires { ⌜ (v .0 < variables) × (w .0 < variables) ⌝ }
+    ensures { λ r. ⌜ r ≡ sameVariable (table (now (s .entry))) (v .0) (w .0) ⌝ }
+{
+    let t = variable_type(s, index, variables, v);
+    let u = variable_type(s, index, variables, w);
+    if t.0 != u.0 {
+        return false;
+    }
+    let a = variable_name(s, index, variables, v);
+    let b = variable_name(s, index, variables, w);
+    same_bytes(s, a.start, a.len, b.start, b.len)
+}
+
+// Where the sections of a rule stand.
+pub fn rule_sections(s: &[u8], index: &[u16; GROUP_INDEX], rules: usize, k: usize) -> Sections
+    requires { ⌜ Rules (now s) (now index) rules (blocks letterU (groupPart (now s) .fields)) ⌝ }
+    requires { ⌜ k < rules ⌝ }
+    ensures { λ r. ⌜ SectionsAt (now (s .entry)) (r .premises) (r .conclusions) (r .end) (getD (blocks letterU (groupPart (now (s .entry)) .fields)) k noBlock) ⌝ }
+{
+    let at = place(index[RULES_FROM + k]);
+    Sections {
+        premises: at + 3 + two(s, at + 1),
+        conclusions: place(index[CONCLUSIONS_FROM + k]),
+        end: place(index[RULES_FROM + k + 1]),
+    }
+}
+
+// The statement of a B or H field, by the content of the field.
+pub fn read_statement(s: &[u8], start: usize, len: usize) -> Statement
+    requires { ⌜ (start + len ≤ length (now s)) × (3 ≤ len) × (len % 2 ≡ 1) ⌝ }
+    ensures { λ r. ⌜ ((letter : ℕ) → Says (now (s .entry)) r (statementOf (fieldOf (now (s .entry)) letter start len))) ⌝ }
+{
+    Statement {
+        kind: s[start],
+        symbol: num(s, start + 1),
+        count: (len - 3) / 2,
+        at: start + 3,
+    }
+}
+
+// The variable at a place among those that stand from a position on.
+pub fn variable_at(s: &[u8], at: usize, i: usize) -> VarId
+    requires { ⌜ at + 2 * i + 2 ≤ length (now s) ⌝ }
+    ensures { λ r. ⌜ ((count : ℕ) → i < count → at + 2 * count ≤ length (now (s .entry)) → r .0 ≡ getD (numbers (stretch (now (s .entry)) at (2 * count))) i 0) ⌝ }
+{
+    VarId(num(s, at + 2 * i))
+}
+
+// Are the first variables at two positions the same, so many of each?
+pub fn same_variables(
+    s: &[u8],
+    index: &[u16; GROUP_INDEX],
+    variables: usize,
+    a: usize,
+    b: usize,
+    count: usize,
+) -> bool
+    requires { ⌜ Listed (now s) (now index) variables ⌝ }
+    requires { ⌜ VariablesAt (now s) variables a count ⌝ }
+    requires { ⌜ VariablesAt (now s) variables b count ⌝ }
+    ensures { λ r. ⌜ r ≡ sameVariables (table (now (s .entry))) (numbers (stretch (now (s .entry)) a (2 * count))) (numbers (stretch (now (s .entry)) b (2 * count))) ⌝ }
+{
+    let mut i: usize = 0;
+    while i < count {
+        let v = VarId(num(s, a + 2 * i));
+        let w = VarId(num(s, b + 2 * i));
+        if !same_variable(s, index, variables, v, w) {
+            return false;
+        }
+        i += 1;
+    }
+    true
+}
