@@ -10,6 +10,9 @@ use Rattle.signature.specs.Answers.{signatureReading, Usable}
 use Rattle.signature.specs.declared.ids.Counts.{Counts}
 use Rattle.signature.specs.declared.reader.Reading.{Reading}
 use Rattle.signature.specs.declared.reader.Reading.the-variants as signature
+use Rattle.rule.specs.Answers.{ruleReading}
+use Rattle.rule.specs.declared.reader.Reading as Rule
+use Rattle.rule.specs.declared.reader.Reading.the-variants as rule
 use Rattle.group.specs.Answers.{groupReading}
 use Rattle.group.specs.declared.reader.Reading as Group
 use Rattle.group.specs.declared.reader.Reading.the-variants as group
@@ -35,3 +38,10 @@ group-refused s e = rw e
 
 pub group-sound : (s : List ℕ) {r : Group.Reading} {v n : ℕ} → r ≡ group.Sound v n → none ≡ refusalOf (groupReading s r)
 group-sound s e = rw e
+
+-- A rule's, likewise.
+pub rule-refused : (s : List ℕ) {r : Rule.Reading} {n : ℕ} → r ≡ rule.Refused n → some n ≡ refusalOf (ruleReading s r)
+rule-refused s e = rw e
+
+pub rule-sound : (s : List ℕ) {r : Rule.Reading} {n : ℕ} → r ≡ rule.Sound n → none ≡ refusalOf (ruleReading s r)
+rule-sound s e = rw e

@@ -4,6 +4,7 @@ use mathlib.Core.Option.{Option, none, some}
 use Prim.Native.Nat.{ℕ}
 use Rattle.definition.specs.Base.{Outcome, refused, accepted, onAccepted}
 use Rattle.definition.specs.Signature.{Signature, readSignature}
+use Rattle.definition.specs.Rule.{Rule, readRule}
 use Rattle.definition.specs.Group.{Group, readGroup}
 use Rattle.signature.specs.declared.reader.Reading.{Reading}
 use Rattle.signature.specs.declared.reader.Reading.the-variants as signature
@@ -23,6 +24,10 @@ refusalOf (accepted a) = none
 abbrev pub numberOf : Reading → ℕ
 numberOf (signature.Sound counts) = 0
 numberOf (signature.Refused n) = n
+
+-- A signature and a rule read: 'all of the signature's refusals, then all of the rule's'.
+abbrev pub ruleRead : List ℕ → List ℕ → Outcome Rule
+ruleRead sig rule = onAccepted (readSignature sig) (λ (g : Signature). readRule g rule)
 
 -- A signature and a group read: 'all of the signature's refusals, then all of the group's'.
 abbrev pub groupRead : List ℕ → List ℕ → Outcome Group

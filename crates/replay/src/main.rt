@@ -1,6 +1,7 @@
 // Answers cases from standard input, a line for each.
 //
-// A case is a letter and parts, each part a four-byte length (high byte first) and its bytes. G: signature, group.
+// A case is a letter and parts, each part a four-byte length (high byte first) and its bytes. R: signature, rule. G: signature,
+// group.
 // A part keeps its first 65,536 bytes; the others are read and dropped. Input that ends inside a case, or an unknown letter, ends
 // the run with the line `bad case`.
 ghost use Prim.Native.Nat.{_≤_, _<_};
@@ -8,6 +9,7 @@ ghost use lib.ListN.{length};
 ghost use Rattle.replay.specs.Parts.{Within};
 use reading::Verdict;
 use reading::check_group;
+use reading::check_rule;
 
 const PART: usize = 65536;
 
@@ -119,9 +121,24 @@ enum Case {
     Bad,
 }
 
+// What is asked of a record, by the case's letter.
+fn judge(letter: u8, sig: &[u8], s: &[u8]) -> Verdict {
+    if letter == b'R' {
+        return check_rule(sig, s);
+    }
+    check_group(sig, s)
+}
+
+fn known(letter: u8) -> bool {
+    match letter {
+        b'R' | b'G' => true,
+        _ => false,
+    }
+}
+
 // One case behind its letter.
 fn answer(letter: u8, first: &mut [u8], second: &mut [u8]) -> Case {
-    if letter != b'G' {
+    if !known(letter) {
         return Case::Bad;
     }
     let a = read_part(first);
@@ -132,7 +149,7 @@ fn answer(letter: u8, first: &mut [u8], second: &mut [u8]) -> Case {
     let Four::Number(n) = b else {
         return Case::Bad;
     };
-    print_verdict(check_group(&first[..m], &second[..n]));
+    print_verdict(judge(letter, &first[..m], &second[..n]));
     Case::Answered
 }
 

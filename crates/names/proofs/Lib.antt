@@ -1,0 +1,11 @@
+-- Laws of this crate.
+pub mod Choices
+pub mod Entries
+pub mod Whole
+pub mod Placed
+pub mod Seeking
+pub mod Carrying
+pub mod News
+pub mod Printing
+pub mod Opening
+pub mod Reached

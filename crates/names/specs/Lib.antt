@@ -1,0 +1,5 @@
+-- What the contracts of this crate cite beside the definition.
+pub mod Variables
+pub mod Structures
+pub mod Bases
+pub mod Maps

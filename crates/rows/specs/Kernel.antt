@@ -1,0 +1,47 @@
+-- Keys of one image, their variables and the variables' types.
+use Prim.Native.Nat.{ℕ, _<_}
+use mathlib.Core.Bool.{Bool, not, _&&_}
+use mathlib.Core.List.{List}
+use mathlib.Core.Path.{_≡_}
+use lib.Dec.{eqb}
+use lib.ListN.{length, getD, take}
+use Rattle.definition.specs.Base.{each, _∈_}
+use Rattle.definition.specs.Group.{Variable}
+use Rattle.definition.specs.Kinds.{Side, variableIn, typeIn}
+use Rattle.definition.specs.Names.{numbersOf}
+use Rattle.definition.specs.Rule.{Structure, Pair}
+use Rattle.rows.specs.Maps.{pairAt}
+use Rattle.rows.specs.declared.maps.Map.{Map}
+
+-- The variables of a map's keys, in the keys' order.
+pub record KeyVars (source : Side) (pairs : List Pair) (vars : List ℕ) : Type 0 where
+  pub same : take (length pairs) vars ≡ each (λ (p : Pair). variableIn source (p .key)) pairs
+
+-- Each of them has a place in the table of types.
+pub record Typed (m : Map) (vars : List ℕ) (size : ℕ) : Type 0 where
+  pub below : (p : ℕ) → p < m .pairs → getD vars p 0 < size
+
+-- The table of types: that of each variable given out, and 0 behind them.
+pub record TypesOf (table : List Variable) (types : List ℕ) : Type 0 where
+  pub same : (v : ℕ) → v < length types → getD types v 0 ≡ typeIn table v
+
+-- A type for each key, as the table has it.
+pub record KeyTypes (s : List ℕ) (m : Map) (vars types : List ℕ) (type : Pair → ℕ) : Type 0 where
+  pub same : (i : ℕ) → i < m .pairs → getD types (getD vars i 0) 0 ≡ type (pairAt s m i)
+
+-- A structure with its elements' variables, as a row of them has it: the elements' numbers, and a variable at the place of each.
+pub record SideAt (els row : List ℕ) (side : Side) : Type 0 where
+  pub numbers : numbersOf (side .structure) ≡ els
+  pub variables : (i : ℕ) → i < length els → getD row i 0 ≡ getD (side .variables) i 0
+
+-- The keys are elements of the source.
+pub record KeysIn (els : List ℕ) (pairs : List Pair) : Type 0 where
+  pub named : (p : Pair) → p ∈ pairs → p .key ∈ els
+
+-- The images are elements of the target.
+pub record ImagesIn (target : Structure) (pairs : List Pair) : Type 0 where
+  pub named : (p : Pair) → p ∈ pairs → p .image ∈ numbersOf target
+
+-- Two keys of one image that differ in type.
+abbrev pub clash : (Pair → ℕ) → Pair → Pair → Bool
+clash type a b = eqb (a .image) (b .image) && not (eqb (type a) (type b))

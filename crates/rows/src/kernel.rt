@@ -1,0 +1,87 @@
+// Keys and their variables; kernel pairs: two keys of one image. Refusal 25.
+ghost use mathlib.Core.List.{List};
+ghost use mathlib.Core.Path.{_≡_};
+ghost use Prim.Native.Nat.{ℕ, _+_, _<_};
+ghost use lib.ListN.{length, drop};
+ghost use Rattle.definition.specs.Base.{any};
+ghost use Rattle.definition.specs.Group.{Variable};
+ghost use Rattle.definition.specs.Kinds.{Side, kernelClashes};
+ghost use Rattle.definition.specs.Limits.{structureLimit};
+ghost use Rattle.definition.specs.Rule.{Pair};
+ghost use Rattle.definition.specs.Signature.{Signature};
+ghost use Rattle.rule.specs.Elements.{elementNumbers, Elements};
+ghost use Rattle.rows.specs.Maps.{pairAt, pairsIn, MapIn};
+ghost use Rattle.rows.specs.Kernel.{clash, KeyVars, KeyTypes, TypesOf, KeysIn, ImagesIn, SideAt, Typed};
+use crate::maps::{pair_image, pair_key};
+use crate::maps::Map;
+use rule::elements::find_element;
+use rule::elements::Found;
+use rule::ids::RULE_INDEX;
+
+// A variable's number as a place.
+fn variable(v: u16) -> usize
+    ensures { λ r. ⌜ (r ≡ v) × (r < 65536) ⌝ }
+{
+    v as usize
+}
+
+// The variables of a map's keys, in the keys' order; `row` has those of the source's elements, by their places.
+pub fn key_vars(s: &[u8], index: &[u16; RULE_INDEX], k: usize, row: &[u16; 64], m: Map) -> [u16; 64]
+    requires { ⌜ MapIn (now s) m ⌝ }
+    requires { ⌜ k < structureLimit ⌝ }
+    requires { ⌜ Elements (now s) (now index) k ⌝ }
+    requires { ⌜ KeysIn (elementNumbers (now s) (now index) k) (pairsIn (now s) m) ⌝ }
+    ensures { λ r. ⌜ ((source : Side) → SideAt (elementNumbers (now (s .entry)) (now (index .entry)) k) (now (row .entry)) source → KeyVars source (pairsIn (now (s .entry)) m) r) ⌝ }
+{
+    let mut vars = [0u16; 64];
+    let mut p: usize = 0;
+    while p < m.pairs {
+        let f = find_element(s, index, k, pair_key(s, m, p));
+        let Found::At(i) = f else {
+            return vars;
+        };
+        vars[p] = row[i];
+        p += 1;
+    }
+    vars
+}
+
+// Does the variable of a key differ in type from that of a later key of the same image?
+fn clashes_later(s: &[u8], m: Map, vars: &[u16; 64], types: &[u16], p: usize) -> bool
+    requires { ⌜ MapIn (now s) m ⌝ }
+    requires { ⌜ p < m .pairs ⌝ }
+    requires { ⌜ Typed m (now vars) (length (now types)) ⌝ }
+    ensures { λ r. ⌜ ((type : Pair → ℕ) → KeyTypes (now (s .entry)) m (now (vars .entry)) (now (types .entry)) type
+        → r ≡ any (clash type (pairAt (now (s .entry)) m p)) (drop (p + 1) (pairsIn (now (s .entry)) m))) ⌝ }
+{
+    let image = pair_image(s, m, p);
+    let ty = types[variable(vars[p])];
+    let mut q = p + 1;
+    while q < m.pairs {
+        let other = pair_image(s, m, q);
+        if image.0 == other.0 {
+            if ty != types[variable(vars[q])] {
+                return true;
+            }
+        }
+        q += 1;
+    }
+    false
+}
+
+// 25: do two variables of a kernel pair differ in type?
+pub fn kernel_clash(s: &[u8], m: Map, vars: &[u16; 64], types: &[u16]) -> bool
+    requires { ⌜ MapIn (now s) m ⌝ }
+    requires { ⌜ Typed m (now vars) (length (now types)) ⌝ }
+    ensures { λ r. ⌜ ((sig : Signature) (table : List Variable) (source target : Side) → KeyVars source (pairsIn (now (s .entry)) m) (now (vars .entry))
+        → TypesOf table (now (types .entry)) → ImagesIn (target .structure) (pairsIn (now (s .entry)) m) → r ≡ kernelClashes sig table source target (pairsIn (now (s .entry)) m)) ⌝ }
+{
+    let mut p: usize = 0;
+    while p < m.pairs {
+        if clashes_later(s, m, vars, types, p) {
+            return true;
+        }
+        p += 1;
+    }
+    false
+}

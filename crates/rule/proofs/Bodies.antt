@@ -1,0 +1,190 @@
+-- The fields of a structure: the faults of their sections are those of the definition.
+use Prim.Native.Nat.{ℕ, suc, _+_, _-_, _*_, _≤_, _<_}
+use native.Mathlib.Omega.{arith}
+use native.Mathlib.Decide.{ℕ-discrete}
+use mathlib.Core.Bool.{Bool, true}
+use mathlib.Core.List.{List, [], _∷_}
+use mathlib.Core.Path.{_≡_, refl, sym, _∙_, ap}
+use lib.Dec.{leb}
+use lib.ListN.{length, getD}
+use borrow.Author.Tests.{le-leb}
+use Rattle.definition.specs.Base.{keep, each}
+use Rattle.definition.specs.Letters.{letterE, letterR, letterA, letterV, letterI, start}
+use Rattle.definition.specs.Limits.{structureLimit, fieldLimit}
+use Rattle.definition.specs.Records.{Field, numberAt, withLetter, faultAmong}
+use Rattle.definition.specs.Signature.{Signature}
+use Rattle.definition.specs.Rule.{namedElements, elementFault, rowFault, nameFault, bodyFault}
+use Rattle.records.specs.Places.{twoAt, stretch, Run}
+use Rattle.records.specs.Held.{fieldIn}
+use Rattle.records.proofs.Numbers.{length-stretch}
+use Rattle.records.proofs.Index.{length-held, held-get, held-same}
+use Rattle.signature.specs.Faults.{faultOf}
+use Rattle.signature.specs.declared.faults.Fault.{Fault}
+use Rattle.signature.specs.declared.faults.Fault.the-variants.{Sound, Draws}
+use Rattle.rule.specs.Layout.{letterAt, elementsFrom, sections}
+use Rattle.rule.specs.Elements.{countAt, positionAt, elementFields, elementNumbers, numbersIn, Elements, Known}
+use Rattle.rule.specs.Faults.{nameKey, rowSymbols, rowColumns, checkOf, restFault}
+use Rattle.rule.specs.Answers.{Bodied, Kept, Stored, Holds}
+use Rattle.rule.proofs.Drawn.{last-named}
+
+-- Entries that were kept tell the same of the elements of earlier structures.
+module _ {index₀ index : List ℕ} {k j : ℕ} (kept : Kept index₀ index k) (h : j < k) where
+  kept-position : (i : ℕ) → i < fieldLimit → positionAt index j i ≡ positionAt index₀ j i
+  kept-position i l = kept .before (elementsFrom + fieldLimit * j + i) (omega arith)
+
+  pub kept-elements : {s : List ℕ} → Elements s index₀ j → Elements s index j
+  kept-elements {s} w =
+      let c = kept .counts j h in
+      record {
+        few = rw c (w .few);
+        sized = λ i l. rw (kept-position i (omega (arith, w .few))) (w .sized i (rw c at l));
+        inside = λ i l. rw (kept-position i (omega (arith, w .few))) (w .inside i (rw c at l));
+        ascend = λ i m l n. rw (kept-position i (omega (arith, w .few)), kept-position m (omega (arith, w .few))) (w .ascend i m l (rw c at n));
+      }
+
+  pub kept-fields : {s : List ℕ} → Elements s index₀ j → elementFields s index j ≡ elementFields s index₀ j
+  unfolding elementFields
+  kept-fields {s} w =
+      let c = kept .counts j h in
+      rw c (held-same s index index₀ (elementsFrom + fieldLimit * j) (countAt index₀ j) (λ i a b. kept .before i (omega (arith, w .few))))
+
+pub kept-trans : {index₀ index₁ index₂ : List ℕ} {k : ℕ} → Kept index₀ index₁ 0 → Kept index₁ index₂ k → Kept index₀ index₂ 0
+kept-trans a b = record { before = λ i h. b .before i (omega arith) ∙ a .before i h; counts = λ j h. absurd (omega arith) }
+
+-- The elements of one structure more are known.
+pub known-more : {s index₀ index : List ℕ} {k : ℕ} → Kept index₀ index k → Known s index₀ k → k < structureLimit → Elements s index k → Known s index (k + 1)
+known-more {s} {index₀} {index} {k} kept w h el = record { few = omega arith; elements = λ j l. go j l (ℕ-discrete j k) }
+  where
+    go : (j : ℕ) → j < k + 1 → Dec (j ≡ k) → Elements s index j
+    go j l (yes q) = rw q el
+    go j l (no q) = kept-elements kept (omega arith) (w .elements j (omega arith))
+
+-- Elements that are known can be named, all of them.
+keep-all : {A : Type 0} (p : A → Bool) (xs : List A) (d : A) → ((i : ℕ) → i < length xs → p (getD xs i d) ≡ true) → keep p xs ≡ xs
+unfolding keep
+keep-all p [] d h = refl
+keep-all p (x ∷ xs) d h = rw (h 0 (omega arith), keep-all p xs d (λ i l. h (suc i) (omega arith)))
+
+abbrev noField : Field
+noField = record { letter = start; content = [] }
+
+field-long : {s index : List ℕ} {k : ℕ} → Elements s index k → (i : ℕ) → i < length (elementFields s index k)
+    → leb 2 (length (getD (elementFields s index k) i noField .content)) ≡ true
+unfolding elementFields fieldIn
+field-long {s} {index} {k} w i l =
+    let h : i < countAt index k = rw (length-held s index (elementsFrom + fieldLimit * k) (countAt index k)) at l in
+    let z = w .sized i h in
+    let n : length (stretch s (positionAt index k i + 3) (twoAt s (positionAt index k i + 1))) ≡ twoAt s (positionAt index k i + 1)
+    = length-stretch s (positionAt index k i + 3) (twoAt s (positionAt index k i + 1)) (w .inside i h) in
+    rw (held-get s index (elementsFrom + fieldLimit * k) (countAt index k) i noField h, n) (le-leb 2 (twoAt s (positionAt index k i + 1)) (omega arith))
+
+pub named-is : {s index : List ℕ} {k : ℕ} (body : List Field) → Elements s index k → elementFields s index k ≡ withLetter letterE body
+    → elementNumbers s index k ≡ namedElements body
+unfolding elementNumbers namedElements
+named-is {s} {index} {k} body w e =
+    rw (← e) (ap (each (λ (f : Field). numberAt 0 (f .content))) (sym (keep-all (λ (f : Field). leb 2 (length (f .content))) (elementFields s index k) noField (field-long w))))
+
+pub letter-e : letterAt 3 ≡ letterE
+unfolding letterAt
+letter-e = refl
+
+pub letter-r : letterAt 4 ≡ letterR
+unfolding letterAt
+letter-r = refl
+
+pub letter-a : letterAt 5 ≡ letterA
+unfolding letterAt
+letter-a = refl
+
+pub letter-v : letterAt 6 ≡ letterV
+unfolding letterAt
+letter-v = refl
+
+pub letter-i : letterAt 7 ≡ letterI
+unfolding letterAt
+letter-i = refl
+
+-- The sections of a structure, by numbers that the code computes.
+pub rest-run : {s index : List ℕ} {k : ℕ} {body : List Field} → Bodied s index k body → (q letter t u : ℕ) → 3 ≤ q → q ≤ 7 → letterAt q ≡ letter → t ≡ 6 * k + q - 1 → u ≡ 6 * k + q
+    → Run s (getD index t 0) (getD index u 0) (withLetter letter body)
+rest-run b q letter t u lo hi e m n = rw (m, n, ← e) (b .run q lo hi)
+
+pub bodied-kept : {s index₀ index : List ℕ} {k m : ℕ} {body : List Field} → k < structureLimit → Kept index₀ index m → Bodied s index₀ k body → Bodied s index k body
+bodied-kept {k = k} h kept b = record { run = λ q lo hi. rw (kept .before (6 * k + q - 1) (omega arith), kept .before (6 * k + q) (omega arith)) (b .run q lo hi) }
+
+-- R, A, V and I, in that order.
+module _ (sig : Signature) (s index : List ℕ) (k : ℕ) (body : List Field) (e : elementNumbers s index k ≡ namedElements body) where
+  abbrev Of : ℕ → Fault → Type 0
+  Of letter r = faultOf r ≡ faultAmong letter (checkOf sig (numbersIn s index (k + 1)) letter) body
+
+  last-is : getD (numbersIn s index (k + 1)) (length (numbersIn s index (k + 1)) - 1) [] ≡ namedElements body
+  last-is = let z : k + 1 - 1 ≡ k = omega arith in last-named s index (k + 1) (omega arith) ∙ rw z e
+
+  of-r : (r : Fault) → Of letterR r → faultOf r ≡ faultAmong letterR (rowFault 0 (rowSymbols sig 0) (rowColumns sig 0) (namedElements body)) body
+  unfolding checkOf
+  of-r r h = rw (← last-is) h
+
+  of-a : (r : Fault) → Of letterA r → faultOf r ≡ faultAmong letterA (rowFault 1 (rowSymbols sig 1) (rowColumns sig 1) (namedElements body)) body
+  unfolding checkOf
+  of-a r h = rw (← last-is) h
+
+  of-v : (r : Fault) → Of letterV r → faultOf r ≡ faultAmong letterV (nameFault 1 (nameKey 1) (namedElements body)) body
+  unfolding checkOf
+  of-v r h = rw (← last-is) h
+
+  of-i : (r : Fault) → Of letterI r → faultOf r ≡ faultAmong letterI (nameFault 2 (nameKey 2) (namedElements body)) body
+  unfolding checkOf
+  of-i r h = rw (← last-is) h
+
+  abbrev Answer : Fault → Type 0
+  Answer r = faultOf r ≡ restFault sig (namedElements body) body
+
+  pub rest-r : {r : Fault} {n : ℕ} → Of letterR r → r ≡ Draws n → Answer r
+  unfolding restFault
+  rest-r {r} h d = sym (rw (← (of-r r h), d))
+
+  module _ {r : Fault} (hr : Of letterR r) (dr : r ≡ Sound) where
+    pub rest-a : {a : Fault} {n : ℕ} → Of letterA a → a ≡ Draws n → Answer a
+    unfolding restFault
+    rest-a {a} h d = sym (rw (← (of-r r hr), dr, ← (of-a a h), d))
+
+    module _ {a : Fault} (ha : Of letterA a) (da : a ≡ Sound) where
+      pub rest-v : {v : Fault} {n : ℕ} → Of letterV v → v ≡ Draws n → Answer v
+      unfolding restFault
+      rest-v {v} h d = sym (rw (← (of-r r hr), dr, ← (of-a a ha), da, ← (of-v v h), d))
+
+      pub rest-i : {v : Fault} → Of letterV v → v ≡ Sound → (i : Fault) → Of letterI i → Answer i
+      unfolding restFault
+      rest-i {v} hv dv i h = sym (rw (← (of-r r hr), dr, ← (of-a a ha), da, ← (of-v v hv), dv, ← (of-i i h)))
+
+-- E before them.
+module _ (sig : Signature) (body : List Field) where
+  abbrev OfE : Fault → Type 0
+  OfE r = faultOf r ≡ faultAmong letterE (elementFault sig (namedElements body)) body
+
+  pub body-e : {r : Fault} {n : ℕ} → OfE r → r ≡ Draws n → faultOf r ≡ bodyFault sig (namedElements body) body
+  unfolding bodyFault
+  body-e h d = sym (rw (← h, d))
+
+  pub body-rest : {r : Fault} (t : Fault) → OfE r → r ≡ Sound → faultOf t ≡ restFault sig (namedElements body) body → faultOf t ≡ bodyFault sig (namedElements body) body
+  unfolding bodyFault restFault rowColumns nameKey
+  body-rest t h d k = k ∙ sym (rw (← h, d))
+
+-- Whatever the answer is.
+pub holds-any : {s index : List ℕ} {k : ℕ} {body : List Field} → Holds Sound s index k body → (r : Fault) → Holds r s index k body
+holds-any w Sound = w
+holds-any w (Draws n) = record { is = tt }
+
+pub stored-any : {s index₀ index : List ℕ} {k : ℕ} → Stored Sound s index₀ index k → (r : Fault) → Stored r s index₀ index k
+stored-any w Sound = w
+stored-any w (Draws n) = record { kept = w .kept; known = tt }
+
+-- Nothing has been stored.
+pub kept-same : {index : List ℕ} → Kept index index 0
+kept-same = record { before = λ i h. refl; counts = λ j h. refl }
+
+pub known-none : {s index : List ℕ} → Known s index 0
+known-none = record { few = omega arith; elements = λ k h. absurd (omega arith) }
+
+pub known-here : {s index : List ℕ} {k n : ℕ} → Known s index k → n ≤ k → k ≤ n → Known s index n
+known-here w a b = record { few = omega (arith, w .few); elements = λ j h. w .elements j (omega arith) }

@@ -1,0 +1,16 @@
+pub mod Blocks
+pub mod Letters
+pub mod Sections
+pub mod Passing
+pub mod Filling
+pub mod Keys
+pub mod Finding
+pub mod Drawn
+pub mod PairLaws
+pub mod Checking
+pub mod Heads
+pub mod Storing
+pub mod Bodies
+pub mod Structures
+pub mod Whole
+pub mod Saying

@@ -1,0 +1,51 @@
+use Rattle.rule.proofs.Whole.{tail-m, tail-k, tail-x, tail-run, letter-m, letter-k, letter-x}
+use mathlib.Core.Logic.{⊎-elim}
+use borrow.Author.Needs.{needs}
+use native.Mathlib.Omega.{arith}
+use Rattle.rule.proofs.reader.check_tail.Statement.{statement}
+use Rattle.rule.proofs.reader.check_tail.Tie as tie
+
+check-section-requires : tie.Need-check-section-requires
+check-section-requires c κs = (c .before .before .pre .0, (c .before .before .pre .1, (omega arith, λ q. absurd (⊎-elim (λ e. omega arith) (⊎-elim (λ e. omega arith) (⊎-elim (λ e. omega arith) (λ e. omega arith))) q))))
+
+enum-told : tie.Need-enum-told
+enum-told c = search needs
+
+enum-told-2 : tie.Need-enum-told-2
+enum-told-2 c = search needs
+
+returns : tie.Need-returns
+returns c = λ fs b e. tail-m _ fs e (c .before .before .check-section .ensures fs (tail-run b 8 _ 193 194 (omega arith) (omega arith) letter-m (omega arith) (omega arith))) (c .enum-told2 .given .1)
+
+check-section-requires-2 : tie.Need-check-section-requires-2
+check-section-requires-2 c κs = (c .before .before .before .before .before .pre .0, (c .before .before .before .before .before .pre .1, (omega arith, λ q. absurd (⊎-elim (λ e. omega arith) (⊎-elim (λ e. omega arith) (⊎-elim (λ e. omega arith) (λ e. omega arith))) q))))
+
+enum-told-3 : tie.Need-enum-told-3
+enum-told-3 c = search needs
+
+enum-told-4 : tie.Need-enum-told-4
+enum-told-4 c = search needs
+
+returns-2 : tie.Need-returns-2
+returns-2 c = λ fs b e. tail-k _ fs e (c .before .before .before .before .before .check-section .ensures fs (tail-run b 8 _ 193 194 (omega arith) (omega arith) letter-m (omega arith) (omega arith))) (c .before .before .before .enum-told .given .1) (c .before .before .check-section2 .ensures fs (tail-run b 9 _ 194 195 (omega arith) (omega arith) letter-k (omega arith) (omega arith))) (c .enum-told4 .given .1)
+
+check-section-requires-3 : tie.Need-check-section-requires-3
+check-section-requires-3 c κs = (c .before .before .before .before .before .before .before .before .pre .0, (c .before .before .before .before .before .before .before .before .pre .1, (omega arith, λ q. absurd (⊎-elim (λ e. omega arith) (⊎-elim (λ e. omega arith) (⊎-elim (λ e. omega arith) (λ e. omega arith))) q))))
+
+returns-3 : tie.Need-returns-3
+returns-3 c = λ fs b e. tail-x _ fs e (c .before .before .before .before .before .before .check-section .ensures fs (tail-run b 8 _ 193 194 (omega arith) (omega arith) letter-m (omega arith) (omega arith))) (c .before .before .before .before .enum-told .given .1) (c .before .before .before .check-section2 .ensures fs (tail-run b 9 _ 194 195 (omega arith) (omega arith) letter-k (omega arith) (omega arith))) (c .before .enum-told3 .given .1) (c .check-section3 .result) (c .check-section3 .ensures fs (tail-run b 10 _ 195 196 (omega arith) (omega arith) letter-x (omega arith) (omega arith)))
+
+pub check-tail-spec : {M : Type 1} → statement M
+check-tail-spec =
+    tie.close
+    (tie.spec
+    check-section-requires
+    enum-told
+    enum-told-2
+    returns
+    check-section-requires-2
+    enum-told-3
+    enum-told-4
+    returns-2
+    check-section-requires-3
+    returns-3)

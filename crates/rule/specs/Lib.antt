@@ -1,0 +1,6 @@
+-- What the contracts of this crate cite beside the definition.
+pub mod Layout
+pub mod Elements
+pub mod Faults
+pub mod Answers
+pub mod Lookup

@@ -1,0 +1,8 @@
+// The rule record: its N, S, E, R, A, V, I, M, K and X fields, their faults, the index of them, and what they say.
+pub mod elements;
+pub mod faults;
+pub mod ids;
+pub mod lookup;
+pub mod order;
+pub mod pass;
+pub mod reader;
