@@ -153,8 +153,8 @@ module _ {sig : Signature} {kind : ℕ} {s els : List ℕ} {end : ℕ} {seen : L
       let a = args-are k q in
       let b = row-is (k .here) kind letter in
       let w : seen ++ joined (arguments sig) (each (rowOf kind) (take (m .i + 1) fs))
-          ≡ seen ++ joined (arguments sig) (each (rowOf kind) (take (m .i) fs)) ++ numbers (stretch s (start + 2 + 2 * p) (2 * (len / 2 - 1 - p)))
-          = rw (n .took, each-append, joined-append, b, a, append-nil, append-assoc) in
+      ≡ seen ++ joined (arguments sig) (each (rowOf kind) (take (m .i) fs)) ++ numbers (stretch s (start + 2 + 2 * p) (2 * (len / 2 - 1 - p)))
+      = rw (n .took, each-append, joined-append, b, a, append-nil, append-assoc) in
       record { i = m .i + 1; passed = n .passed; marks = rw w (g _ (m .marks)) }
 
   pub marking-end : end ≤ at → Marks flags els (seen ++ joined (arguments sig) (each (rowOf kind) fs))
@@ -171,7 +171,7 @@ marks-say {flags} {els} {seen} m h f g =
     let a : length (take (length els) flags) ≡ length els = length-take-le (length els) flags h in
     let b : length (each f els) ≡ length els = length-each f els in
     ext-getD false (take (length els) flags) (each f els) (a ∙ sym b) (λ j l. getD-take (length els) flags j false (omega arith) ∙ m .at j (omega arith)
-        ∙ sym (getD-each f els j 0 false (omega arith) ∙ g (getD els j 0)))
+    ∙ sym (getD-each f els j 0 false (omega arith) ∙ g (getD els j 0)))
 
 pub constrained-say : {s index : List ℕ} {k : ℕ} → Elements s index k → {flags : List Bool} {ps qs : List Row} (sig : Signature) (st : Structure)
     → Marks flags (elementNumbers s index k) ([] ++ joined (arguments sig) ps ++ joined (arguments sig) qs) → length flags ≡ fieldLimit

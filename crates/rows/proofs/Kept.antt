@@ -117,9 +117,9 @@ module _ (s index : List ℕ) (k : ℕ) (order : List ℕ) (below : Below (count
       ap (keep (λ (r : Row). not (constrained sig st (lastElement r)))) (kept-members pairs sources flags e)
       ∙ keep-each (λ (r : Row). not (constrained sig st (lastElement r))) (memberIn s index k) (keep (λ (p : ℕ). getD flags p false) order)
       ∙ ap (each (memberIn s index k))
-          (keep-keep (λ (p : ℕ). not (constrained sig st (lastElement (memberIn s index k p)))) (λ (p : ℕ). getD flags p false) order
-          ∙ keep-same (λ (p : ℕ). getD flags p false && not (constrained sig st (lastElement (memberIn s index k p)))) (λ (p : ℕ). getD flags p false && not (getD marks p false)) order
-              (λ p m. rw (member-last (elementIn s index k p), ← (constrained-at s index k st same marks p (below .each-below p m) sig f))))
+      (keep-keep (λ (p : ℕ). not (constrained sig st (lastElement (memberIn s index k p)))) (λ (p : ℕ). getD flags p false) order
+      ∙ keep-same (λ (p : ℕ). getD flags p false && not (constrained sig st (lastElement (memberIn s index k p)))) (λ (p : ℕ). getD flags p false && not (getD marks p false)) order
+      (λ p m. rw (member-last (elementIn s index k p), ← (constrained-at s index k st same marks p (below .each-below p m) sig f))))
 
 -- The member rows of a structure that the index has.
 pub members-are : (s index : List ℕ) (k : ℕ) (st : Structure) → st .elements ≡ elementsIn s index k → members st ≡ sortRows (memberRows (elementsIn s index k))

@@ -85,13 +85,19 @@ unfolding anyTwo
 two t [] e = never e refl
 two t (p ∷ ps) e = ⊎-elim
     (λ h. let r = any-true (t p) ps h in record {
-        a = p; b = r .0; first = List·Memᴰ·head refl; holds = r .2;
-        for = λ u q. rw (any-mem (u p) ps (r .1) q);
-      })
+      a = p;
+      b = r .0;
+      first = List·Memᴰ·head refl;
+      holds = r .2;
+      for = λ u q. rw (any-mem (u p) ps (r .1) q);
+    })
     (λ h. let r = two t ps h in record {
-        a = r .a; b = r .b; first = List·Memᴰ·tail (r .first); holds = r .holds;
-        for = λ u q. or-right-true (any (u p) ps) (r .for u q);
-      })
+      a = r .a;
+      b = r .b;
+      first = List·Memᴰ·tail (r .first);
+      holds = r .holds;
+      for = λ u q. or-right-true (any (u p) ps) (r .for u q);
+    })
     (or-cases (any (t p) ps) (anyTwo t ps) e)
   where
     or-right-true : (x : Bool) {y : Bool} → y ≡ true → (x || y) ≡ true
@@ -116,17 +122,17 @@ module _ (sig : Signature) (table : List Variable) (source target : Side) (pairs
   pub kernel-is : kernelClashes sig table source target pairs ≡ anyTwo (clash type) pairs
   kernel-is = fibers ∙ both-ways
       (λ h.
-        let r = any-true _ (numbersOf (target .structure)) h in
-        let w = two (inFiber differ (r .0)) pairs (r .2) in
-        let x = eqb-true (w .a .image) (r .0) (and-left _ _ (w .holds)) in
-        let k = and-right (eqb (w .a .image) (r .0)) _ (w .holds) in
-        let y = eqb-true (w .b .image) (r .0) (and-left _ _ k) in
-        w .for (clash type) (and-true _ _ (eq-eqb (w .a .image) (w .b .image) (x ∙ sym y)) (and-right (eqb (w .b .image) (r .0)) _ k)))
+      let r = any-true _ (numbersOf (target .structure)) h in
+      let w = two (inFiber differ (r .0)) pairs (r .2) in
+      let x = eqb-true (w .a .image) (r .0) (and-left _ _ (w .holds)) in
+      let k = and-right (eqb (w .a .image) (r .0)) _ (w .holds) in
+      let y = eqb-true (w .b .image) (r .0) (and-left _ _ k) in
+      w .for (clash type) (and-true _ _ (eq-eqb (w .a .image) (w .b .image) (x ∙ sym y)) (and-right (eqb (w .b .image) (r .0)) _ k)))
       (λ h.
-        let w = two (clash type) pairs h in
-        let x = eqb-true (w .a .image) (w .b .image) (and-left _ _ (w .holds)) in
-        any-mem (λ (e : ℕ). anyTwo (inFiber differ e) pairs) (numbersOf (target .structure)) (named .named (w .a) (w .first))
-          (w .for (inFiber differ (w .a .image)) (and-true _ _ (eq-eqb (w .a .image) (w .a .image) refl) (and-true _ _ (eq-eqb (w .b .image) (w .a .image) (sym x)) (and-right (eqb (w .a .image) (w .b .image)) _ (w .holds))))))
+      let w = two (clash type) pairs h in
+      let x = eqb-true (w .a .image) (w .b .image) (and-left _ _ (w .holds)) in
+      any-mem (λ (e : ℕ). anyTwo (inFiber differ e) pairs) (numbersOf (target .structure)) (named .named (w .a) (w .first))
+      (w .for (inFiber differ (w .a .image)) (and-true _ _ (eq-eqb (w .a .image) (w .a .image) refl) (and-true _ _ (eq-eqb (w .b .image) (w .a .image) (sym x)) (and-right (eqb (w .a .image) (w .b .image)) _ (w .holds))))))
 
 -- The loops over the keys: the tests from a place on.
 unfoldable pub laterFrom : (Pair → ℕ) → List ℕ → Map → ℕ → ℕ → Bool
@@ -193,7 +199,7 @@ types-of {s} {m} h {vars} {types} {table} {source} v t typed = record { same = s
     same i l =
         let n = pairs-many h in
         let e : getD vars i 0 ≡ variableIn source (getD (pairsIn s m) i noPair .key) =
-            sym (getD-take (length (pairsIn s m)) vars i 0 (omega arith)) ∙ rw (v .same) (getD-each (λ (p : Pair). variableIn source (p .key)) (pairsIn s m) i noPair 0 (omega arith)) in
+        sym (getD-take (length (pairsIn s m)) vars i 0 (omega arith)) ∙ rw (v .same) (getD-each (λ (p : Pair). variableIn source (p .key)) (pairsIn s m) i noPair 0 (omega arith)) in
         t .same (getD vars i 0) (typed .below i l) ∙ ap (typeIn table) e
 
 pub clash-is : (s : List ℕ) (m : Map) (sig : Signature) (table : List Variable) (source target : Side) → ImagesIn (target .structure) (pairsIn s m)

@@ -11,3 +11,4 @@ pub mod OrderLaws
 pub mod ArgumentLaws
 pub mod Whole
 pub mod Kept
+pub mod Accepted

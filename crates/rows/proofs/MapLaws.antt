@@ -1,41 +1,24 @@
 -- The pairs of a map by their places, and the search among keys that ascend.
-use Prim.Native.Nat.{ℕ, zero, suc, _+_, _*_, _/_, _≤_, _<_}
+use Prim.Native.Nat.{ℕ, zero, suc, _+_, _*_, _≤_, _<_}
 use native.Mathlib.Omega.{arith}
 use mathlib.Core.Bool.{true}
 use mathlib.Core.List.{List, [], _∷_}
 use mathlib.Core.Option.{none, some}
 use mathlib.Core.Logic.{_⊎_, inl, inr, ⊎-elim}
-use mathlib.Core.Path.{_≡_, refl, sym, _∙_}
+use mathlib.Core.Path.{_≡_, refl, sym}
 use lib.Dec.{ltb}
 use lib.ListN.{length, getD}
 use borrow.Author.Tests.{eq-eqb, ne-eqb, ltb-true}
 use Rattle.definition.specs.Base.{firstOf, placeFrom, _∈_}
-use Rattle.definition.specs.Records.{numbers}
-use Rattle.definition.specs.Rule.{Pair, pairsOf, keysAscend}
+use Rattle.definition.specs.Rule.{Pair, keysAscend}
 use Rattle.definition.specs.Rows.{imageOf}
 use Rattle.theory.proofs.Lists.{and-left, and-right, trichotomy}
 use Rattle.theory.proofs.Numbering.{place-in}
-use Rattle.records.specs.Places.{twoAt, stretch}
-use Rattle.records.proofs.Numbers.{length-numbers-in, numbers-in}
+use Rattle.records.specs.Places.{twoAt}
+use Rattle.rule.proofs.PairLaws.{pairs-in-length, pair-in}
 use Rattle.rows.specs.Maps.{pairsIn, pairAt, noPair, MapIn}
 use Rattle.rows.specs.declared.maps.Map.{Map}
 use Rattle.rows.proofs.Parts.{get-mem}
-
--- Two numbers are a pair.
-length-pairs : (ns : List ℕ) → length (pairsOf ns) ≡ length ns / 2
-unfolding pairsOf
-length-pairs [] = refl
-length-pairs (a ∷ []) = refl
-length-pairs (a ∷ b ∷ ns) = let e : length (pairsOf ns) ≡ length ns / 2 = length-pairs ns in omega arith
-
-pairs-get : (ns : List ℕ) (p : ℕ) → p < length ns / 2 → getD (pairsOf ns) p noPair ≡ record { key = getD ns (2 * p) 0; image = getD ns (2 * p + 1) 0 }
-unfolding pairsOf
-pairs-get [] p h = absurd (omega arith)
-pairs-get (a ∷ []) p h = absurd (omega arith)
-pairs-get (a ∷ b ∷ ns) zero h = refl
-pairs-get (a ∷ b ∷ ns) (suc p) h =
-    let d : 2 * suc p ≡ suc (suc (2 * p)) = omega arith in
-    let e : 2 * suc p + 1 ≡ suc (suc (2 * p + 1)) = omega arith in rw (e, d) (pairs-get ns p (omega arith))
 
 -- Keys that ascend, by their places.
 abbrev keyOf : List Pair → ℕ → ℕ
@@ -79,23 +62,17 @@ image-some (p ∷ ps) h e (suc i) l q =
     rw (ne-eqb (p .key) e (λ z. omega arith)) (image-some ps (ascend-rest p ps h) e i (omega arith) q)
 
 -- A map's pairs in its bytes.
-module _ {s : List ℕ} {m : Map} (h : MapIn s m) where
-  numbers-many : length (numbers (stretch s (m .at) (4 * m .pairs))) / 2 ≡ m .pairs
-  numbers-many = let e : 4 * m .pairs / 2 / 2 ≡ m .pairs = omega arith in rw (length-numbers-in s (m .at) (4 * m .pairs) (h .inside), e)
+pub pairs-counted : (s : List ℕ) (m : Map) → m .at + 4 * m .pairs ≤ length s → length (pairsIn s m) ≡ m .pairs
+unfolding pairsIn
+pairs-counted s m h = pairs-in-length s (m .at) (m .pairs) h
 
+module _ {s : List ℕ} {m : Map} (h : MapIn s m) where
   pub pairs-many : length (pairsIn s m) ≡ m .pairs
-  unfolding pairsIn
-  pairs-many = length-pairs (numbers (stretch s (m .at) (4 * m .pairs))) ∙ numbers-many
+  pairs-many = pairs-counted s m (h .inside)
 
   pair-is : (p : ℕ) → p < m .pairs → pairAt s m p ≡ record { key = twoAt s (m .at + 4 * p); image = twoAt s (m .at + 4 * p + 2) }
   unfolding pairAt pairsIn
-  pair-is p l =
-      let n : length (numbers (stretch s (m .at) (4 * m .pairs))) / 2 ≡ m .pairs = numbers-many in
-      let a : m .at + 2 * (2 * p) ≡ m .at + 4 * p = omega arith in
-      let b : m .at + 2 * (2 * p + 1) ≡ m .at + 4 * p + 2 = omega arith in
-      let k = numbers-in s (m .at) (4 * m .pairs) (h .inside) (2 * p) (omega arith) in
-      let i = numbers-in s (m .at) (4 * m .pairs) (h .inside) (2 * p + 1) (omega arith) in
-      pairs-get (numbers (stretch s (m .at) (4 * m .pairs))) p (omega arith) ∙ rw (k, i, a, b)
+  pair-is p l = pair-in s (m .at) (m .pairs) (h .inside) p l
 
   module _ (p : ℕ) (l : p < m .pairs) where
     pub key-is : twoAt s (m .at + 4 * p) ≡ pairAt s m p .key
@@ -163,7 +140,7 @@ few-keys ps els h up named = go (length ps) (omega arith)
     rise : (i j : ℕ) → i < j → j < length ps → place i < place j
     rise i j l k = ⊎-elim (λ (z : place i < place j). z)
         (⊎-elim (λ (z : place i ≡ place j). let a = ascend-at ps h i j l k in let b = here i (omega arith) .1 in let c = here j k .1 in let d : getD els (place i) 0 ≡ getD els (place j) 0 = rw z in absurd (omega arith))
-          (λ (z : place j < place i). let a = ascend-at ps h i j l k in let b = here i (omega arith) .1 in let c = here j k .1 in let d = up (place j) (place i) z (here i (omega arith) .0) in absurd (omega arith)))
+        (λ (z : place j < place i). let a = ascend-at ps h i j l k in let b = here i (omega arith) .1 in let c = here j k .1 in let d = up (place j) (place i) z (here i (omega arith) .0) in absurd (omega arith)))
         (trichotomy (place i) (place j))
 
     above : (i : ℕ) → i < length ps → i ≤ place i

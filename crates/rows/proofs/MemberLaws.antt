@@ -78,7 +78,7 @@ module _ {s : List ℕ} {e : read.Element} (w : Within s e) (els : List ℕ) (at
       let a = count-in s (e .start) (e .parents) (w .inside) in
       let b = length-stretch els at (e .parents) (omega arith) in
       rw (stretch-more els at (e .parents) h)
-        (same-snoc (numbers (stretch s (e .start) (2 * e .parents))) (stretch els at (e .parents)) (e .number .0) (getD els (at + e .parents) 0) (a ∙ sym b))
+      (same-snoc (numbers (stretch s (e .start) (2 * e .parents))) (stretch els at (e .parents)) (e .number .0) (getD els (at + e .parents) 0) (a ∙ sym b))
 
   pub last-differs : (getD els (at + e .parents) 0 ≡ e .number .0 → ⊥) → sameList (memberRow (elementFrom s e) .elements) (stretch els at (e .parents + 1)) ≡ false
   last-differs d = last-apart ∙ rw (ne-eqb (e .number .0) (getD els (at + e .parents) 0) (λ q. d (sym q))) (and-false (sameList (numbers (stretch s (e .start) (2 * e .parents))) (stretch els at (e .parents))))

@@ -141,7 +141,14 @@ tried {columns} {row} {qs} {symbols} {els} {i} {n} t l = go (t .rest) (t .held) 
     go (q ∷ rest) (more x y w r) e a d =
         let b = a .same q (List·Memᴰ·head refl) in
         record {
-          q = q; rest = rest; symbol = x; elements = rw (b .1) at y; kind-is = b .0; same = d; held = r; left = omega arith;
+          q = q;
+          rest = rest;
+          symbol = x;
+          elements = rw (b .1) at y;
+          kind-is = b .0;
+          same = d;
+          held = r;
+          left = omega arith;
           alike = record { same = λ p m. a .same p (List·Memᴰ·tail m) };
         }
 

@@ -83,6 +83,6 @@ flags-end p h kind pairs sources flags f = let e = all-passed p h in rw (← (e 
 pub alike-images : {kind : ℕ} {columns : ℕ → ℕ} {rows : List Row} (pairs : List Pair) → Alike kind columns rows → Alike kind columns (each (imageRow pairs) rows)
 unfolding imageRow
 alike-images {kind} {columns} {rows} pairs a = record {
-    same = λ r m. let q = mem-each (imageRow pairs) rows m in let b = a .same (q .0) (q .1) in
-        rw (q .2) (b .0, length-each (imageIn pairs) (q .0 .elements) ∙ b .1);
-  }
+  same = λ r m. let q = mem-each (imageRow pairs) rows m in let b = a .same (q .0) (q .1) in
+      rw (q .2) (b .0, length-each (imageIn pairs) (q .0 .elements) ∙ b .1);
+}

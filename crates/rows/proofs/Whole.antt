@@ -114,13 +114,13 @@ module _ (pairs : List Pair) (st : Structure) (w : KindsOf st) where
   unfolding isNew
   new-pred r e =
       let h : hits r (rowsOf st) ≡ hits r (st .predRows) = all-hits r ∙ rw (no-image (st .funcRows) (w .funcs) r (λ q. omega arith), no-member r (λ q. omega arith))
-          (or-none (hits r (st .predRows) || false) ∙ or-none (hits r (st .predRows))) in ap not h
+      (or-none (hits r (st .predRows) || false) ∙ or-none (hits r (st .predRows))) in ap not h
 
   pub new-func : (r : Row) → r .kind ≡ function → isNew pairs (rowsOf st) r ≡ isNew pairs (st .funcRows) r
   unfolding isNew
   new-func r e =
       let h : hits r (rowsOf st) ≡ hits r (st .funcRows) = all-hits r ∙ rw (no-image (st .predRows) (w .preds) r (λ q. omega arith), no-member r (λ q. omega arith))
-          (or-none (hits r (st .funcRows))) in ap not h
+      (or-none (hits r (st .funcRows))) in ap not h
 
   pub new-member : (r : Row) → r .kind ≡ member → isNew pairs (rowsOf st) r ≡ isNew pairs (memberRows (st .elements)) r
   unfolding isNew
@@ -148,10 +148,12 @@ module _ (sig : Signature) (table : List Variable) (source target : Side) (pairs
   unfolding addedRows newRows rowsOf isNew
   added-parts =
       keep-append (isNew pairs (rowsOf from)) (to .predRows ++ to .funcRows) (members to)
-      ∙ rw (keep-append (isNew pairs (rowsOf from)) (to .predRows) (to .funcRows),
-          keep-same (isNew pairs (rowsOf from)) (isNew pairs (from .predRows)) (to .predRows) (λ r m. new-pred pairs from v r (w .preds r m)),
-          keep-same (isNew pairs (rowsOf from)) (isNew pairs (from .funcRows)) (to .funcRows) (λ r m. new-func pairs from v r (w .funcs r m)),
-          keep-same (isNew pairs (rowsOf from)) (isNew pairs (memberRows (from .elements))) (members to) (λ r m. new-member pairs from v r (members-kind to r m)))
+      ∙ rw (
+        keep-append (isNew pairs (rowsOf from)) (to .predRows) (to .funcRows),
+        keep-same (isNew pairs (rowsOf from)) (isNew pairs (from .predRows)) (to .predRows) (λ r m. new-pred pairs from v r (w .preds r m)),
+        keep-same (isNew pairs (rowsOf from)) (isNew pairs (from .funcRows)) (to .funcRows) (λ r m. new-func pairs from v r (w .funcs r m)),
+        keep-same (isNew pairs (rowsOf from)) (isNew pairs (memberRows (from .elements))) (members to) (λ r m. new-member pairs from v r (members-kind to r m)),
+      )
 
   -- Without the members whose element is constrained.
   abbrev pub isFree : Row → Bool
@@ -168,8 +170,10 @@ module _ (sig : Signature) (table : List Variable) (source target : Side) (pairs
   pub free-parts : keep isFree (addedRows sig table source target pairs) ≡ addedPreds ++ addedFuncs ++ keep (λ (r : Row). not (constrained sig to (lastElement r))) addedMembers
   free-parts =
       ap (keep isFree) added-parts ∙ keep-append isFree (addedPreds ++ addedFuncs) addedMembers
-      ∙ rw (keep-append isFree addedPreds addedFuncs,
-          keep-all isFree addedPreds (λ r m. let k = w .preds r (mem-keep (isNew pairs (from .predRows)) (to .predRows) m .0) in other-free r (λ e. omega arith)),
-          keep-all isFree addedFuncs (λ r m. let k = w .funcs r (mem-keep (isNew pairs (from .funcRows)) (to .funcRows) m .0) in other-free r (λ e. omega arith)),
-          keep-same isFree (λ (r : Row). not (constrained sig to (lastElement r))) addedMembers
-            (λ r m. member-free r (members-kind to r (mem-keep (isNew pairs (memberRows (from .elements))) (members to) m .0))))
+      ∙ rw (
+        keep-append isFree addedPreds addedFuncs,
+        keep-all isFree addedPreds (λ r m. let k = w .preds r (mem-keep (isNew pairs (from .predRows)) (to .predRows) m .0) in other-free r (λ e. omega arith)),
+        keep-all isFree addedFuncs (λ r m. let k = w .funcs r (mem-keep (isNew pairs (from .funcRows)) (to .funcRows) m .0) in other-free r (λ e. omega arith)),
+        keep-same isFree (λ (r : Row). not (constrained sig to (lastElement r))) addedMembers
+            (λ r m. member-free r (members-kind to r (mem-keep (isNew pairs (memberRows (from .elements))) (members to) m .0))),
+      )

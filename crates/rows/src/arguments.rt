@@ -17,18 +17,21 @@ ghost use Rattle.signature.specs.Index.{signatureAt, Indexed};
 ghost use Rattle.rule.specs.Elements.{countAt, elementNumbers, Elements};
 ghost use Rattle.rows.specs.Arguments.{symbolsOf, rowSymbol, RowsKnown, Marks};
 use crate::table::ROWS;
+use records::fields::Field;
 use records::fields::num;
 use records::fields::read_field;
-use records::fields::Field;
-use rule::elements::find_element;
 use rule::elements::Found;
+use rule::elements::find_element;
 use rule::ids::ElId;
 use rule::ids::RULE_INDEX;
 use signature::ids::Counts;
+use signature::ids::FUNCTION;
 use signature::ids::FuncId;
+use signature::ids::INDEX;
+use signature::ids::PREDICATE;
 use signature::ids::PredId;
-use signature::ids::{FUNCTION, INDEX, PREDICATE};
-use signature::lookup::{func_parents, pred_parents};
+use signature::lookup::func_parents;
+use signature::lookup::pred_parents;
 
 // How many parents a row of a kind lists before its arguments.
 fn row_parents(sig: &[u8], arities: &[u16; INDEX], counts: Counts, kind: u8, symbol: u16) -> usize
@@ -43,7 +46,14 @@ fn row_parents(sig: &[u8], arities: &[u16; INDEX], counts: Counts, kind: u8, sym
 }
 
 // The elements that stand in a stretch are marked, by their places.
-fn mark(s: &[u8], index: &[u16; RULE_INDEX], k: usize, start: usize, count: usize, flags: &mut [bool; ROWS])
+fn mark(
+    s: &[u8],
+    index: &[u16; RULE_INDEX],
+    k: usize,
+    start: usize,
+    count: usize,
+    flags: &mut [bool; ROWS],
+)
     requires { ⌜ (k < structureLimit) × (start + 2 * count ≤ length (now s)) × (length (now flags) ≡ fieldLimit) ⌝ }
     requires { ⌜ Elements (now s) (now index) k ⌝ }
     ensures { λ r. ⌜ ((seen : List ℕ) → Marks (now (flags .entry)) (elementNumbers (now (s .entry)) (now (index .entry)) k) seen
@@ -79,17 +89,30 @@ fn mark_rows(
     requires { ⌜ RowsKnown (signatureAt (now sig) (now arities) counts) (symbolsOf counts kind) kind (now s) from end ⌝ }
     ensures { λ r. ⌜ ((seen : List ℕ) (fs : List definition.Field) → Run (now (s .entry)) from end fs → Marks (now (flags .entry)) (elementNumbers (now (s .entry)) (now (index .entry)) k) seen
         → Marks (now (flags .exit)) (elementNumbers (now (s .entry)) (now (index .entry)) k)
-            (seen ++ joined (definition_rows.arguments (signatureAt (now (sig .entry)) (now (arities .entry)) counts)) (each (rowOf kind) fs))) ⌝ }
+        (seen ++ joined (definition_rows.arguments (signatureAt (now (sig .entry)) (now (arities .entry)) counts)) (each (rowOf kind) fs))) ⌝ }
     ensures { λ r. ⌜ length (now (flags .exit)) ≡ fieldLimit ⌝ }
 {
     let mut at = from;
     while at < end {
         let f = read_field(s, at);
-        let Field::Got { letter: _, start, len, next } = f else {
+        let Field::Got {
+            letter: _,
+            start,
+            len,
+            next,
+        } = f
+        else {
             return;
         };
         let parents = row_parents(sig, arities, counts, kind, num(s, start));
-        mark(s, index, k, start + 2 + 2 * parents, len / 2 - 1 - parents, flags);
+        mark(
+            s,
+            index,
+            k,
+            start + 2 + 2 * parents,
+            len / 2 - 1 - parents,
+            flags,
+        );
         at = next;
     }
 }
@@ -116,7 +139,29 @@ pub fn constrained_els(
         → take (countAt (now (index .entry)) k) r ≡ each (constrained (signatureAt (now (sig .entry)) (now (arities .entry)) counts) st) (numbersOf st)) ⌝ }
 {
     let mut flags = [false; ROWS];
-    mark_rows(sig, arities, counts, s, index, k, PREDICATE, preds, funcs, &mut flags);
-    mark_rows(sig, arities, counts, s, index, k, FUNCTION, funcs, end, &mut flags);
+    mark_rows(
+        sig,
+        arities,
+        counts,
+        s,
+        index,
+        k,
+        PREDICATE,
+        preds,
+        funcs,
+        &mut flags,
+    );
+    mark_rows(
+        sig,
+        arities,
+        counts,
+        s,
+        index,
+        k,
+        FUNCTION,
+        funcs,
+        end,
+        &mut flags,
+    );
     flags
 }

@@ -12,10 +12,11 @@ ghost use Rattle.definition.specs.Signature.{Signature};
 ghost use Rattle.rule.specs.Elements.{elementNumbers, Elements};
 ghost use Rattle.rows.specs.Maps.{pairAt, pairsIn, MapIn};
 ghost use Rattle.rows.specs.Kernel.{clash, KeyVars, KeyTypes, TypesOf, KeysIn, ImagesIn, SideAt, Typed};
-use crate::maps::{pair_image, pair_key};
 use crate::maps::Map;
-use rule::elements::find_element;
+use crate::maps::pair_image;
+use crate::maps::pair_key;
 use rule::elements::Found;
+use rule::elements::find_element;
 use rule::ids::RULE_INDEX;
 
 // A variable's number as a place.

@@ -14,15 +14,18 @@ ghost use Rattle.rows.specs.Maps.{pairsIn, MapIn};
 ghost use Rattle.rows.specs.Table.{tableSize, Maps, Imaged, Held, Alike, Holds};
 ghost use Rattle.rows.specs.Elements.{elementFrom, elementsIn, ElementsAt, Within};
 ghost use Rattle.rows.specs.Members.{memberRows, newMember};
-use crate::elements::read_element;
 use crate::elements::Element;
-use crate::maps::image_of;
+use crate::elements::read_element;
 use crate::maps::Image;
 use crate::maps::Map;
+use crate::maps::image_of;
+use crate::table::COLUMNS;
 use crate::table::Images;
 use crate::table::Mapped;
-use crate::table::{map_elements, same_elements};
-use crate::table::{COLUMNS, ROWS, TABLE};
+use crate::table::ROWS;
+use crate::table::TABLE;
+use crate::table::map_elements;
+use crate::table::same_elements;
 use rule::elements::element_count;
 use rule::ids::RULE_INDEX;
 
@@ -46,7 +49,14 @@ fn map_member(s: &[u8], e: Element, m: Map, els: &mut [u16; TABLE], at: usize) -
 }
 
 // The images of the member rows of a structure, in the elements' order.
-pub fn mapped_members(s: &[u8], index: &[u16; RULE_INDEX], k: usize, m: Map, symbols: &mut [u16; ROWS], els: &mut [u16; TABLE]) -> Images
+pub fn mapped_members(
+    s: &[u8],
+    index: &[u16; RULE_INDEX],
+    k: usize,
+    m: Map,
+    symbols: &mut [u16; ROWS],
+    els: &mut [u16; TABLE],
+) -> Images
     requires { ⌜ MapIn (now s) m ⌝ }
     requires { ⌜ k < structureLimit ⌝ }
     requires { ⌜ ElementsAt (now s) (now index) k ⌝ }
@@ -87,7 +97,13 @@ fn same_member(s: &[u8], e: Element, els: &[u16; TABLE], at: usize) -> bool
 }
 
 // Is an element's member row one of those in the table?
-pub fn is_member_image(s: &[u8], e: Element, symbols: &[u16; ROWS], els: &[u16; TABLE], images: usize) -> bool
+pub fn is_member_image(
+    s: &[u8],
+    e: Element,
+    symbols: &[u16; ROWS],
+    els: &[u16; TABLE],
+    images: usize,
+) -> bool
     requires { ⌜ Within (now s) e ⌝ }
     requires { ⌜ (images ≤ fieldLimit) × (length (now els) ≡ tableSize) ⌝ }
     ensures { λ r. ⌜ ((columns : ℕ → ℕ) (qs : List Row) → Held (now (symbols .entry)) (now (els .entry)) 0 qs → images ≡ length qs → Alike member columns qs
@@ -107,7 +123,13 @@ pub fn is_member_image(s: &[u8], e: Element, symbols: &[u16; ROWS], els: &[u16; 
 }
 
 // Has an element a member row that is none of those in the table?
-fn is_new_member(s: &[u8], e: Element, symbols: &[u16; ROWS], els: &[u16; TABLE], images: usize) -> bool
+fn is_new_member(
+    s: &[u8],
+    e: Element,
+    symbols: &[u16; ROWS],
+    els: &[u16; TABLE],
+    images: usize,
+) -> bool
     requires { ⌜ Within (now s) e ⌝ }
     requires { ⌜ (images ≤ fieldLimit) × (length (now els) ≡ tableSize) ⌝ }
     ensures { λ r. ⌜ ((columns : ℕ → ℕ) (pairs : List Pair) (sources : List Row) → Holds member columns pairs sources (now (symbols .entry)) (now (els .entry)) images
@@ -120,7 +142,14 @@ fn is_new_member(s: &[u8], e: Element, symbols: &[u16; ROWS], els: &[u16; TABLE]
 }
 
 // Which elements have a member row that is no image of one of the source.
-pub fn new_members(s: &[u8], index: &[u16; RULE_INDEX], k: usize, symbols: &[u16; ROWS], els: &[u16; TABLE], images: usize) -> [bool; ROWS]
+pub fn new_members(
+    s: &[u8],
+    index: &[u16; RULE_INDEX],
+    k: usize,
+    symbols: &[u16; ROWS],
+    els: &[u16; TABLE],
+    images: usize,
+) -> [bool; ROWS]
     requires { ⌜ k < structureLimit ⌝ }
     requires { ⌜ ElementsAt (now s) (now index) k ⌝ }
     requires { ⌜ (images ≤ fieldLimit) × (length (now els) ≡ tableSize) ⌝ }

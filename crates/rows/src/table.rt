@@ -12,17 +12,19 @@ ghost use Rattle.definition.specs.Rows.{sameRow};
 ghost use Rattle.records.specs.Places.{stretch, Run};
 ghost use Rattle.rows.specs.Maps.{pairsIn, MapIn};
 ghost use Rattle.rows.specs.Table.{tableSize, RowsFrom, Maps, Imaged, Held, Alike, rowIn, isNew, Holds};
-use crate::maps::image_of;
 use crate::maps::Image;
 use crate::maps::Map;
+use crate::maps::image_of;
+use records::fields::Field;
 use records::fields::num;
 use records::fields::read_field;
-use records::fields::Field;
 use rule::ids::ElId;
 
 // Rows of a letter in a structure, columns of a row, and the table's places for elements.
 pub const ROWS: usize = 64;
+
 pub const COLUMNS: usize = 8;
+
 pub const TABLE: usize = ROWS * COLUMNS;
 
 // Whether each element of a row has an image.
@@ -38,7 +40,14 @@ pub enum Images {
 }
 
 // The images of the elements that stand in a stretch, into the table from a place on.
-pub fn map_elements(s: &[u8], start: usize, count: usize, m: Map, els: &mut [u16; TABLE], at: usize) -> Mapped
+pub fn map_elements(
+    s: &[u8],
+    start: usize,
+    count: usize,
+    m: Map,
+    els: &mut [u16; TABLE],
+    at: usize,
+) -> Mapped
     requires { ⌜ MapIn (now s) m ⌝ }
     requires { ⌜ (start + 2 * count ≤ length (now s)) × (at + count ≤ tableSize) × (length (now els) ≡ tableSize) ⌝ }
     ensures { λ r. ⌜ Maps r (pairsIn (now (s .entry)) m) (numbers (stretch (now (s .entry)) start (2 * count))) (now (els .entry)) (now (els .exit)) at ⌝ }
@@ -56,7 +65,14 @@ pub fn map_elements(s: &[u8], start: usize, count: usize, m: Map, els: &mut [u16
 }
 
 // The images of the rows of a section.
-pub fn mapped_rows(s: &[u8], from: usize, end: usize, m: Map, symbols: &mut [u16; ROWS], els: &mut [u16; TABLE]) -> Images
+pub fn mapped_rows(
+    s: &[u8],
+    from: usize,
+    end: usize,
+    m: Map,
+    symbols: &mut [u16; ROWS],
+    els: &mut [u16; TABLE],
+) -> Images
     requires { ⌜ MapIn (now s) m ⌝ }
     requires { ⌜ RowsFrom (now s) from end ⌝ }
     requires { ⌜ (length (now symbols) ≡ fieldLimit) × (length (now els) ≡ tableSize) ⌝ }
@@ -67,7 +83,13 @@ pub fn mapped_rows(s: &[u8], from: usize, end: usize, m: Map, symbols: &mut [u16
     let mut i: usize = 0;
     while at < end {
         let f = read_field(s, at);
-        let Field::Got { letter: _, start, len, next } = f else {
+        let Field::Got {
+            letter: _,
+            start,
+            len,
+            next,
+        } = f
+        else {
             return Images::Unmapped;
         };
         symbols[i] = num(s, start);
@@ -98,7 +120,15 @@ pub fn same_elements(s: &[u8], start: usize, count: usize, els: &[u16; TABLE], a
 
 // Is the row of a symbol and the elements in a stretch one of those in the table? Rows of one symbol are of one length, so only those
 // of its symbol are compared with it.
-pub fn is_image(s: &[u8], symbol: u16, start: usize, count: usize, symbols: &[u16; ROWS], els: &[u16; TABLE], images: usize) -> bool
+pub fn is_image(
+    s: &[u8],
+    symbol: u16,
+    start: usize,
+    count: usize,
+    symbols: &[u16; ROWS],
+    els: &[u16; TABLE],
+    images: usize,
+) -> bool
     requires { ⌜ (start + 2 * count ≤ length (now s)) × (count ≤ columnLimit) × (images ≤ fieldLimit) × (length (now els) ≡ tableSize) ⌝ }
     ensures { λ r. ⌜ ((kind : ℕ) (columns : ℕ → ℕ) (qs : List Row) → Held (now (symbols .entry)) (now (els .entry)) 0 qs → images ≡ length qs
         → Alike kind columns qs → count ≡ columns symbol → r ≡ any (sameRow (rowIn (now (s .entry)) kind symbol start count)) qs) ⌝ }
@@ -117,7 +147,14 @@ pub fn is_image(s: &[u8], symbol: u16, start: usize, count: usize, symbols: &[u1
 }
 
 // Which rows of a section are no image of a row of the source.
-pub fn new_rows(s: &[u8], from: usize, end: usize, symbols: &[u16; ROWS], els: &[u16; TABLE], images: usize) -> [bool; ROWS]
+pub fn new_rows(
+    s: &[u8],
+    from: usize,
+    end: usize,
+    symbols: &[u16; ROWS],
+    els: &[u16; TABLE],
+    images: usize,
+) -> [bool; ROWS]
     requires { ⌜ RowsFrom (now s) from end ⌝ }
     requires { ⌜ (images ≤ fieldLimit) × (length (now els) ≡ tableSize) ⌝ }
     ensures { λ r. ⌜ ((kind : ℕ) (columns : ℕ → ℕ) (pairs : List Pair) (sources : List Row) (fs : List definition.Field)
@@ -129,10 +166,24 @@ pub fn new_rows(s: &[u8], from: usize, end: usize, symbols: &[u16; ROWS], els: &
     let mut i: usize = 0;
     while at < end {
         let f = read_field(s, at);
-        let Field::Got { letter: _, start, len, next } = f else {
+        let Field::Got {
+            letter: _,
+            start,
+            len,
+            next,
+        } = f
+        else {
             return flags;
         };
-        flags[i] = !is_image(s, num(s, start), start + 2, len / 2 - 1, symbols, els, images);
+        flags[i] = !is_image(
+            s,
+            num(s, start),
+            start + 2,
+            len / 2 - 1,
+            symbols,
+            els,
+            images,
+        );
         i += 1;
         at = next;
     }

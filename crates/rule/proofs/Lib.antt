@@ -1,3 +1,4 @@
+-- Laws behind the reader and the lookups.
 pub mod Blocks
 pub mod Letters
 pub mod Sections
@@ -14,3 +15,5 @@ pub mod Bodies
 pub mod Structures
 pub mod Whole
 pub mod Saying
+pub mod Sized
+pub mod Maps

@@ -2,28 +2,25 @@
 use Prim.Native.Nat.{ℕ, zero, suc, _+_, _-_, _*_, _/_, _≤_, _<_}
 use native.Mathlib.Omega.{arith}
 use native.Mathlib.Nat.{add-zero}
-use mathlib.Core.Bool.{Bool, true, false}
 use mathlib.Core.List.{List, [], _∷_}
-use mathlib.Core.Path.{_≡_, refl, sym, _∙_, ap}
+use mathlib.Core.Path.{_≡_, refl, sym, _∙_}
 use lib.ListN.{length, getD, drop, length-drop}
 use lib.Seq.{getD-drop}
 use Rattle.definition.specs.Base.{each}
-use Rattle.definition.specs.Letters.{letterS, letterE}
+use Rattle.definition.specs.Letters.{letterS}
 use Rattle.definition.specs.Limits.{structureLimit, fieldLimit}
-use Rattle.definition.specs.Records.{Field, Block, numbers, numberAt, withLetter, blocks}
-use Rattle.definition.specs.Rule.{Element, Pair, MorphismKind, If, SurjThen, NonSurjThen, Noop, kindOf, rulePart, ruleOf, structureOf, elementOf, rowOf, nameOf, mapOf, pairsOf, auxiliaryOf}
+use Rattle.definition.specs.Records.{Field, numbers, numberAt, withLetter, blocks}
+use Rattle.definition.specs.Rule.{Element, MorphismKind, If, SurjThen, NonSurjThen, Noop, kindOf, rulePart, ruleOf, structureOf, elementOf, rowOf, nameOf, mapOf, auxiliaryOf}
 use Rattle.definition.specs.Names.{numbersOf}
 use Rattle.definition.specs.Walk.{structureAt, noStructure}
-use Rattle.records.specs.Places.{twoAt, stretch, fieldOf}
-use Rattle.records.specs.Held.{fieldIn, heldAt}
+use Rattle.records.specs.Places.{twoAt, stretch, fieldOf, Run}
+use Rattle.records.specs.Held.{fieldIn}
 use Rattle.records.proofs.Lists.{length-each, getD-each}
-use Rattle.records.proofs.Numbers.{length-stretch, stretch-at, drop-stretch, length-numbers-in, numbers-in, number-in, drop-numbers}
+use Rattle.records.proofs.Numbers.{stretch-at, drop-stretch, length-numbers-in, numbers-in, number-in}
 use Rattle.records.proofs.Index.{length-held, held-get}
-use Rattle.rule.specs.Layout.{noBlock, blockAt, elementsFrom}
-use Rattle.rule.specs.Elements.{countAt, positionAt, elementAt, elementFields, elementNumbers, Elements, Known}
-use Rattle.rule.specs.Answers.{Indexed}
+use Rattle.rule.specs.Layout.{letterAt, noBlock, blockAt, elementsFrom}
+use Rattle.rule.specs.Elements.{countAt, positionAt, elementFields, elementNumbers, Elements}
 use Rattle.rule.specs.Lookup.{Ready, ruleAt, noElement, noPair}
-use Rattle.rule.proofs.Finding.{numbers-length}
 use Rattle.rule.proofs.PairLaws.{pairs-length, pairs-get}
 
 abbrev noField : Field
@@ -72,6 +69,14 @@ module _ (s : List ℕ) (start len : ℕ) (h : start + len ≤ length s) where
     unfolding mapOf
     target-is l = sym (number 1 l)
 
+    pub kind-source-is : 4 ≤ len → twoAt s start ≡ kindOf (fieldOf s letter start len) .source
+    unfolding kindOf
+    kind-source-is l = sym (first-number (omega arith))
+
+    pub kind-target-is : 4 ≤ len → twoAt s (start + 2) ≡ kindOf (fieldOf s letter start len) .target
+    unfolding kindOf
+    kind-target-is l = sym (number 1 l)
+
     pub pairs-are : (len - 4) / 4 ≡ length (mapOf (fieldOf s letter start len) .pairs)
     unfolding mapOf
     pairs-are = let n = later-count 2 in let m = pairs-length (drop 2 (numbers (stretch s start len))) in omega arith
@@ -117,6 +122,10 @@ module _ {s index : List ℕ} (w : Ready s index) where
   unfolding ruleAt ruleOf
   structures-are = length-each structureOf (blocks letterS fields) ∙ sym (w .indexed .counted)
 
+  -- The section of M, K or X.
+  pub tail-run-at : (q : ℕ) → 8 ≤ q → q ≤ 10 → Run s (getD index (6 * structureLimit + q - 7) 0) (getD index (6 * structureLimit + q - 7 + 1) 0) (withLetter (letterAt q) fields)
+  tail-run-at q lo hi = let z : 6 * structureLimit + q - 7 + 1 ≡ 6 * structureLimit + q - 6 = omega arith in rw z (w .indexed .tail .run q lo hi)
+
   module _ {k : ℕ} (h : k < length (ruleAt s .structures)) where
     in-count : k < w .count
     in-count = rw structures-are at h
@@ -126,6 +135,10 @@ module _ {s index : List ℕ} (w : Ready s index) where
 
     pub known-at : Elements s index k
     known-at = w .indexed .known .elements k in-count
+
+    -- The section of a letter in a structure.
+    pub body-run : (q : ℕ) → 3 ≤ q → q ≤ 7 → Run s (getD index (6 * k + q - 1) 0) (getD index (6 * k + q - 1 + 1) 0) (withLetter (letterAt q) (blockAt fields k .body))
+    body-run q lo hi = let z : 6 * k + q - 1 + 1 ≡ 6 * k + q = omega arith in rw z (w .indexed .body k in-count .run q lo hi)
 
     structure-is : structureAt (ruleAt s) k ≡ structureOf (blockAt fields k)
     unfolding ruleAt ruleOf

@@ -30,9 +30,19 @@ pub const PLACE_N: usize = 1;
 
 pub const PLACE_S: usize = 2;
 
+pub const PLACE_E: usize = 3;
+
+pub const PLACE_R: usize = 4;
+
+pub const PLACE_A: usize = 5;
+
+pub const PLACE_V: usize = 6;
+
 pub const PLACE_I: usize = 7;
 
 pub const PLACE_M: usize = 8;
+
+pub const PLACE_K: usize = 9;
 
 pub const PLACE_X: usize = 10;
 

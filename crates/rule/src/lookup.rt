@@ -1,19 +1,42 @@
 // What the fields of an accepted rule say. Structures are numbered from 0; an element is known by its place among those of its structure.
+ghost use mathlib.Core.Bool.{_&&_};
 ghost use mathlib.Core.Path.{_≡_};
 ghost use Prim.Native.Nat.{ℕ, _+_, _*_, _≤_, _<_};
+ghost use lib.Dec.{eqb};
 ghost use lib.ListN.{length, getD};
-ghost use Rattle.definition.specs.Rule.{rowOf, nameOf, mapOf, kindOf, auxiliaryOf};
-ghost use Rattle.definition.specs.Walk.{structureAt};
+ghost use Rattle.definition.specs.Records.{withLetter};
+ghost use Rattle.definition.specs.Rule.{rulePart, rowOf, nameOf, mapOf, kindOf, auxiliaryOf};
+ghost use Rattle.definition.specs.Walk.{structureAt, pairsBetween};
 ghost use Rattle.definition.specs.Names.{numbersOf};
-ghost use Rattle.records.specs.Places.{stretch, fieldOf};
+ghost use Rattle.records.specs.Places.{stretch, fieldOf, Run};
+ghost use Rattle.rule.specs.Layout.{letterAt, blockAt};
 ghost use Rattle.rule.specs.Elements.{Finds};
-ghost use Rattle.rule.specs.Lookup.{Ready, ruleAt, noElement, noPair, kindIs};
+ghost use Rattle.rule.specs.Lookup.{Ready, ruleAt, noElement, noPair, kindIs, FindsMap};
 use crate::elements::Found;
-use crate::elements::{element_count, element_field, find_element};
+use crate::elements::element_count;
+use crate::elements::element_field;
+use crate::elements::find_element;
 use crate::ids::ElId;
+use crate::ids::LETTERS;
+use crate::ids::PLACE_I;
 use crate::ids::RULE_INDEX;
-use records::fields::{num, two};
-use signature::ids::{FuncId, PredId, TypeId};
+use crate::ids::SECTION_K;
+use crate::ids::SECTION_M;
+use crate::ids::STRUCTURES;
+use crate::reader::bound;
+use records::fields::Field;
+use records::fields::num;
+use records::fields::read_field;
+use records::fields::two;
+use signature::ids::FuncId;
+use signature::ids::PredId;
+use signature::ids::TypeId;
+
+// The map between two structures, by the content of its field.
+pub enum MapFound {
+    At { start: usize, len: usize },
+    Nothing,
+}
 
 // A stretch of the record.
 pub struct Span {
@@ -26,6 +49,38 @@ pub enum MorphismKind {
     SurjThen,
     NonSurjThen,
     Noop,
+}
+
+// The fields from one position to another.
+pub struct Section {
+    pub from: usize,
+    pub to: usize,
+}
+
+// The fields of a letter in structure k, by the letter's place.
+pub fn section_in(s: &[u8], index: &[u16; RULE_INDEX], k: usize, place: usize) -> Section
+    requires { ⌜ Ready (now s) (now index) ⌝ }
+    requires { ⌜ (k < length (ruleAt (now s) .structures)) × (3 ≤ place) × (place ≤ 7) ⌝ }
+    ensures { λ r. ⌜ Run (now (s .entry)) (r .from) (r .to) (withLetter (letterAt place) (blockAt (rulePart (now (s .entry)) .fields) k .body)) ⌝ }
+{
+    let section = LETTERS * k + place - 1;
+    Section {
+        from: bound(index, section),
+        to: bound(index, section + 1),
+    }
+}
+
+// The fields of M, K or X, by the letter's place.
+pub fn section_behind(s: &[u8], index: &[u16; RULE_INDEX], place: usize) -> Section
+    requires { ⌜ Ready (now s) (now index) ⌝ }
+    requires { ⌜ (8 ≤ place) × (place ≤ 10) ⌝ }
+    ensures { λ r. ⌜ Run (now (s .entry)) (r .from) (r .to) (withLetter (letterAt place) (rulePart (now (s .entry)) .fields)) ⌝ }
+{
+    let section = LETTERS * STRUCTURES + place - PLACE_I;
+    Section {
+        from: bound(index, section),
+        to: bound(index, section + 1),
+    }
 }
 
 // How many elements structure k has.
@@ -128,21 +183,24 @@ pub fn name_span(s: &[u8], start: usize, len: usize, count: usize) -> Span
     }
 }
 
-// An M field by its content: source and target, the number of pairs, and each of them.
-pub fn map_source(s: &[u8], start: usize, len: usize) -> usize
+// An M or K field by its content: source and target.
+pub fn source_at(s: &[u8], start: usize, len: usize) -> usize
     requires { ⌜ (start + len ≤ length (now s)) × (4 ≤ len) ⌝ }
     ensures { λ r. ⌜ ((letter : ℕ) → r ≡ mapOf (fieldOf (now (s .entry)) letter start len) .source) ⌝ }
+    ensures { λ r. ⌜ ((letter : ℕ) → r ≡ kindOf (fieldOf (now (s .entry)) letter start len) .source) ⌝ }
 {
     two(s, start)
 }
 
-pub fn map_target(s: &[u8], start: usize, len: usize) -> usize
+pub fn target_at(s: &[u8], start: usize, len: usize) -> usize
     requires { ⌜ (start + len ≤ length (now s)) × (4 ≤ len) ⌝ }
     ensures { λ r. ⌜ ((letter : ℕ) → r ≡ mapOf (fieldOf (now (s .entry)) letter start len) .target) ⌝ }
+    ensures { λ r. ⌜ ((letter : ℕ) → r ≡ kindOf (fieldOf (now (s .entry)) letter start len) .target) ⌝ }
 {
     two(s, start + 2)
 }
 
+// The pairs of an M field: how many, and each of them.
 pub fn map_pairs(s: &[u8], start: usize, len: usize) -> usize
     requires { ⌜ (start + len ≤ length (now s)) × (4 ≤ len) ⌝ }
     ensures { λ r. ⌜ ((letter : ℕ) → r ≡ length (mapOf (fieldOf (now (s .entry)) letter start len) .pairs)) ⌝ }
@@ -164,7 +222,7 @@ pub fn pair_image(s: &[u8], start: usize, len: usize, i: usize) -> ElId
     ElId(num(s, start + 6 + 4 * i))
 }
 
-// A K field by its content: its kind; source and target stand as in an M field.
+// The kind of a K field.
 pub fn kind_at(s: &[u8], start: usize, len: usize) -> MorphismKind
     requires { ⌜ (start + len ≤ length (now s)) × (5 ≤ len) ⌝ }
     ensures { λ r. ⌜ ((letter : ℕ) → kindIs r ≡ kindOf (fieldOf (now (s .entry)) letter start len) .kind) ⌝ }
@@ -191,4 +249,80 @@ pub fn structure_at(s: &[u8], start: usize, len: usize) -> usize
     ensures { λ r. ⌜ ((letter : ℕ) → r ≡ auxiliaryOf (fieldOf (now (s .entry)) letter start len) .structure) ⌝ }
 {
     two(s, start + 1)
+}
+
+// The map from one structure to another: the M fields are few, and stand in no order of their targets.
+pub fn find_map(s: &[u8], index: &[u16; RULE_INDEX], source: usize, target: usize) -> MapFound
+    requires { ⌜ Ready (now s) (now index) ⌝ }
+    ensures { λ r. ⌜ FindsMap r (now (s .entry)) (pairsBetween (ruleAt (now (s .entry)) .maps) source target) ⌝ }
+{
+    let to = bound(index, SECTION_K);
+    let mut at = bound(index, SECTION_M);
+    while at < to {
+        let f = read_field(s, at);
+        let Field::Got {
+            letter: _,
+            start,
+            len,
+            next,
+        } = f
+        else {
+            return MapFound::Nothing;
+        };
+        if joins(s, start, len, source, target) {
+            return MapFound::At { start, len };
+        }
+        at = next;
+    }
+    MapFound::Nothing
+}
+
+// Is this the map from the one structure to the other?
+fn joins(s: &[u8], start: usize, len: usize, source: usize, target: usize) -> bool
+    requires { ⌜ (start + len ≤ length (now s)) × (4 ≤ len) ⌝ }
+    ensures { λ r. ⌜ ((letter : ℕ) → r ≡ (eqb (mapOf (fieldOf (now (s .entry)) letter start len) .source) source && eqb (mapOf (fieldOf (now (s .entry)) letter start len) .target) target)) ⌝ }
+{
+    if source_at(s, start, len) != source {
+        return false;
+    }
+    target_at(s, start, len) == target
+}
+
+// Where the rule's name stands, and its index as an unnamed rule.
+pub fn rule_name(s: &[u8], index: &[u16; RULE_INDEX]) -> Span
+    requires { ⌜ Ready (now s) (now index) ⌝ }
+    ensures { λ r. ⌜ stretch (now (s .entry)) (r .start) (r .len) ≡ ruleAt (now (s .entry)) .name ⌝ }
+    ensures { λ r. ⌜ r .start + r .len ≤ length (now (s .entry)) ⌝ }
+{
+    let f = read_field(s, 0);
+    let Field::Got {
+        letter: _,
+        start,
+        len,
+        next: _,
+    } = f
+    else {
+        return Span { start: 0, len: 0 };
+    };
+    Span {
+        start: start + 2,
+        len: len - 2,
+    }
+}
+
+pub fn rule_number(s: &[u8], index: &[u16; RULE_INDEX]) -> u16
+    requires { ⌜ Ready (now s) (now index) ⌝ }
+    ensures { λ r. ⌜ r ≡ ruleAt (now (s .entry)) .index ⌝ }
+{
+    let f = read_field(s, 0);
+    let Field::Got {
+        letter: _,
+        start,
+        len: _,
+        next: _,
+    } = f
+    else {
+        return 0;
+    };
+    num(s, start)
 }

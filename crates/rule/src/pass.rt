@@ -18,10 +18,15 @@ use crate::ids::LETTER_V;
 use crate::ids::LETTER_X;
 use crate::ids::LETTERS;
 use crate::ids::NO_PLACE;
+use crate::ids::PLACE_A;
+use crate::ids::PLACE_E;
 use crate::ids::PLACE_I;
+use crate::ids::PLACE_K;
 use crate::ids::PLACE_M;
 use crate::ids::PLACE_N;
+use crate::ids::PLACE_R;
 use crate::ids::PLACE_S;
+use crate::ids::PLACE_V;
 use crate::ids::PLACE_X;
 use crate::ids::RULE_INDEX;
 use crate::ids::SECTIONS;
@@ -42,16 +47,16 @@ fn place(letter: u8) -> usize
 {
     match letter {
         START => AT_START,
-        LETTER_N => 1,
-        LETTER_S => 2,
-        LETTER_E => 3,
-        LETTER_R => 4,
-        LETTER_A => 5,
-        LETTER_V => 6,
-        LETTER_I => 7,
-        LETTER_M => 8,
-        LETTER_K => 9,
-        LETTER_X => 10,
+        LETTER_N => PLACE_N,
+        LETTER_S => PLACE_S,
+        LETTER_E => PLACE_E,
+        LETTER_R => PLACE_R,
+        LETTER_A => PLACE_A,
+        LETTER_V => PLACE_V,
+        LETTER_I => PLACE_I,
+        LETTER_M => PLACE_M,
+        LETTER_K => PLACE_K,
+        LETTER_X => PLACE_X,
         _ => NO_PLACE,
     }
 }

@@ -4,14 +4,10 @@ use borrow.Author.Needs.{needs}
 use native.Mathlib.Omega.{arith}
 use Rattle.rule.proofs.lookup.class_at.Statement.{statement}
 use Rattle.rule.proofs.lookup.class_at.Tie as tie
-use Rattle.rule.proofs.lookup.class_at.Reads as reads
-use Rattle.rule.proofs.lookup.class_at.Lts as lts
 
--- src/lookup.rt:186:5
 shared-slice-read-result : tie.Need-shared-slice-read-result
 shared-slice-read-result c = search needs
 
--- src/lookup.rt:182:1
 returns : tie.Need-returns
 returns c = λ letter. sym (class-is _ _ _ (c .before .pre .0) letter (omega (arith, c .before .pre .1)))
 

@@ -1,18 +1,11 @@
 use Rattle.rule.proofs.Saying.{in-limit, elements-count}
 use mathlib.Core.Path.{_∙_, sym}
-use borrow.Author.Needs.{needs}
-use native.Mathlib.Omega.{arith}
 use Rattle.rule.proofs.lookup.elements.Statement.{statement}
 use Rattle.rule.proofs.lookup.elements.Tie as tie
-use Rattle.rule.proofs.lookup.elements.Reads as reads
-use Rattle.rule.proofs.lookup.elements.Lts as lts
-use Rattle.rule.proofs.elements.element_count.Reads as element-count-reads
 
--- src/lookup.rt:37:5
 element-count-requires : tie.Need-element-count-requires
 element-count-requires c κs = in-limit (c .before .pre .0) (c .before .pre .1)
 
--- src/lookup.rt:32:1
 returns : tie.Need-returns
 returns c = c .element-count .ensures ∙ sym (elements-count (c .before .before .pre .0) (c .before .before .pre .1))
 

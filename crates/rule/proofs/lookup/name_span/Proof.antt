@@ -1,29 +1,21 @@
 use Rattle.rule.proofs.Saying.{name-is}
-use mathlib.Core.Path.{_∙_, sym}
 use borrow.Author.Needs.{needs}
 use native.Mathlib.Omega.{arith}
 use Rattle.rule.proofs.lookup.name_span.Statement.{statement}
 use Rattle.rule.proofs.lookup.name_span.Tie as tie
-use Rattle.rule.proofs.lookup.name_span.Reads as reads
-use Rattle.rule.proofs.lookup.name_span.Lts as lts
 
--- src/lookup.rt:126:24
 mul-t5 : tie.Need-mul-t5
 mul-t5 c = search needs
 
--- src/lookup.rt:126:16
 add-t6 : tie.Need-add-t6
 add-t6 c = search needs
 
--- src/lookup.rt:127:20
 mul-t7 : tie.Need-mul-t7
 mul-t7 c = search needs
 
--- src/lookup.rt:127:14
 sub-t8 : tie.Need-sub-t8
 sub-t8 c = search needs
 
--- src/lookup.rt:120:1
 returns : tie.Need-returns
 returns c = (λ letter. name-is _ _ _ (c .pre .0) letter _, omega arith)
 

@@ -1,30 +1,21 @@
 use Rattle.rule.proofs.Saying.{pair-is}
 use mathlib.Core.Path.{_∙_, sym}
 use borrow.Author.Needs.{needs}
-use native.Mathlib.Omega.{arith}
 use Rattle.rule.proofs.lookup.pair_key.Statement.{statement}
 use Rattle.rule.proofs.lookup.pair_key.Tie as tie
-use Rattle.rule.proofs.lookup.pair_key.Reads as reads
-use Rattle.rule.proofs.lookup.pair_key.Lts as lts
-use Rattle.records.proofs.fields.num.Reads as num-reads
 
--- src/lookup.rt:157:17
 add-num : tie.Need-add-num
 add-num c = search needs
 
--- src/lookup.rt:157:29
 mul-num : tie.Need-mul-num
 mul-num c = search needs
 
--- src/lookup.rt:157:17
 add-num-2 : tie.Need-add-num-2
 add-num-2 c = search needs
 
--- src/lookup.rt:157:10
 num-requires : tie.Need-num-requires
 num-requires c κs = search needs
 
--- src/lookup.rt:153:1
 returns : tie.Need-returns
 returns c = λ letter. c .num .ensures ∙ sym (rw (pair-is _ _ _ (c .before .before .pre .0) letter _ (c .before .before .pre .1)))
 

@@ -1,35 +1,24 @@
-use Rattle.rule.proofs.Saying.{in-limit, place-limit, room-at, size-at, parents-are, parent-is}
-use mathlib.Core.Path.{_∙_, sym}
-use borrow.Author.Needs.{needs}
+use Rattle.rule.proofs.Saying.{in-limit, place-limit, room-at, parents-are, parent-is}
+use mathlib.Core.Path.{_∙_}
 use native.Mathlib.Omega.{arith}
 use Rattle.rule.proofs.lookup.parent_at.Statement.{statement}
 use Rattle.rule.proofs.lookup.parent_at.Tie as tie
-use Rattle.rule.proofs.lookup.parent_at.Reads as reads
-use Rattle.rule.proofs.lookup.parent_at.Lts as lts
-use Rattle.records.proofs.fields.num.Reads as num-reads
-use Rattle.rule.proofs.elements.element_field.Reads as element-field-reads
 
--- src/lookup.rt:71:17
 element-field-requires : tie.Need-element-field-requires
 element-field-requires c κs = (in-limit (c .before .pre .0) (c .before .pre .1 .0 .0), place-limit (c .before .pre .0) (c .before .pre .1 .0 .0) (c .before .pre .1 .0 .1))
 
--- src/lookup.rt:71:17
 add-num : tie.Need-add-num
 add-num c = let a = room-at (c .before .before .pre .0) (c .before .before .pre .1 .0 .0) (c .before .before .pre .1 .0 .1) in let b = parents-are (c .before .before .pre .0) (c .before .before .pre .1 .0 .0) (c .before .before .pre .1 .0 .1) in let h = c .before .before .pre .1 .1 in rw (c .element-field .ensures .0) (omega arith)
 
--- src/lookup.rt:71:50
 mul-num : tie.Need-mul-num
 mul-num c = let a = room-at (c .before .before .pre .0) (c .before .before .pre .1 .0 .0) (c .before .before .pre .1 .0 .1) in let b = parents-are (c .before .before .pre .0) (c .before .before .pre .1 .0 .0) (c .before .before .pre .1 .0 .1) in let h = c .before .before .pre .1 .1 in omega arith
 
--- src/lookup.rt:71:17
 add-num-2 : tie.Need-add-num-2
 add-num-2 c = let a = room-at (c .before .before .pre .0) (c .before .before .pre .1 .0 .0) (c .before .before .pre .1 .0 .1) in let b = parents-are (c .before .before .pre .0) (c .before .before .pre .1 .0 .0) (c .before .before .pre .1 .0 .1) in let h = c .before .before .pre .1 .1 in rw (c .element-field .ensures .0) (omega arith)
 
--- src/lookup.rt:71:10
 num-requires : tie.Need-num-requires
 num-requires c κs = let a = room-at (c .before .before .pre .0) (c .before .before .pre .1 .0 .0) (c .before .before .pre .1 .0 .1) in let b = parents-are (c .before .before .pre .0) (c .before .before .pre .1 .0 .0) (c .before .before .pre .1 .0 .1) in let h = c .before .before .pre .1 .1 in rw (c .element-field .ensures .0) (omega arith)
 
--- src/lookup.rt:65:1
 returns : tie.Need-returns
 returns c = c .num .ensures ∙ rw (c .before .element-field .ensures .0) (parent-is (c .before .before .before .pre .0) (c .before .before .before .pre .1 .0 .0) (c .before .before .before .pre .1 .0 .1) _ (c .before .before .before .pre .1 .1))
 

@@ -1,31 +1,21 @@
 use Rattle.rule.proofs.Saying.{in-limit, place-limit, room-at, size-at, parents-are}
-use mathlib.Core.Path.{_∙_, sym}
 use borrow.Author.Needs.{needs}
 use native.Mathlib.Omega.{arith}
 use Rattle.rule.proofs.lookup.parents_at.Statement.{statement}
 use Rattle.rule.proofs.lookup.parents_at.Tie as tie
-use Rattle.rule.proofs.lookup.parents_at.Reads as reads
-use Rattle.rule.proofs.lookup.parents_at.Lts as lts
-use Rattle.records.proofs.fields.two.Reads as two-reads
-use Rattle.rule.proofs.elements.element_field.Reads as element-field-reads
 
--- src/lookup.rt:62:12
 element-field-requires : tie.Need-element-field-requires
 element-field-requires c κs = (in-limit (c .before .pre .0) (c .before .pre .1 .0), place-limit (c .before .pre .0) (c .before .pre .1 .0) (c .before .pre .1 .1))
 
--- src/lookup.rt:62:12
 add-two : tie.Need-add-two
 add-two c = search needs
 
--- src/lookup.rt:62:5
 two-requires : tie.Need-two-requires
 two-requires c κs = let a = room-at (c .before .before .pre .0) (c .before .before .pre .1 .0) (c .before .before .pre .1 .1) in let b = size-at (c .before .before .pre .0) (c .before .before .pre .1 .0) (c .before .before .pre .1 .1) in rw (c .element-field .ensures .0) (omega arith)
 
--- src/lookup.rt:62:5
 sub-result : tie.Need-sub-result
 sub-result c = let b = size-at (c .before .before .before .pre .0) (c .before .before .before .pre .1 .0) (c .before .before .before .pre .1 .1) in let e = c .two .ensures .0 in let g = c .before .element-field .ensures .0 in rw (c .two .ensures .0, c .before .element-field .ensures .0) (omega arith)
 
--- src/lookup.rt:57:1
 returns : tie.Need-returns
 returns c = rw (c .two .ensures .0, c .before .element-field .ensures .0) (parents-are (c .before .before .before .pre .0) (c .before .before .before .pre .1 .0) (c .before .before .before .pre .1 .1))
 

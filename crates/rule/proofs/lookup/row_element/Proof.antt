@@ -1,30 +1,21 @@
 use Rattle.rule.proofs.Saying.{row-element-is}
-use mathlib.Core.Path.{_∙_, sym}
+use mathlib.Core.Path.{_∙_}
 use borrow.Author.Needs.{needs}
-use native.Mathlib.Omega.{arith}
 use Rattle.rule.proofs.lookup.row_element.Statement.{statement}
 use Rattle.rule.proofs.lookup.row_element.Tie as tie
-use Rattle.rule.proofs.lookup.row_element.Reads as reads
-use Rattle.rule.proofs.lookup.row_element.Lts as lts
-use Rattle.records.proofs.fields.num.Reads as num-reads
 
--- src/lookup.rt:109:17
 add-num : tie.Need-add-num
 add-num c = search needs
 
--- src/lookup.rt:109:29
 mul-num : tie.Need-mul-num
 mul-num c = search needs
 
--- src/lookup.rt:109:17
 add-num-2 : tie.Need-add-num-2
 add-num-2 c = search needs
 
--- src/lookup.rt:109:10
 num-requires : tie.Need-num-requires
 num-requires c κs = search needs
 
--- src/lookup.rt:105:1
 returns : tie.Need-returns
 returns c = λ kind letter. c .num .ensures ∙ row-element-is _ _ _ (c .before .before .pre .0) letter kind _ (c .before .before .pre .1)
 

@@ -1,0 +1,4 @@
+-- Laws of scope.
+pub mod Settling
+pub mod InOrder
+pub mod Whole

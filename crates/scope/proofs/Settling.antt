@@ -1,0 +1,127 @@
+-- What one statement settles, from the tests that the code makes.
+use Prim.Native.Nat.{ℕ, _+_, _*_, _≤_, _<_, min}
+use native.Mathlib.Omega.{arith}
+use mathlib.Core.Bool.{Bool, true, false}
+use mathlib.Core.List.{List, []}
+use mathlib.Core.Option.{Option, none, some}
+use mathlib.Core.Path.{_≡_, refl, sym, _∙_}
+use lib.ListN.{length, getD, drop, drop-of-length-le}
+use borrow.Author.Tests.{eq-eqb, ne-eqb, lt-ltb, le-ltb}
+use Rattle.definition.specs.Base.{Outcome, refused, accepted, pick, any, has}
+use Rattle.definition.specs.Letters.{equality}
+use Rattle.definition.specs.Records.{numbers}
+use Rattle.definition.specs.Signature.{Signature, typeParents, parentModel}
+use Rattle.definition.specs.Group.{Variable}
+use Rattle.definition.specs.Scope.{Scope, global, ownerCount, sameVariables, ownersVerdict, conclusionVerdict, related, relationVerdict, premiseVerdict}
+use Rattle.records.specs.Places.{stretch}
+use Rattle.records.proofs.Link.{one-more}
+use Rattle.signature.specs.Entries.{modelOf}
+use Rattle.signature.specs.declared.ids.TypeId.{TypeId}
+use Rattle.signature.specs.declared.lookup.ParentModel.{ParentModel}
+use Rattle.signature.specs.declared.lookup.ParentModel.the-variants.{Model, Nothing}
+use Rattle.group.specs.Lookups.{table, VariablesAt}
+use Rattle.group.specs.declared.lookup.Statement.{Statement}
+use Rattle.group.proofs.Values.{numbers-count, taken}
+use Rattle.scope.specs.Statements.{said, ownersIn}
+use Rattle.scope.specs.declared.answers.Owned.{Owned}
+
+-- A search along a list.
+module _ (xs : List ℕ) (x : ℕ) where
+  pub has-hit : (i : ℕ) → {n : ℕ} → n ≡ length xs → i < n → {y : ℕ} → y ≡ getD xs i 0 → y ≡ x → has x (drop i xs) ≡ true
+  unfolding has any
+  has-hit i l h e q = rw (one-more xs i (rw l at h), eq-eqb (getD xs i 0) x (sym e ∙ q))
+
+  pub has-miss : (i : ℕ) → {n : ℕ} → n ≡ length xs → i < n → {y : ℕ} → y ≡ getD xs i 0 → (y ≡ x → ⊥) → has x (drop i xs) ≡ has x (drop (i + 1) xs)
+  unfolding has any
+  has-miss i l h e q = rw (one-more xs i (rw l at h), ne-eqb (getD xs i 0) x (λ d. q (e ∙ d)))
+
+  pub has-end : (i : ℕ) → {n : ℕ} → n ≡ length xs → n ≤ i → has x (drop i xs) ≡ false
+  unfolding has any
+  has-end i l h = let k : length xs ≤ i = rw l at h in rw (drop-of-length-le xs k)
+
+-- Related models.
+module _ (sig : Signature) (m p : ℕ) where
+  pub related-same : p ≡ m → true ≡ related sig m p
+  unfolding related
+  related-same e = rw (eq-eqb p m e)
+
+  module _ (n : p ≡ m → ⊥) where
+    pub related-above : {r : Bool} → r ≡ has m (typeParents sig p) → r ≡ true → true ≡ related sig m p
+    unfolding related
+    related-above e q = rw (ne-eqb p m n, sym e ∙ q)
+
+    pub related-below : {a b : Bool} → a ≡ has m (typeParents sig p) → a ≡ false → b ≡ has p (typeParents sig m) → b ≡ related sig m p
+    unfolding related
+    related-below e q f = rw (ne-eqb p m n, sym e ∙ q) f
+
+-- The first of so many variables.
+pub prefix-at : {s : List ℕ} {variables at n : ℕ} (k : ℕ) → k ≤ n → VariablesAt s variables at n → VariablesAt s variables at k
+prefix-at k h w = record { within = omega (arith, w .within); each = λ i q. w .each i (omega arith) }
+
+-- A statement's variables against the owners.
+module _ {s : List ℕ} {variables : ℕ} (own : Owned) (count : ℕ) (t : Statement)
+    (h : (count ≤ own .count) × VariablesAt s variables (own .start) (own .count)) (w : VariablesAt s variables (t .at) (t .count)) where
+  pub too-few : t .count < count → some (refused 43) ≡ ownersVerdict (table s) (ownersIn s own) count (said s t)
+  unfolding ownersVerdict said
+  too-few q = rw (numbers-count s (t .at) (t .count) (w .within), lt-ltb (t .count) count q)
+
+  module _ (q : count ≤ t .count) {r : Bool}
+      (e : r ≡ sameVariables (table s) (numbers (stretch s (t .at) (2 * count))) (numbers (stretch s (own .start) (2 * count)))) where
+    pub by-owners : pick r none (some (accepted global)) ≡ ownersVerdict (table s) (ownersIn s own) count (said s t)
+    unfolding ownersVerdict said ownersIn
+    by-owners = rw (
+      numbers-count s (t .at) (t .count) (w .within),
+      le-ltb (t .count) count q,
+      taken s (t .at) (t .count) (w .within) count q,
+      taken s (own .start) (own .count) (h .1 .within) count (h .0),
+      ← e,
+    )
+
+    pub alike : r ≡ true → none ≡ ownersVerdict (table s) (ownersIn s own) count (said s t)
+    alike f = rw f at by-owners
+
+    pub unlike : r ≡ false → some (accepted global) ≡ ownersVerdict (table s) (ownersIn s own) count (said s t)
+    unlike f = rw f at by-owners
+
+-- By the model of the statement's symbol.
+module _ (sig : Signature) (variables : List Variable) (m : ℕ) (owners : List ℕ) (s : List ℕ) (t : Statement) {r : ParentModel}
+    (e : modelOf r ≡ parentModel sig (t .kind) (t .symbol)) where
+  -- A conclusion without a model, with another one, and with the model.
+  pub no-model : r ≡ Nothing → some (accepted global) ≡ conclusionVerdict sig variables m owners (said s t)
+  unfolding conclusionVerdict said
+  no-model q = rw (← e, q)
+
+  pub other-model : {x : TypeId} → r ≡ Model x → (x .0 ≡ m → ⊥) → some (accepted global) ≡ conclusionVerdict sig variables m owners (said s t)
+  unfolding conclusionVerdict said
+  other-model {x} q n = rw (← e, q, ne-eqb (x .0) m n)
+
+  pub same-model : {x : TypeId} → r ≡ Model x → x .0 ≡ m → {v : Option (Outcome Scope)} {count : ℕ} → count ≡ ownerCount sig m
+      → v ≡ ownersVerdict variables owners count (said s t) → v ≡ conclusionVerdict sig variables m owners (said s t)
+  unfolding conclusionVerdict said
+  same-model {x} q d c f = rw (← e, q, eq-eqb (x .0) m d, ← c) f
+
+  -- A premise that is no Equality: without a model, with one that is not related, and with one that is.
+  module _ (n : t .kind ≡ equality → ⊥) where
+    pub passes : r ≡ Nothing → none ≡ premiseVerdict sig variables m owners (said s t)
+    unfolding premiseVerdict relationVerdict said
+    passes q = rw (ne-eqb (t .kind) equality n, ← e, q)
+
+    module _ {x : TypeId} (q : r ≡ Model x) {b : Bool} (f : b ≡ related sig m (x .0)) where
+      pub unrelated : b ≡ false → some (accepted global) ≡ premiseVerdict sig variables m owners (said s t)
+      unfolding premiseVerdict relationVerdict said
+      unrelated d = rw (ne-eqb (t .kind) equality n, ← e, q, sym f ∙ d)
+
+      pub by-prefix : b ≡ true → {v : Option (Outcome Scope)} {count : ℕ} → count ≡ min (ownerCount sig (x .0)) (ownerCount sig m)
+          → v ≡ ownersVerdict variables owners count (said s t) → v ≡ premiseVerdict sig variables m owners (said s t)
+      unfolding premiseVerdict relationVerdict said
+      by-prefix d c g = rw (ne-eqb (t .kind) equality n, ← e, q, sym f ∙ d, ← c) g
+
+-- A premise Equality.
+pub equated : (sig : Signature) (variables : List Variable) (m : ℕ) (owners : List ℕ) (s : List ℕ) (t : Statement) → t .kind ≡ equality
+    → some (refused 42) ≡ premiseVerdict sig variables m owners (said s t)
+unfolding premiseVerdict said
+equated sig variables m owners s t q = rw (eq-eqb (t .kind) equality q)
+
+-- The smaller of two counts that are told.
+pub prefix-count : {r a b x y : ℕ} → r ≡ min a b → a ≡ x → b ≡ y → r ≡ min x y
+prefix-count e f g = e ∙ rw (f, g)

@@ -1,0 +1,99 @@
+// Scope and owners of a rule at a position of a group, for any bytes.
+ghost use mathlib.Core.Path.{_≡_};
+ghost use Prim.Native.Nat.{ℕ, _<_};
+ghost use lib.ListN.{getD};
+ghost use Rattle.definition.specs.Letters.{letterU};
+ghost use Rattle.definition.specs.Records.{blocks};
+ghost use Rattle.definition.specs.Group.{groupPart};
+ghost use Rattle.definition.specs.Scope.{scopeOf, ownersOf};
+ghost use Rattle.group.specs.Index.{conclusionsAt, noBlock, Rules};
+ghost use Rattle.group.specs.Lookups.{SectionsAt};
+ghost use Rattle.scope.specs.Answers.{scopeAnswer, OwnersStand, signatureNumber, groupNumber};
+use crate::answers::Scope;
+use crate::rules::rule_scope;
+use group::ids::CONCLUSIONS_FROM;
+use group::ids::GROUP_INDEX;
+use group::ids::RULES_FROM;
+use group::lookup::Sections;
+use group::reader::read_group;
+use records::fields::place;
+use records::fields::two;
+use signature::ids::INDEX;
+use signature::reader::read_signature;
+
+// The number of a refused signature, and of a refused group.
+fn signature_number(r: signature::reader::Reading) -> u8
+    ensures { λ n. ⌜ n ≡ signatureNumber r ⌝ }
+{
+    match r {
+        signature::reader::Reading::Sound(_) => 0,
+        signature::reader::Reading::Refused(n) => n,
+    }
+}
+
+fn group_number(r: group::reader::Reading) -> u8
+    ensures { λ n. ⌜ n ≡ groupNumber r ⌝ }
+{
+    match r {
+        group::reader::Reading::Sound {
+            variables: _,
+            rules: _,
+        } => 0,
+        group::reader::Reading::Refused(n) => n,
+    }
+}
+
+// Where the sections of a rule stand. The owners are the first conclusion's, so its place is told by the index entry.
+fn sections(s: &[u8], index: &[u16; GROUP_INDEX], rules: usize, k: usize) -> Sections
+    requires { ⌜ Rules (now s) (now index) rules (blocks letterU (groupPart (now s) .fields)) ⌝ }
+    requires { ⌜ k < rules ⌝ }
+    ensures { λ r. ⌜ SectionsAt (now (s .entry)) (r .premises) (r .conclusions) (r .end) (getD (blocks letterU (groupPart (now (s .entry)) .fields)) k noBlock) ⌝ }
+    ensures { λ r. ⌜ r .conclusions ≡ conclusionsAt (now (index .entry)) k ⌝ }
+{
+    let at = place(index[RULES_FROM + k]);
+    Sections {
+        premises: at + 3 + two(s, at + 1),
+        conclusions: place(index[CONCLUSIONS_FROM + k]),
+        end: place(index[RULES_FROM + k + 1]),
+    }
+}
+
+// The scope of the rule at a position, after all checks of signature and group.
+pub fn scope(sig: &[u8], group: &[u8], position: usize) -> Scope
+    ensures { λ r. ⌜ scopeAnswer (now (group .entry)) r ≡ scopeOf (now (sig .entry)) (now (group .entry)) position ⌝ }
+    ensures { λ r. ⌜ OwnersStand (now (group .entry)) position r ⌝ }
+{
+    let mut symbols = [0u16; INDEX];
+    let a = read_signature(sig, &mut symbols);
+    let signature::reader::Reading::Sound(counts) = a else {
+        return Scope::Refused(signature_number(a));
+    };
+    let mut index = [0u16; GROUP_INDEX];
+    let b = read_group(sig, &symbols, counts, group, &mut index);
+    let group::reader::Reading::Sound { variables, rules } = b else {
+        return Scope::Refused(group_number(b));
+    };
+    if rules <= position {
+        return Scope::Refused(41);
+    }
+    let rule = sections(group, &index, rules, position);
+    rule_scope(sig, &symbols, counts, group, &index, variables, rule)
+}
+
+// The owners: the part of the group's bytes that holds the first conclusion's leading variables. It is empty where the rule
+// belongs to no model or is refused.
+pub fn owners<'a>(sig: &[u8], group: &'a [u8], position: usize) -> &'a [u8]
+    ensures { λ r. ⌜ now r ≡ ownersOf (now (sig .entry)) (now (group .entry)) position ⌝ }
+{
+    let r = scope(sig, group, position);
+    let Scope::Model {
+        model: _,
+        start,
+        count,
+    } = r
+    else {
+        return &group[0..0];
+    };
+    let end = start + 2 * count;
+    &group[start..end]
+}

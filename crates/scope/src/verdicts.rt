@@ -1,0 +1,164 @@
+// What one statement of a rule settles.
+ghost use mathlib.Core.Path.{_≡_};
+ghost use Prim.Native.Nat.{ℕ, _+_, _*_, _≤_, _<_, min};
+ghost use lib.ListN.{length};
+ghost use Rattle.definition.specs.Base.{has};
+ghost use Rattle.definition.specs.Signature.{typeParents};
+ghost use Rattle.definition.specs.Scope as definition;
+ghost use Rattle.definition.specs.Scope.{ownerCount, ownersVerdict, conclusionVerdict, premiseVerdict};
+ghost use Rattle.signature.specs.Index.{signatureAt, Indexed};
+ghost use Rattle.group.specs.Lookups.{table, Listed, VariablesAt};
+ghost use Rattle.scope.specs.Statements.{said, StatementAt, ownersIn, OwnedAt};
+ghost use Rattle.scope.specs.Answers.{verdictOf};
+use crate::answers::Owned;
+use crate::answers::Verdict;
+use group::ids::GROUP_INDEX;
+use group::lookup::Statement;
+use group::lookup::same_variables;
+use signature::ids::Counts;
+use signature::ids::EQUALITY;
+use signature::ids::INDEX;
+use signature::ids::TypeId;
+use signature::lookup::ParentModel;
+use signature::lookup::parent_model_type;
+use signature::lookup::type_parent;
+use signature::lookup::type_parents;
+
+// How many owners a model's rules have: one more than it has parents.
+pub fn owner_count(sig: &[u8], symbols: &[u16; INDEX], counts: Counts, m: TypeId) -> usize
+    requires { ⌜ Indexed (now sig) (now symbols) counts ⌝ }
+    requires { ⌜ m .0 < counts .types ⌝ }
+    ensures { λ r. ⌜ r ≡ ownerCount (signatureAt (now (sig .entry)) (now (symbols .entry)) counts) (m .0) ⌝ }
+{
+    type_parents(sig, symbols, counts, m) + 1
+}
+
+// Is a type among the parents of another, in that one's own list?
+fn among(sig: &[u8], symbols: &[u16; INDEX], counts: Counts, t: TypeId, x: TypeId) -> bool
+    requires { ⌜ Indexed (now sig) (now symbols) counts ⌝ }
+    requires { ⌜ t .0 < counts .types ⌝ }
+    ensures { λ r. ⌜ r ≡ has (x .0) (typeParents (signatureAt (now (sig .entry)) (now (symbols .entry)) counts) (t .0)) ⌝ }
+{
+    let n = type_parents(sig, symbols, counts, t);
+    let mut i: usize = 0;
+    while i < n {
+        let p = type_parent(sig, symbols, counts, t, i);
+        if p.0 == x.0 {
+            return true;
+        }
+        i += 1;
+    }
+    false
+}
+
+// Is a relation's model the model, or one among the other's parents?
+fn related(sig: &[u8], symbols: &[u16; INDEX], counts: Counts, m: TypeId, p: TypeId) -> bool
+    requires { ⌜ Indexed (now sig) (now symbols) counts ⌝ }
+    requires { ⌜ (m .0 < counts .types) × (p .0 < counts .types) ⌝ }
+    ensures { λ r. ⌜ r ≡ definition.related (signatureAt (now (sig .entry)) (now (symbols .entry)) counts) (m .0) (p .0) ⌝ }
+{
+    if p.0 == m.0 {
+        return true;
+    }
+    if among(sig, symbols, counts, p, m) {
+        return true;
+    }
+    among(sig, symbols, counts, m, p)
+}
+
+// The smaller of two counts.
+fn smaller(a: usize, b: usize) -> usize
+    ensures { λ r. ⌜ r ≡ min a b ⌝ }
+{
+    if a < b {
+        return a;
+    }
+    b
+}
+
+// A statement's first variables against the owners, so many of each.
+fn compared(
+    s: &[u8],
+    index: &[u16; GROUP_INDEX],
+    variables: usize,
+    own: Owned,
+    count: usize,
+    t: Statement,
+) -> Verdict
+    requires { ⌜ Listed (now s) (now index) variables ⌝ }
+    requires { ⌜ (count ≤ own .count) × VariablesAt (now s) variables (own .start) (own .count) ⌝ }
+    requires { ⌜ VariablesAt (now s) variables (t .at) (t .count) ⌝ }
+    ensures { λ r. ⌜ verdictOf r ≡ ownersVerdict (table (now (s .entry))) (ownersIn (now (s .entry)) own) count (said (now (s .entry)) t) ⌝ }
+{
+    if t.count < count {
+        return Verdict::Refused(43);
+    }
+    if same_variables(s, index, variables, t.at, own.start, count) {
+        return Verdict::Open;
+    }
+    Verdict::Global
+}
+
+// A conclusion must have the model and its owners; an Equality has no model.
+pub fn conclusion_verdict(
+    sig: &[u8],
+    symbols: &[u16; INDEX],
+    counts: Counts,
+    s: &[u8],
+    index: &[u16; GROUP_INDEX],
+    variables: usize,
+    own: Owned,
+    t: Statement,
+) -> Verdict
+    requires { ⌜ Indexed (now sig) (now symbols) counts ⌝ }
+    requires { ⌜ Listed (now s) (now index) variables ⌝ }
+    requires { ⌜ OwnedAt (signatureAt (now sig) (now symbols) counts) (counts .types) variables (now s) own ⌝ }
+    requires { ⌜ StatementAt (signatureAt (now sig) (now symbols) counts) variables (now s) t ⌝ }
+    ensures { λ r. ⌜ verdictOf r ≡ conclusionVerdict (signatureAt (now (sig .entry)) (now (symbols .entry)) counts) (table (now (s .entry)))
+        (own .model .0) (ownersIn (now (s .entry)) own) (said (now (s .entry)) t) ⌝ }
+{
+    let p = parent_model_type(sig, symbols, counts, t.kind, t.symbol);
+    let ParentModel::Model(model) = p else {
+        return Verdict::Global;
+    };
+    let wanted = own.model;
+    if model.0 != wanted.0 {
+        return Verdict::Global;
+    }
+    compared(s, index, variables, own, own.count, t)
+}
+
+// A premise's relation must have a related model, and of the owners as many as both models have. An Equality should have been
+// eliminated; a TypeSet has no model, and like every relation without one it passes.
+pub fn premise_verdict(
+    sig: &[u8],
+    symbols: &[u16; INDEX],
+    counts: Counts,
+    s: &[u8],
+    index: &[u16; GROUP_INDEX],
+    variables: usize,
+    own: Owned,
+    t: Statement,
+) -> Verdict
+    requires { ⌜ Indexed (now sig) (now symbols) counts ⌝ }
+    requires { ⌜ Listed (now s) (now index) variables ⌝ }
+    requires { ⌜ OwnedAt (signatureAt (now sig) (now symbols) counts) (counts .types) variables (now s) own ⌝ }
+    requires { ⌜ StatementAt (signatureAt (now sig) (now symbols) counts) variables (now s) t ⌝ }
+    ensures { λ r. ⌜ verdictOf r ≡ premiseVerdict (signatureAt (now (sig .entry)) (now (symbols .entry)) counts) (table (now (s .entry)))
+        (own .model .0) (ownersIn (now (s .entry)) own) (said (now (s .entry)) t) ⌝ }
+{
+    if t.kind == EQUALITY {
+        return Verdict::Refused(42);
+    }
+    let p = parent_model_type(sig, symbols, counts, t.kind, t.symbol);
+    let ParentModel::Model(parent) = p else {
+        return Verdict::Open;
+    };
+    let model = own.model;
+    if !related(sig, symbols, counts, model, parent) {
+        return Verdict::Global;
+    }
+    let n = owner_count(sig, symbols, counts, parent);
+    let prefix = smaller(n, own.count);
+    compared(s, index, variables, own, prefix, t)
+}
