@@ -2,7 +2,7 @@
 use Prim.Native.Nat.{ℕ, _+_, _-_, _*_, _/_, _%_, _≤_, _<_}
 use native.Mathlib.Omega.{arith}
 use mathlib.Core.Bool.{Bool, true, false}
-use mathlib.Core.List.{List, [], _∷_}
+use mathlib.Core.List.{List, _∷_}
 use mathlib.Core.Option.{Option, none, some}
 use mathlib.Core.Path.{_≡_, refl, sym, ap, _∙_}
 use lib.ListN.{length, take}
@@ -12,12 +12,12 @@ use Rattle.definition.specs.Letters.{letterB, letterH}
 use Rattle.definition.specs.Records.{Field, Block, numbers, withLetter}
 use Rattle.definition.specs.Signature.{Signature, parentModel}
 use Rattle.definition.specs.Group as definition
-use Rattle.definition.specs.Group.{Variable, statementOf, statementFault, badColumns, flatRuleOf}
+use Rattle.definition.specs.Group.{statementOf, statementFault, badColumns, flatRuleOf}
 use Rattle.definition.specs.Scope.{Scope, global, model, ownerCount, conclusionVerdict, premiseVerdict, modelScope, outputScope, conclusionScope}
 use Rattle.records.specs.Places.{twoAt, stretch, fieldAt, fieldOf, Run}
 use Rattle.records.specs.declared.fields.Field.the-variants.{Got, Bad}
 use Rattle.records.proofs.Link.{got-is}
-use Rattle.records.proofs.Runs.{Behind, run-got, run-bad, run-end}
+use Rattle.records.proofs.Runs.{run-got, run-bad, run-end}
 use Rattle.records.proofs.Numbers.{numbers-in}
 use Rattle.signature.specs.Entries.{modelOf}
 use Rattle.signature.specs.declared.ids.TypeId.{TypeId}

@@ -3,16 +3,16 @@ use Prim.Native.Nat.{ℕ, zero, suc, _+_, _-_, _*_, _≤_, _<_}
 use native.Mathlib.Omega.{arith}
 use native.Mathlib.Nat.{add-sub-cancel-left}
 use mathlib.Core.List.{List, [], _∷_}
-use mathlib.Core.Path.{_≡_, refl, sym, ap, _∙_}
+use mathlib.Core.Path.{_≡_, refl, sym, _∙_}
 use lib.ListN.{length, getD, take, drop}
-use Rattle.definition.specs.Base.{Outcome, refused, accepted}
+use Rattle.definition.specs.Base.{Outcome, refused}
 use Rattle.definition.specs.Letters.{letterU, letterB, letterH}
-use Rattle.definition.specs.Records.{Field, Block, numbers, withLetter, blocks}
+use Rattle.definition.specs.Records.{Field, Block, withLetter, blocks}
 use Rattle.definition.specs.Signature.{Signature, readSignature}
 use Rattle.definition.specs.Group.{FlatRule, Group, flatRuleOf, groupOf, groupPart, readGroup}
 use Rattle.definition.specs.Scope as definition
-use Rattle.definition.specs.Scope.{conclusionScope, inferScope, scopeOf, conclusionAt, ownersAt, ownersPart, ownersOf}
-use Rattle.records.specs.Places.{stretch, Run, none, more}
+use Rattle.definition.specs.Scope.{conclusionScope, inferScope, scopeOf, ownersAt, ownersPart, ownersOf}
+use Rattle.records.specs.Places.{Run, none, more}
 use Rattle.signature.specs.Index as signature-index
 use Rattle.signature.specs.Index.{signatureAt}
 use Rattle.signature.specs.Answers as signature-answers
@@ -20,7 +20,7 @@ use Rattle.signature.specs.Answers.{signatureReading}
 use Rattle.signature.specs.declared.ids.Counts.{Counts}
 use Rattle.signature.specs.declared.reader.Reading as read-signature
 use Rattle.signature.specs.declared.reader.Reading.the-variants as signature
-use Rattle.group.specs.Index.{conclusionsAt, noBlock, FirstConclusion, Indexed}
+use Rattle.group.specs.Index.{conclusionsAt, noBlock, Indexed}
 use Rattle.group.specs.Answers.{groupReading, Usable}
 use Rattle.group.specs.Lookups.{table, SectionsAt}
 use Rattle.group.specs.declared.lookup.Sections.{Sections}

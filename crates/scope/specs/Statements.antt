@@ -1,8 +1,7 @@
 -- The statements of an accepted group, as the scope's functions ask for them.
 use mathlib.Core.List.{List}
 use mathlib.Core.Path.{_≡_}
-use Prim.Native.Nat.{ℕ, _+_, _*_, _≤_, _<_}
-use lib.ListN.{length}
+use Prim.Native.Nat.{ℕ, _*_, _<_}
 use Rattle.definition.specs.Letters.{letterB, letterH}
 use Rattle.definition.specs.Records.{Field, numbers}
 use Rattle.definition.specs.Signature.{Signature, symbolCount}

@@ -1,6 +1,6 @@
 // Scope and owners of a rule at a position of a group, for any bytes.
 ghost use mathlib.Core.Path.{_≡_};
-ghost use Prim.Native.Nat.{ℕ, _<_};
+ghost use Prim.Native.Nat.{_<_};
 ghost use lib.ListN.{getD};
 ghost use Rattle.definition.specs.Letters.{letterU};
 ghost use Rattle.definition.specs.Records.{blocks};

@@ -1,7 +1,6 @@
 // The statements of a rule, in order, and its scope.
 ghost use mathlib.Core.List.{List};
 ghost use mathlib.Core.Path.{_≡_};
-ghost use Prim.Native.Nat.{ℕ};
 ghost use lib.ListN.{length};
 ghost use Rattle.definition.specs.Base.{each, firstOf};
 ghost use Rattle.definition.specs.Letters.{letterB, letterH};

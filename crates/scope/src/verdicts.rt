@@ -1,7 +1,6 @@
 // What one statement of a rule settles.
 ghost use mathlib.Core.Path.{_≡_};
-ghost use Prim.Native.Nat.{ℕ, _+_, _*_, _≤_, _<_, min};
-ghost use lib.ListN.{length};
+ghost use Prim.Native.Nat.{_+_, _≤_, _<_, min};
 ghost use Rattle.definition.specs.Base.{has};
 ghost use Rattle.definition.specs.Signature.{typeParents};
 ghost use Rattle.definition.specs.Scope as definition;

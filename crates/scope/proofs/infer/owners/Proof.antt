@@ -1,4 +1,3 @@
-use mathlib.Core.Path.{refl, sym, ap, _∙_}
 use Rattle.scope.proofs.Whole.{no-owners, owners-within, owners-are}
 use native.Mathlib.Omega.{arith}
 use borrow.Author.Needs.{needs}

@@ -1,7 +1,6 @@
-use mathlib.Core.Path.{refl, sym, ap, _∙_}
+use mathlib.Core.Path.{refl, ap, _∙_}
 use Rattle.definition.specs.Base.{refused}
 use Rattle.scope.proofs.Whole.{signature-refused, group-refused, no-rule, rule-answer, usable-signature, usable-group, rule-stands, owners-stand}
-use native.Mathlib.Omega.{arith}
 use borrow.Author.Needs.{needs}
 use Rattle.scope.proofs.infer.scope.Statement.{statement}
 use Rattle.scope.proofs.infer.scope.Tie as tie

@@ -1,8 +1,7 @@
-use mathlib.Core.Path.{refl, sym, ap, _∙_}
+use mathlib.Core.Path.{refl, sym, _∙_}
 use borrow.Author.Tests.{not-true, not-false}
 use Rattle.scope.specs.Statements.{ownersIn}
 use Rattle.scope.proofs.InOrder.{by-conclusions, by-premises, left-open, leads-settled}
-use native.Mathlib.Omega.{arith}
 use borrow.Author.Needs.{needs}
 use Rattle.scope.proofs.rules.model_scope.Statement.{statement}
 use Rattle.scope.proofs.rules.model_scope.Tie as tie

@@ -1,5 +1,4 @@
 use borrow.Author.Needs.{needs}
-use native.Mathlib.Omega.{arith}
 use Rattle.scope.proofs.rules.settled.Statement.{statement}
 use Rattle.scope.proofs.rules.settled.Tie as tie
 

@@ -1,6 +1,4 @@
 use Rattle.scope.proofs.Settling.{prefix-at, too-few, alike, unlike}
-use borrow.Author.Needs.{needs}
-use native.Mathlib.Omega.{arith}
 use Rattle.scope.proofs.verdicts.compared.Statement.{statement}
 use Rattle.scope.proofs.verdicts.compared.Tie as tie
 

@@ -1,6 +1,5 @@
 use Rattle.scope.proofs.Settling.{no-model, other-model, same-model}
 use borrow.Author.Needs.{needs}
-use native.Mathlib.Omega.{arith}
 use Rattle.scope.proofs.verdicts.conclusion_verdict.Statement.{statement}
 use Rattle.scope.proofs.verdicts.conclusion_verdict.Tie as tie
 

@@ -1,6 +1,5 @@
 use Rattle.scope.proofs.Settling.{related-same, related-above, related-below}
 use borrow.Author.Needs.{needs}
-use native.Mathlib.Omega.{arith}
 use Rattle.scope.proofs.verdicts.related.Statement.{statement}
 use Rattle.scope.proofs.verdicts.related.Tie as tie
 
