@@ -79,21 +79,16 @@ module _ (s : List ℕ) (start len : ℕ) (h : start + len ≤ length s) (letter
     statement-tests q l = rw (length-stretch s start len h, eq-eqb _ _ q, le-ltb len 3 l, variables-count l, kind-is l, symbol-is l, variables-are l)
 
 -- 7 for a member: its type has no parents just where it has one column.
-pub parentless : (sig : Signature) (symbol columns : ℕ) → columns ≡ arity sig member symbol → columns ≡ 1 → empty (typeParents sig symbol) ≡ true
+pub one-column : (sig : Signature) (symbol columns : ℕ) → columns ≡ arity sig member symbol → eqb columns 1 ≡ empty (typeParents sig symbol)
 unfolding arity
-parentless sig symbol columns e o = go (typeParents sig symbol) (omega (arith, e))
+one-column sig symbol columns e = rw e (go (typeParents sig symbol))
   where
-    go : (ps : List ℕ) → length ps + 1 ≡ 1 → empty ps ≡ true
-    go [] e = refl
-    go (p ∷ ps) e = absurd (omega arith)
-
-pub with-parents : (sig : Signature) (symbol columns : ℕ) → columns ≡ arity sig member symbol → (columns ≡ 1 → ⊥) → empty (typeParents sig symbol) ≡ false
-unfolding arity
-with-parents sig symbol columns e o = go (typeParents sig symbol) (λ q. o (e ∙ q))
-  where
-    go : (ps : List ℕ) → (length ps + 1 ≡ 1 → ⊥) → empty ps ≡ false
-    go [] e = absurd (e refl)
-    go (p ∷ ps) e = refl
+    go : (ps : List ℕ) → eqb (length ps + 1) 1 ≡ empty ps
+    go [] = refl
+    go (p ∷ ps) = ne-eqb (length (p ∷ ps) + 1) 1 (no p ps)
+      where
+        no : (p : ℕ) (ps : List ℕ) → length (p ∷ ps) + 1 ≡ 1 → ⊥
+        no p ps q = omega arith
 
 -- The kinds that may stand in a B or an H.
 module _ (letter : ℕ) where

@@ -1,17 +1,20 @@
 -- The reader's answers as the definition's.
+use mathlib.Core.Bool.{Bool, not, _&&_, _||_}
 use mathlib.Core.List.{List, [], _∷_}
 use mathlib.Core.Option.{Option, none, some}
 use mathlib.Core.Path.{_≡_}
 use Prim.Native.Nat.{ℕ, zero, suc, _+_, _≤_, _<_}
+use lib.Dec.{eqb}
 use lib.ListN.{length, getD}
-use Rattle.definition.specs.Base.{Outcome, refused, accepted}
-use Rattle.definition.specs.Letters.{letterW, letterU, letterB, letterH}
+use Rattle.definition.specs.Base.{Outcome, refused, accepted, empty}
+use Rattle.definition.specs.Letters.{letterW, letterU, letterB, letterH, member}
 use Rattle.definition.specs.Limits.{ruleLimit}
 use Rattle.definition.specs.Records.{Field, Block, faultFrom, withLetter, upTo, blocks}
-use Rattle.definition.specs.Signature.{Signature}
+use Rattle.definition.specs.Signature.{Signature, typeParents, arity}
 use Rattle.definition.specs.Group.{Group, groupOf, groupPart, variableFault, flatRulesFault}
 use Rattle.definition.specs.Scope.{conclusionAt}
-use Rattle.records.specs.Places.{twoAt, Run}
+use Rattle.records.specs.Places.{twoAt, fieldAt, Run}
+use Rattle.records.specs.declared.fields.Field.the-variants.{Got}
 use Rattle.records.specs.Held.{fieldIn}
 use Rattle.group.specs.Sections.{leading, trailing, AtRule, blockFault}
 use Rattle.group.specs.Index.{rulesFrom, Variables, RuleSound, FirstConclusion, noBlock, Rules, Indexed}
@@ -19,6 +22,8 @@ use Rattle.group.specs.declared.reader.Checked.{Checked}
 use Rattle.group.specs.declared.reader.Checked.the-variants as checked
 use Rattle.group.specs.declared.reader.Ruled.{Ruled}
 use Rattle.group.specs.declared.reader.Ruled.the-variants as ruled
+use Rattle.group.specs.declared.reader.Here.{Here}
+use Rattle.group.specs.declared.reader.Here.the-variants as here
 use Rattle.group.specs.declared.reader.Reading.{Reading}
 use Rattle.group.specs.declared.reader.Reading.the-variants as reading
 
@@ -40,6 +45,18 @@ numberOf (checked.Upto count next) = 0
 abbrev pub ruleNumberOf : Ruled → ℕ
 ruleNumberOf (ruled.Refused n) = n
 ruleNumberOf (ruled.Upto conclusions next) = 0
+
+-- 7, by the number of columns that a statement has.
+abbrev pub columnsDiffer : Signature → ℕ → ℕ → ℕ → Bool
+columnsDiffer sig kind symbol columns = not (eqb columns (arity sig kind symbol)) || (eqb kind member && empty (typeParents sig symbol))
+
+-- A field of a letter stands at a position and lies in the record, or none of that letter stands there.
+abbrev HereAs : Here → List ℕ → ℕ → ℕ → Type 0
+HereAs (here.Field start len next) s at letter = (fieldAt s at ≡ Got letter start len next) × (at < next) × (start + len ≤ length s) × (next ≤ length s)
+HereAs here.Nothing s at letter = (start len next : ℕ) → fieldAt s at ≡ Got letter start len next → ⊥
+
+pub record HereAt (r : Here) (s : List ℕ) (at letter : ℕ) : Type 0 where
+  pub is : HereAs r s at letter
 
 -- Where a section, or a rule, ends: not before its start, and in the record.
 abbrev pub Onward : Checked → ℕ → ℕ → Type 0

@@ -5,12 +5,13 @@ ghost use Prim.Native.Nat.{ℕ, _+_, _≤_, _<_};
 ghost use lib.ListN.{length};
 ghost use Rattle.definition.specs.Base.{has};
 ghost use Rattle.definition.specs.Records.{Field};
-ghost use Rattle.definition.specs.Signature.{Signature};
+ghost use Rattle.definition.specs.Signature.{Signature, symbolCount};
 ghost use Rattle.definition.specs.Group.{titleFault, variableFault, flatRuleFault, statementFault};
 ghost use Rattle.records.specs.Places.{fieldOf};
 ghost use Rattle.signature.specs.Faults.{faultOf};
 ghost use Rattle.signature.specs.Index.{signatureAt, Indexed};
 ghost use Rattle.group.specs.Sections.{kindsOf};
+ghost use Rattle.group.specs.Answers.{columnsDiffer};
 use crate::ids::LETTER_B;
 use crate::ids::NAME_BYTES;
 use crate::ids::RULES;
@@ -34,7 +35,8 @@ use signature::lookup::symbol_count;
 // A G field: its name.
 pub fn title_fault(s: &[u8], start: usize, len: usize) -> Fault
     requires { ⌜ start + len ≤ length (now s) ⌝ }
-    ensures { λ r. ⌜ ((letter before : ℕ) (last : Option Field) → faultOf r ≡ titleFault before last (fieldOf (now (s .entry)) letter start len)) ⌝ }
+    ensures { λ r. ⌜ ((letter before : ℕ) (last : Option Field)
+        → faultOf r ≡ titleFault before last (fieldOf (now (s .entry)) letter start len)) ⌝ }
 {
     if bad_name(s, start, len, 1, NAME_BYTES) {
         return Fault::Draws(8);
@@ -89,6 +91,28 @@ fn may_state(letter: u8, kind: u8) -> bool
     }
 }
 
+// Does the number of columns differ from the arity? A member of a parentless type has one column, and is no relation.
+fn bad_columns(
+    sig: &[u8],
+    symbols: &[u16; INDEX],
+    counts: Counts,
+    kind: u8,
+    symbol: u16,
+    columns: usize,
+) -> bool
+    requires { ⌜ Indexed (now sig) (now symbols) counts ⌝ }
+    requires { ⌜ symbol < symbolCount (signatureAt (now sig) (now symbols) counts) kind ⌝ }
+    ensures { λ r. ⌜ r ≡ columnsDiffer (signatureAt (now (sig .entry)) (now (symbols .entry)) counts) kind symbol columns ⌝ }
+{
+    if columns != arity(sig, symbols, counts, kind, symbol) {
+        return true;
+    }
+    if kind == MEMBER {
+        return columns == 1;
+    }
+    false
+}
+
 // A B or H field: a byte for the kind, the symbol, the variables.
 pub fn statement_fault(
     sig: &[u8],
@@ -103,7 +127,8 @@ pub fn statement_fault(
     requires { ⌜ Indexed (now sig) (now symbols) counts ⌝ }
     requires { ⌜ start + len ≤ length (now s) ⌝ }
     ensures { λ r. ⌜ ((before : ℕ) (last : Option Field) → faultOf r
-        ≡ statementFault (signatureAt (now (sig .entry)) (now (symbols .entry)) counts) (kindsOf letter) variables before last (fieldOf (now (s .entry)) letter start len)) ⌝ }
+        ≡ statementFault (signatureAt (now (sig .entry)) (now (symbols .entry)) counts)
+        (kindsOf letter) variables before last (fieldOf (now (s .entry)) letter start len)) ⌝ }
 {
     if len % 2 != 1 {
         return Fault::Draws(3);
@@ -122,15 +147,8 @@ pub fn statement_fault(
     if !named(s, start + 3, len - 3, variables) {
         return Fault::Draws(5);
     }
-    let columns = arity(sig, symbols, counts, kind, symbol);
-    if (len - 3) / 2 != columns {
+    if bad_columns(sig, symbols, counts, kind, symbol, (len - 3) / 2) {
         return Fault::Draws(7);
-    }
-    // A member of a parentless type has one column, and is no relation.
-    if kind == MEMBER {
-        if columns == 1 {
-            return Fault::Draws(7);
-        }
     }
     Fault::Sound
 }

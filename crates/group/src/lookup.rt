@@ -7,7 +7,7 @@ ghost use Rattle.definition.specs.Records.{numbers, blocks};
 ghost use Rattle.definition.specs.Group.{statementOf, groupPart};
 ghost use Rattle.definition.specs.Scope.{variableNumbered, sameVariable, sameVariables};
 ghost use Rattle.records.specs.Places.{stretch, fieldOf};
-ghost use Rattle.group.specs.Index.{noBlock, Rules};
+ghost use Rattle.group.specs.Index.{conclusionsAt, noBlock, Rules};
 ghost use Rattle.group.specs.Lookups.{table, Listed, NameAt, SectionsAt, Says, VariablesAt};
 use crate::ids::CONCLUSIONS_FROM;
 use crate::ids::GROUP_INDEX;
@@ -15,6 +15,7 @@ use crate::ids::RULES_FROM;
 use crate::ids::VARIABLES_FROM;
 use crate::ids::VarId;
 use records::fields::num;
+use records::fields::place;
 use records::fields::two;
 use records::order::same_bytes;
 use signature::ids::TypeId;
@@ -38,12 +39,6 @@ pub struct Statement {
     pub symbol: u16,
     pub count: usize,
     pub at: usize,
-}
-
-fn place(x: u16) -> usize
-    ensures { λ r. ⌜ (r ≡ x) × (r < 65536) ⌝ }
-{
-    x as usize
 }
 
 // The type of a variable.
@@ -96,6 +91,7 @@ pub fn rule_sections(s: &[u8], index: &[u16; GROUP_INDEX], rules: usize, k: usiz
     requires { ⌜ Rules (now s) (now index) rules (blocks letterU (groupPart (now s) .fields)) ⌝ }
     requires { ⌜ k < rules ⌝ }
     ensures { λ r. ⌜ SectionsAt (now (s .entry)) (r .premises) (r .conclusions) (r .end) (getD (blocks letterU (groupPart (now (s .entry)) .fields)) k noBlock) ⌝ }
+    ensures { λ r. ⌜ r .conclusions ≡ conclusionsAt (now (index .entry)) k ⌝ }
 {
     let at = place(index[RULES_FROM + k]);
     Sections {
@@ -109,6 +105,7 @@ pub fn rule_sections(s: &[u8], index: &[u16; GROUP_INDEX], rules: usize, k: usiz
 pub fn read_statement(s: &[u8], start: usize, len: usize) -> Statement
     requires { ⌜ (start + len ≤ length (now s)) × (3 ≤ len) × (len % 2 ≡ 1) ⌝ }
     ensures { λ r. ⌜ ((letter : ℕ) → Says (now (s .entry)) r (statementOf (fieldOf (now (s .entry)) letter start len))) ⌝ }
+    ensures { λ r. ⌜ r .at ≡ start + 3 ⌝ }
 {
     Statement {
         kind: s[start],

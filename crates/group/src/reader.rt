@@ -13,7 +13,7 @@ ghost use Rattle.records.specs.Places.{Run, Parted};
 ghost use Rattle.signature.specs.Index.{signatureAt, Indexed};
 ghost use Rattle.group.specs.Sections.{AtRule, kindsOf};
 ghost use Rattle.group.specs.Index.{indexSize};
-ghost use Rattle.group.specs.Answers.{groupReading, Usable, numberOf, ruleNumberOf, Onward, RuleOnward, First, Section, Variable, Rule, AllRules, Kept};
+ghost use Rattle.group.specs.Answers.{groupReading, Usable, numberOf, ruleNumberOf, HereAt, Onward, RuleOnward, First, Section, Variable, Rule, AllRules, Kept};
 use crate::faults::rule_fault;
 use crate::faults::statement_fault;
 use crate::faults::title_fault;
@@ -47,15 +47,25 @@ pub struct Passed {
     pub whole: bool,
 }
 
+// A field of the letter that is asked for: its content and where the next one starts.
+pub enum Here {
+    Field {
+        start: usize,
+        len: usize,
+        next: usize,
+    },
+    Nothing,
+}
+
 // A section of the fields: how many there are and where the next one starts, or the first fault.
 pub enum Checked {
     Upto { count: usize, next: usize },
     Refused(u8),
 }
 
-// A rule: where its H fields start and where the next rule does, or the first fault.
+// A rule: where its H fields (its heads) start and where the next rule does, or the first fault.
 pub enum Ruled {
-    Upto { conclusions: usize, next: usize },
+    Upto { heads: usize, next: usize },
     Refused(u8),
 }
 
@@ -89,6 +99,26 @@ fn may_follow(behind: u8, letter: u8) -> bool
     }
 }
 
+// The field of a letter that stands at a position, if one does.
+fn field_here(s: &[u8], at: usize, letter: u8) -> Here
+    ensures { λ r. ⌜ HereAt r (now (s .entry)) at letter ⌝ }
+{
+    let f = read_field(s, at);
+    let Field::Got {
+        letter: l,
+        start,
+        len,
+        next,
+    } = f
+    else {
+        return Here::Nothing;
+    };
+    if l != letter {
+        return Here::Nothing;
+    }
+    Here::Field { start, len, next }
+}
+
 // The pass along the letters.
 fn pass(s: &[u8]) -> Passed
     ensures { λ r. ⌜ Parted (now (s .entry)) (groupPart (now (s .entry))) (r .end) (r .whole) ⌝ }
@@ -97,13 +127,7 @@ fn pass(s: &[u8]) -> Passed
     let mut behind = START;
     while at < s.len() {
         let f = read_field(s, at);
-        let Field::Got {
-            letter,
-            start: _,
-            len: _,
-            next,
-        } = f
-        else {
+        let Field::Got { letter, next, .. } = f else {
             return Passed {
                 end: at,
                 whole: false,
@@ -127,7 +151,8 @@ fn pass(s: &[u8]) -> Passed
 
 // The G field, which is the first. The pass has read every field of the part, so here and below none is found bad.
 fn title(s: &[u8]) -> Checked
-    ensures { λ r. ⌜ ((end : ℕ) (f : definition.Field) (fs : List definition.Field) → Run (now (s .entry)) 0 end (f ∷ fs) → First r (now (s .entry)) 0 end (titleFault 0 none f) f fs) ⌝ }
+    ensures { λ r. ⌜ ((end : ℕ) (f : definition.Field) (fs : List definition.Field)
+        → Run (now (s .entry)) 0 end (f ∷ fs) → First r (now (s .entry)) 0 end (titleFault 0 none f) f fs) ⌝ }
     ensures { λ r. ⌜ Onward r 0 (length (now (s .entry))) ⌝ }
 {
     let f = read_field(s, 0);
@@ -157,7 +182,8 @@ fn variables(
 ) -> Checked
     requires { ⌜ (from ≤ length (now s)) × (length (now s) ≤ groupBytes) ⌝ }
     requires { ⌜ length (now index) ≡ indexSize ⌝ }
-    ensures { λ r. ⌜ ((signature : Signature) (fs : List definition.Field) → length (signature .types) ≡ types → Run (now (s .entry)) from end fs
+    ensures { λ r. ⌜ ((signature : Signature) (fs : List definition.Field)
+        → length (signature .types) ≡ types → Run (now (s .entry)) from end fs
         → Variable r signature (now (s .entry)) (now (index .exit)) from end fs) ⌝ }
     ensures { λ r. ⌜ Onward r from (length (now (s .entry))) ⌝ }
     ensures { λ r. ⌜ length (now (index .exit)) ≡ indexSize ⌝ }
@@ -165,19 +191,9 @@ fn variables(
     let mut at = from;
     let mut count: usize = 0;
     while at < end {
-        let f = read_field(s, at);
-        let Field::Got {
-            letter,
-            start,
-            len,
-            next,
-        } = f
-        else {
-            return Checked::Refused(2);
-        };
-        if letter != LETTER_W {
+        let Here::Field { start, len, next } = field_here(s, at, LETTER_W) else {
             return Checked::Upto { count, next: at };
-        }
+        };
         let fault = variable_fault(s, start, len, types, count);
         let Fault::Sound = fault else {
             return Checked::Refused(drawn(fault));
@@ -203,25 +219,16 @@ fn statements(
     requires { ⌜ Indexed (now sig) (now symbols) counts ⌝ }
     requires { ⌜ from ≤ length (now s) ⌝ }
     ensures { λ r. ⌜ ((fs : List definition.Field) → Run (now (s .entry)) from end fs
-        → Section r (now (s .entry)) from end letter (statementFault (signatureAt (now (sig .entry)) (now (symbols .entry)) counts) (kindsOf letter) variables) fs) ⌝ }
+        → Section r (now (s .entry)) from end letter
+        (statementFault (signatureAt (now (sig .entry)) (now (symbols .entry)) counts) (kindsOf letter) variables) fs) ⌝ }
     ensures { λ r. ⌜ Onward r from (length (now (s .entry))) ⌝ }
 {
     let mut at = from;
     let mut count: usize = 0;
     while at < end {
-        let f = read_field(s, at);
-        let Field::Got {
-            letter: l,
-            start,
-            len,
-            next,
-        } = f
-        else {
-            return Checked::Refused(2);
-        };
-        if l != letter {
+        let Here::Field { start, len, next } = field_here(s, at, letter) else {
             return Checked::Upto { count, next: at };
-        }
+        };
         let fault = statement_fault(sig, symbols, counts, s, letter, start, len, variables);
         let Fault::Sound = fault else {
             return Checked::Refused(drawn(fault));
@@ -263,34 +270,14 @@ fn rule(
         return Ruled::Refused(drawn(fault));
     };
     let b = statements(sig, symbols, counts, s, next, end, LETTER_B, variables);
-    let Checked::Upto {
-        count: _,
-        next: conclusions,
-    } = b
-    else {
+    let Checked::Upto { next: heads, .. } = b else {
         return Ruled::Refused(number(b));
     };
-    let h = statements(
-        sig,
-        symbols,
-        counts,
-        s,
-        conclusions,
-        end,
-        LETTER_H,
-        variables,
-    );
-    let Checked::Upto {
-        count: _,
-        next: behind,
-    } = h
-    else {
+    let h = statements(sig, symbols, counts, s, heads, end, LETTER_H, variables);
+    let Checked::Upto { next, .. } = h else {
         return Ruled::Refused(number(h));
     };
-    Ruled::Upto {
-        conclusions,
-        next: behind,
-    }
+    Ruled::Upto { heads, next }
 }
 
 // The number of a rule's refusal.
@@ -299,10 +286,7 @@ fn rule_number(r: Ruled) -> u8
 {
     match r {
         Ruled::Refused(n) => n,
-        Ruled::Upto {
-            conclusions: _,
-            next: _,
-        } => 0,
+        Ruled::Upto { .. } => 0,
     }
 }
 
@@ -321,7 +305,8 @@ fn rules(
     requires { ⌜ (from ≤ length (now s)) × (length (now s) ≤ groupBytes) ⌝ }
     requires { ⌜ length (now index) ≡ indexSize ⌝ }
     ensures { λ r. ⌜ ((fs : List definition.Field) → Run (now (s .entry)) from end fs → AtRule fs
-        → AllRules r (signatureAt (now (sig .entry)) (now (symbols .entry)) counts) variables (now (s .entry)) (now (index .exit)) from fs) ⌝ }
+        → AllRules r (signatureAt (now (sig .entry)) (now (symbols .entry)) counts) variables
+        (now (s .entry)) (now (index .exit)) from fs) ⌝ }
     ensures { λ r. ⌜ Kept (now (index .entry)) (now (index .exit)) ⌝ }
 {
     let mut at = from;
@@ -329,10 +314,10 @@ fn rules(
     index[RULES_FROM] = from as u16;
     while at < end {
         let r = rule(sig, symbols, counts, s, at, end, variables, count);
-        let Ruled::Upto { conclusions, next } = r else {
+        let Ruled::Upto { heads, next } = r else {
             return Checked::Refused(rule_number(r));
         };
-        index[CONCLUSIONS_FROM + count] = conclusions as u16;
+        index[CONCLUSIONS_FROM + count] = heads as u16;
         index[RULES_FROM + count + 1] = next as u16;
         count += 1;
         at = next;
@@ -346,7 +331,7 @@ fn number(c: Checked) -> u8
 {
     match c {
         Checked::Refused(n) => n,
-        Checked::Upto { count: _, next: _ } => 0,
+        Checked::Upto { .. } => 0,
     }
 }
 
@@ -361,43 +346,34 @@ pub fn read_group(
 ) -> Reading
     requires { ⌜ Indexed (now sig) (now symbols) counts ⌝ }
     requires { ⌜ length (now index) ≡ indexSize ⌝ }
-    ensures { λ r. ⌜ groupReading (now (s .entry)) r ≡ readGroup (signatureAt (now (sig .entry)) (now (symbols .entry)) counts) (now (s .entry)) ⌝ }
+    ensures { λ r. ⌜ groupReading (now (s .entry)) r
+        ≡ readGroup (signatureAt (now (sig .entry)) (now (symbols .entry)) counts) (now (s .entry)) ⌝ }
     ensures { λ r. ⌜ Usable (signatureAt (now (sig .entry)) (now (symbols .entry)) counts) (now (s .entry)) (now (index .exit)) r ⌝ }
 {
     if GROUP_BYTES < s.len() {
         return Reading::Refused(1);
     }
     let p = pass(s);
-    let end = p.end;
-    if end == 0 {
+    if p.end == 0 {
         return Reading::Refused(2);
     }
     let g = title(s);
-    let Checked::Upto {
-        count: _,
-        next: first,
-    } = g
-    else {
+    let Checked::Upto { next: first, .. } = g else {
         return Reading::Refused(number(g));
     };
-    let w = variables(s, first, end, counts.types, index);
-    let Checked::Upto {
-        count: variables,
-        next: first_rule,
-    } = w
-    else {
+    let w = variables(s, first, p.end, counts.types, index);
+    let Checked::Upto { count: vars, next } = w else {
         return Reading::Refused(number(w));
     };
-    let u = rules(sig, symbols, counts, s, first_rule, end, variables, index);
-    let Checked::Upto {
-        count: rules,
-        next: _,
-    } = u
-    else {
+    let u = rules(sig, symbols, counts, s, next, p.end, vars, index);
+    let Checked::Upto { count: rules, .. } = u else {
         return Reading::Refused(number(u));
     };
     if !p.whole {
         return Reading::Refused(2);
     }
-    Reading::Sound { variables, rules }
+    Reading::Sound {
+        variables: vars,
+        rules,
+    }
 }

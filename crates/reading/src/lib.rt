@@ -1,12 +1,27 @@
-// Whole records judged: the signature's refusals first, then the rule's or group's. Nothing is kept of them.
+// Whole records read from bytes alone: the signature's refusals first, then the rule's or group's. Nothing is asked of the caller.
 ghost use mathlib.Core.Path.{_≡_};
-ghost use Rattle.reading.specs.Verdicts.{verdictOf, refusalOf, ruleRead, groupRead};
+ghost use Rattle.reading.specs.Verdicts.{numberOf, verdictOf, refusalOf, ruleRead, groupRead};
+ghost use Rattle.reading.specs.Answers.{ruleAnswer, groupAnswer, RuleUsable, GroupUsable};
 use group::ids::GROUP_INDEX;
-use group::reader::read_group;
 use rule::ids::RULE_INDEX;
-use rule::reader::read_rule;
+use signature::ids::Counts;
 use signature::ids::INDEX;
+use signature::reader::Reading;
 use signature::reader::read_signature;
+
+pub enum RuleReading {
+    Sound { counts: Counts, structures: usize },
+    Refused(u8),
+}
+
+pub enum GroupReading {
+    Sound {
+        counts: Counts,
+        variables: usize,
+        rules: usize,
+    },
+    Refused(u8),
+}
 
 pub enum Verdict {
     Sound,
@@ -14,48 +29,82 @@ pub enum Verdict {
 }
 
 // The number of a refused signature.
-fn number(r: signature::reader::Reading) -> u8
-    ensures { λ n. ⌜ n ≡ Rattle.reading.specs.Verdicts.numberOf r ⌝ }
+fn number(r: Reading) -> u8
+    ensures { λ n. ⌜ n ≡ numberOf r ⌝ }
 {
     match r {
-        signature::reader::Reading::Sound(_) => 0,
-        signature::reader::Reading::Refused(n) => n,
+        Reading::Sound(_) => 0,
+        Reading::Refused(n) => n,
     }
 }
 
-// A signature and a rule.
+// A signature and a rule; where both are accepted, the indexes hold where their fields stand.
+pub fn read_rule(
+    sig: &[u8],
+    s: &[u8],
+    symbols: &mut [u16; INDEX],
+    index: &mut [u16; RULE_INDEX],
+) -> RuleReading
+    ensures { λ r. ⌜ ruleAnswer (now (s .entry)) r ≡ ruleRead (now (sig .entry)) (now (s .entry)) ⌝ }
+    ensures { λ r. ⌜ RuleUsable (now (sig .entry)) (now (symbols .exit)) (now (s .entry)) (now (index .exit)) r ⌝ }
+{
+    let q = read_signature(sig, symbols);
+    let Reading::Sound(counts) = q else {
+        return RuleReading::Refused(number(q));
+    };
+    // A proof knows the length of what is assigned, not of what is lent.
+    *index = [0u16; RULE_INDEX];
+    match rule::reader::read_rule(sig, symbols, counts, s, index) {
+        rule::reader::Reading::Sound { structures } => RuleReading::Sound { counts, structures },
+        rule::reader::Reading::Refused(n) => RuleReading::Refused(n),
+    }
+}
+
+// A signature and a group, likewise.
+pub fn read_group(
+    sig: &[u8],
+    s: &[u8],
+    symbols: &mut [u16; INDEX],
+    index: &mut [u16; GROUP_INDEX],
+) -> GroupReading
+    ensures { λ r. ⌜ groupAnswer (now (s .entry)) r ≡ groupRead (now (sig .entry)) (now (s .entry)) ⌝ }
+    ensures { λ r. ⌜ GroupUsable (now (sig .entry)) (now (symbols .exit)) (now (s .entry)) (now (index .exit)) r ⌝ }
+{
+    let q = read_signature(sig, symbols);
+    let Reading::Sound(counts) = q else {
+        return GroupReading::Refused(number(q));
+    };
+    *index = [0u16; GROUP_INDEX];
+    match group::reader::read_group(sig, symbols, counts, s, index) {
+        group::reader::Reading::Sound { variables, rules } => GroupReading::Sound {
+            counts,
+            variables,
+            rules,
+        },
+        group::reader::Reading::Refused(n) => GroupReading::Refused(n),
+    }
+}
+
+// Are a signature and a rule sound?
 pub fn check_rule(sig: &[u8], s: &[u8]) -> Verdict
     ensures { λ r. ⌜ verdictOf r ≡ refusalOf (ruleRead (now (sig .entry)) (now (s .entry))) ⌝ }
 {
     let mut symbols = [0u16; INDEX];
-    let r = read_signature(sig, &mut symbols);
-    let signature::reader::Reading::Sound(counts) = r else {
-        return Verdict::Refused(number(r));
-    };
     let mut index = [0u16; RULE_INDEX];
-    let g = read_rule(sig, &symbols, counts, s, &mut index);
-    match g {
-        rule::reader::Reading::Sound { structures: _ } => Verdict::Sound,
-        rule::reader::Reading::Refused(n) => Verdict::Refused(n),
+    match read_rule(sig, s, &mut symbols, &mut index) {
+        RuleReading::Sound { .. } => Verdict::Sound,
+        RuleReading::Refused(n) => Verdict::Refused(n),
     }
 }
 
-// A signature and a group.
+// Are a signature and a group sound?
 pub fn check_group(sig: &[u8], s: &[u8]) -> Verdict
     ensures { λ r. ⌜ verdictOf r ≡ refusalOf (groupRead (now (sig .entry)) (now (s .entry))) ⌝ }
 {
     let mut symbols = [0u16; INDEX];
-    let r = read_signature(sig, &mut symbols);
-    let signature::reader::Reading::Sound(counts) = r else {
-        return Verdict::Refused(number(r));
-    };
     let mut index = [0u16; GROUP_INDEX];
-    let g = read_group(sig, &symbols, counts, s, &mut index);
-    match g {
-        group::reader::Reading::Sound {
-            variables: _,
-            rules: _,
-        } => Verdict::Sound,
-        group::reader::Reading::Refused(n) => Verdict::Refused(n),
+    match read_group(sig, s, &mut symbols, &mut index) {
+        GroupReading::Sound { .. } => Verdict::Sound,
+        GroupReading::Refused(n) => Verdict::Refused(n),
     }
 }

@@ -9,15 +9,17 @@ use lib.ListN.{length, getD}
 use Rattle.definition.specs.Base.{Outcome, refused, accepted}
 use Rattle.definition.specs.Letters.{letterN, letterS, letterE}
 use Rattle.definition.specs.Limits.{structureLimit, fieldLimit}
-use Rattle.definition.specs.Records.{Field, Block, withLetter, blocks}
+use Rattle.definition.specs.Records.{Field, Block, withLetter, blocks, faultAmong}
 use Rattle.definition.specs.Signature.{Signature}
-use Rattle.definition.specs.Rule.{Rule, ruleOf, rulePart, ruleFault}
+use Rattle.definition.specs.Rule.{Rule, ruleOf, rulePart, ruleFault, elementFault, namedElements}
 use Rattle.records.specs.Places.{fieldAt, fieldOf, Run}
 use Rattle.records.specs.declared.fields.Field.the-variants.{Got}
+use Rattle.signature.specs.Faults.{faultOf}
 use Rattle.signature.specs.declared.faults.Fault.{Fault}
 use Rattle.signature.specs.declared.faults.Fault.the-variants.{Sound, Draws}
 use Rattle.rule.specs.Layout.{letterAt, noBlock, blockAt, Laid, elementsFrom}
-use Rattle.rule.specs.Elements.{countAt, elementFields, Elements, Known}
+use Rattle.rule.specs.Elements.{countAt, elementFields, numbersIn, Elements, Known}
+use Rattle.rule.specs.Faults.{checkOf}
 use Rattle.rule.specs.declared.reader.Reading.{Reading}
 use Rattle.rule.specs.declared.reader.Reading.the-variants as reading
 
@@ -92,6 +94,19 @@ pub record Stored (r : Fault) (s index₀ index : List ℕ) (k : ℕ) : Type 0 w
 
 pub record Holds (r : Fault) (s index : List ℕ) (k : ℕ) (body : List Field) : Type 0 where
   pub is : HoldsAs r s index k body
+
+-- The fields of a letter in a section: their first fault, where the elements of n structures can be named.
+abbrev pub SectionChecked : Fault → Signature → List ℕ → List ℕ → ℕ → ℕ → ℕ → Type 0
+SectionChecked r sig s index n letter section = (fs : List Field) → Run s (getD index section 0) (getD index (section + 1) 0) (withLetter letter fs)
+    → faultOf r ≡ faultAmong letter (checkOf sig (numbersIn s index n) letter) fs
+
+-- The E fields of a structure, which stand from one position to another: their first fault, and that the index holds them.
+abbrev pub ElementsChecked : Fault → Signature → List ℕ → ℕ → ℕ → Type 0
+ElementsChecked r sig s from to = (body : List Field) → Run s from to (withLetter letterE body)
+    → faultOf r ≡ faultAmong letterE (elementFault sig (namedElements body)) body
+
+abbrev pub ElementsHeld : Fault → List ℕ → List ℕ → ℕ → ℕ → ℕ → Type 0
+ElementsHeld r s index k from to = (body : List Field) → Run s from to (withLetter letterE body) → Holds r s index k body
 
 -- The same for n structures.
 abbrev AllStoredAs : Fault → List ℕ → List ℕ → ℕ → Type 0

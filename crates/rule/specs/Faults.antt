@@ -16,6 +16,7 @@ use Rattle.signature.specs.declared.faults.Fault.{Fault}
 use Rattle.signature.specs.declared.faults.Fault.the-variants.{Sound, Draws}
 use Rattle.rule.specs.declared.order.Last.{Last}
 use Rattle.rule.specs.declared.order.Last.the-variants.{Content, Nothing}
+use Rattle.rule.specs.declared.order.Spot.{Spot}
 
 -- The last field of a letter.
 abbrev pub lastField : List ℕ → ℕ → Last → Option Field
@@ -28,6 +29,17 @@ LastAt (Content start len) size = start + len ≤ size
 
 pub record LastIn (last : Last) (size : ℕ) : Type 0 where
   pub is : LastAt last size
+
+abbrev pub spotOf : ℕ → ℕ → ℕ → Last → Spot
+spotOf start len before last = record { start = start; len = len; before = before; last = last }
+
+-- What a check draws of a field, which has the letter.
+abbrev pub faultAt : (ℕ → Option Field → Field → Option ℕ) → List ℕ → ℕ → Spot → Option ℕ
+faultAt check s letter f = check (f .before) (lastField s letter (f .last)) (fieldOf s letter (f .start) (f .len))
+
+-- Its content lies in the record, and so does that of the last one.
+abbrev pub Lies : List ℕ → Spot → Type 0
+Lies s f = (f .start + f .len ≤ length s) × LastIn (f .last) (length s)
 
 -- An E field without a fault: it is long enough, below the limit, and its number is above the last one.
 abbrev pub AboveLast : Last → List ℕ → ℕ → Type 0
@@ -64,6 +76,9 @@ rowSymbols sig results = pick (eqb results 0) (length (sig .preds)) (length (sig
 unfoldable pub rowColumns : Signature → ℕ → ℕ → ℕ
 rowColumns sig results symbol = pick (eqb results 0) (columnCount (predOf sig symbol)) (columnCount (funcOf sig symbol))
 
+abbrev pub rowCheck : Signature → ℕ → List ℕ → ℕ → Option Field → Field → Option ℕ
+rowCheck sig results els = rowFault results (rowSymbols sig results) (rowColumns sig results) els
+
 -- The faults of a field by its letter, where elements of structures can be named; R, A, V and I stand in the last structure.
 module _ (sig : Signature) (named : List (List ℕ)) where
   abbrev pub lastNamed : List ℕ
@@ -73,8 +88,8 @@ module _ (sig : Signature) (named : List (List ℕ)) where
   checkOf letter = pick (eqb letter letterN) headFault
       (pick (eqb letter letterM) (mapFault named)
       (pick (eqb letter letterK) (kindFault named)
-      (pick (eqb letter letterR) (rowFault 0 (rowSymbols sig 0) (rowColumns sig 0) lastNamed)
-      (pick (eqb letter letterA) (rowFault 1 (rowSymbols sig 1) (rowColumns sig 1) lastNamed)
+      (pick (eqb letter letterR) (rowCheck sig 0 lastNamed)
+      (pick (eqb letter letterA) (rowCheck sig 1 lastNamed)
       (pick (eqb letter letterV) (nameFault 1 (nameKey 1) lastNamed)
       (pick (eqb letter letterI) (nameFault 2 (nameKey 2) lastNamed)
       (auxiliaryFault named)))))))
@@ -82,8 +97,8 @@ module _ (sig : Signature) (named : List (List ℕ)) where
 -- The first fault of a structure's R, A, V and I fields.
 unfoldable pub restFault : Signature → List ℕ → List Field → Option ℕ
 restFault sig els body =
-    orElse (faultAmong letterR (rowFault 0 (rowSymbols sig 0) (rowColumns sig 0) els) body)
-    (orElse (faultAmong letterA (rowFault 1 (rowSymbols sig 1) (rowColumns sig 1) els) body)
+    orElse (faultAmong letterR (rowCheck sig 0 els) body)
+    (orElse (faultAmong letterA (rowCheck sig 1 els) body)
     (orElse (faultAmong letterV (nameFault 1 (nameKey 1) els) body)
     (faultAmong letterI (nameFault 2 (nameKey 2) els) body)))
 

@@ -114,7 +114,8 @@ pub fn elements_named(
     requires { ⌜ k < structureLimit ⌝ }
     requires { ⌜ Elements (now s) (now index) k ⌝ }
     requires { ⌜ start + len ≤ length (now s) ⌝ }
-    ensures { λ r. ⌜ r ≡ all (λ (e : ℕ). has e (elementNumbers (now (s .entry)) (now (index .entry)) k)) (numbers (stretch (now (s .entry)) start len)) ⌝ }
+    ensures { λ r. ⌜ r ≡ all (λ (e : ℕ). has e (elementNumbers (now (s .entry)) (now (index .entry)) k))
+        (numbers (stretch (now (s .entry)) start len)) ⌝ }
 {
     let count = len / 2;
     let mut i: usize = 0;
@@ -130,7 +131,8 @@ pub fn elements_named(
 // Can an element be named in the structure whose E fields stand from one position to another?
 // Each of at least two bytes can be, also a later one or one with a fault, so this goes along the fields.
 fn can_be_named(s: &[u8], from: usize, to: usize, e: ElId) -> bool
-    ensures { λ r. ⌜ ((body : List definition.Field) → Run (now (s .entry)) from to (withLetter letterE body) → r ≡ has (e .0) (namedElements body)) ⌝ }
+    ensures { λ r. ⌜ ((body : List definition.Field)
+        → Run (now (s .entry)) from to (withLetter letterE body) → r ≡ has (e .0) (namedElements body)) ⌝ }
 {
     let mut at = from;
     while at < to {
@@ -157,7 +159,8 @@ fn can_be_named(s: &[u8], from: usize, to: usize, e: ElId) -> bool
 // Can each number of a stretch be named there?
 pub fn parents_named(s: &[u8], from: usize, to: usize, start: usize, len: usize) -> bool
     requires { ⌜ start + len ≤ length (now s) ⌝ }
-    ensures { λ r. ⌜ ((body : List definition.Field) → Run (now (s .entry)) from to (withLetter letterE body) → r ≡ all (λ (e : ℕ). has e (namedElements body)) (numbers (stretch (now (s .entry)) start len))) ⌝ }
+    ensures { λ r. ⌜ ((body : List definition.Field) → Run (now (s .entry)) from to (withLetter letterE body)
+        → r ≡ all (λ (e : ℕ). has e (namedElements body)) (numbers (stretch (now (s .entry)) start len))) ⌝ }
 {
     let count = len / 2;
     let mut i: usize = 0;

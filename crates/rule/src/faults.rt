@@ -12,12 +12,12 @@ ghost use Rattle.definition.specs.Letters.{letterE, letterR, letterA, letterV, 
 ghost use Rattle.definition.specs.Limits.{structureLimit};
 ghost use Rattle.definition.specs.Records as definition;
 ghost use Rattle.definition.specs.Records.{numbers, odd, notAbove, withLetter};
-ghost use Rattle.definition.specs.Rule.{pairsOf, keysAscend, namedElements, classFalls, headFault, structureFault, elementFault, rowFault, nameFault, mapFault, kindFault, auxiliaryFault};
+ghost use Rattle.definition.specs.Rule.{pairsOf, keysAscend, namedElements, classFalls, headFault, structureFault, elementFault, nameFault, mapFault, kindFault, auxiliaryFault};
 ghost use Rattle.records.specs.Places.{stretch, fieldOf, Run};
 ghost use Rattle.signature.specs.Faults.{faultOf};
 ghost use Rattle.signature.specs.Index.{signatureAt, Indexed};
 ghost use Rattle.rule.specs.Elements.{elementNumbers, numbersIn, Elements, Known};
-ghost use Rattle.rule.specs.Faults.{lastField, LastIn, Fits, Below, nameKey, pairNamed, rowSymbols, rowColumns, checkOf};
+ghost use Rattle.rule.specs.Faults.{lastField, LastIn, faultAt, Lies, Fits, Below, nameKey, pairNamed, rowColumns, rowCheck, checkOf};
 use crate::elements::elements_named;
 use crate::elements::has_element;
 use crate::elements::parents_named;
@@ -35,12 +35,12 @@ use crate::ids::NAME_BYTES;
 use crate::ids::RULE_INDEX;
 use crate::ids::STRUCTURES;
 use crate::order::Last;
+use crate::order::Spot;
 use crate::order::first_not_above;
 use crate::order::name_not_above;
 use crate::order::row_not_above;
 use records::fields::num;
 use records::fields::two;
-use records::fields::wide;
 use records::names::bad_name;
 use records::order::named;
 use signature::faults::Fault;
@@ -67,7 +67,8 @@ fn not_numbers(len: usize, least: usize) -> bool
 // An N field: the unnamed index, and the name.
 pub fn head_fault(s: &[u8], start: usize, len: usize) -> Fault
     requires { ⌜ start + len ≤ length (now s) ⌝ }
-    ensures { λ r. ⌜ ((letter before : ℕ) (last : Option definition.Field) → faultOf r ≡ headFault before last (fieldOf (now (s .entry)) letter start len)) ⌝ }
+    ensures { λ r. ⌜ ((letter before : ℕ) (last : Option definition.Field)
+        → faultOf r ≡ headFault before last (fieldOf (now (s .entry)) letter start len)) ⌝ }
 {
     if len < 2 {
         return Fault::Draws(3);
@@ -100,34 +101,33 @@ pub fn element_fault(
     s: &[u8],
     from: usize,
     to: usize,
-    start: usize,
-    len: usize,
-    before: usize,
-    last: Last,
+    f: Spot,
 ) -> Fault
     requires { ⌜ Indexed (now sig) (now symbols) counts ⌝ }
-    requires { ⌜ start + len ≤ length (now s) ⌝ }
-    requires { ⌜ LastIn last (length (now s)) ⌝ }
-    ensures { λ r. ⌜ ((body : List definition.Field) (letter : ℕ) → Run (now (s .entry)) from to (withLetter letterE body) → faultOf r ≡ elementFault (signatureAt (now (sig .entry)) (now (symbols .entry)) counts) (namedElements body) before (lastField (now (s .entry)) letter last) (fieldOf (now (s .entry)) letter start len)) ⌝ }
-    ensures { λ r. ⌜ Fits r (now (s .entry)) start len before last ⌝ }
+    requires { ⌜ Lies (now s) f ⌝ }
+    ensures { λ r. ⌜ ((body : List definition.Field) (letter : ℕ) → Run (now (s .entry)) from to (withLetter letterE body)
+        → faultOf r ≡ faultAt (elementFault (signatureAt (now (sig .entry)) (now (symbols .entry)) counts) (namedElements body))
+        (now (s .entry)) letter f) ⌝ }
+    ensures { λ r. ⌜ Fits r (now (s .entry)) (f .start) (f .len) (f .before) (f .last) ⌝ }
 {
-    if not_numbers(len, 2) {
+    let last = f.last;
+    if not_numbers(f.len, 2) {
         return Fault::Draws(3);
     }
-    if FIELDS <= before {
+    if FIELDS <= f.before {
         return Fault::Draws(4);
     }
-    let t = num(s, start + 2);
+    let t = num(s, f.start + 2);
     if counts.types <= t as usize {
         return Fault::Draws(5);
     }
-    if !parents_named(s, from, to, start + 4, len - 4) {
+    if !parents_named(s, from, to, f.start + 4, f.len - 4) {
         return Fault::Draws(5);
     }
-    if first_not_above(s, last, 1, start, len) {
+    if first_not_above(s, last, 1, f.start, f.len) {
         return Fault::Draws(6);
     }
-    if len / 2 - 2 != type_parents(sig, symbols, counts, TypeId(t)) {
+    if f.len / 2 - 2 != type_parents(sig, symbols, counts, TypeId(t)) {
         return Fault::Draws(7);
     }
     Fault::Sound
@@ -170,36 +170,34 @@ pub fn row_fault(
     index: &[u16; RULE_INDEX],
     k: usize,
     results: usize,
-    start: usize,
-    len: usize,
-    before: usize,
-    last: Last,
+    f: Spot,
 ) -> Fault
     requires { ⌜ Indexed (now sig) (now symbols) counts ⌝ }
-    requires { ⌜ k < structureLimit ⌝ }
+    requires { ⌜ (k < structureLimit) × (results ≤ 1) ⌝ }
     requires { ⌜ Elements (now s) (now index) k ⌝ }
-    requires { ⌜ start + len ≤ length (now s) ⌝ }
-    requires { ⌜ LastIn last (length (now s)) ⌝ }
-    requires { ⌜ results ≤ 1 ⌝ }
-    ensures { λ r. ⌜ ((letter : ℕ) → faultOf r ≡ rowFault results (rowSymbols (signatureAt (now (sig .entry)) (now (symbols .entry)) counts) results) (rowColumns (signatureAt (now (sig .entry)) (now (symbols .entry)) counts) results) (elementNumbers (now (s .entry)) (now (index .entry)) k) before (lastField (now (s .entry)) letter last) (fieldOf (now (s .entry)) letter start len)) ⌝ }
+    requires { ⌜ Lies (now s) f ⌝ }
+    ensures { λ r. ⌜ ((letter : ℕ) → faultOf r
+        ≡ faultAt (rowCheck (signatureAt (now (sig .entry)) (now (symbols .entry)) counts) results
+        (elementNumbers (now (s .entry)) (now (index .entry)) k)) (now (s .entry)) letter f) ⌝ }
 {
-    if not_numbers(len, 1 + results) {
+    let last = f.last;
+    if not_numbers(f.len, 1 + results) {
         return Fault::Draws(3);
     }
-    if FIELDS <= before {
+    if FIELDS <= f.before {
         return Fault::Draws(4);
     }
-    let symbol = num(s, start);
+    let symbol = num(s, f.start);
     if row_symbols(counts, results) <= symbol as usize {
         return Fault::Draws(5);
     }
-    if !elements_named(s, index, k, start + 2, len - 2) {
+    if !elements_named(s, index, k, f.start + 2, f.len - 2) {
         return Fault::Draws(5);
     }
-    if row_not_above(s, last, results, start, len) {
+    if row_not_above(s, last, results, f.start, f.len) {
         return Fault::Draws(6);
     }
-    if len / 2 - 1 != row_columns(sig, symbols, counts, results, symbol) {
+    if f.len / 2 - 1 != row_columns(sig, symbols, counts, results, symbol) {
         return Fault::Draws(7);
     }
     Fault::Sound
@@ -210,7 +208,8 @@ fn not_above(s: &[u8], last: Last, count: usize, start: usize, len: usize) -> bo
     requires { ⌜ start + len ≤ length (now s) ⌝ }
     requires { ⌜ (1 ≤ count) × (count ≤ 2) ⌝ }
     requires { ⌜ LastIn last (length (now s)) ⌝ }
-    ensures { λ r. ⌜ ((letter : ℕ) → r ≡ notAbove (nameKey count) (lastField (now (s .entry)) letter last) (fieldOf (now (s .entry)) letter start len)) ⌝ }
+    ensures { λ r. ⌜ ((letter : ℕ)
+        → r ≡ notAbove (nameKey count) (lastField (now (s .entry)) letter last) (fieldOf (now (s .entry)) letter start len)) ⌝ }
 {
     if count == 1 {
         return name_not_above(s, last, start, len);
@@ -219,36 +218,28 @@ fn not_above(s: &[u8], last: Last, count: usize, start: usize, len: usize) -> bo
 }
 
 // A V field (one number, the element) or an I field (two, the second the element), and a name.
-pub fn name_fault(
-    s: &[u8],
-    index: &[u16; RULE_INDEX],
-    k: usize,
-    count: usize,
-    start: usize,
-    len: usize,
-    before: usize,
-    last: Last,
-) -> Fault
+pub fn name_fault(s: &[u8], index: &[u16; RULE_INDEX], k: usize, count: usize, f: Spot) -> Fault
     requires { ⌜ k < structureLimit ⌝ }
     requires { ⌜ Elements (now s) (now index) k ⌝ }
-    requires { ⌜ start + len ≤ length (now s) ⌝ }
     requires { ⌜ (1 ≤ count) × (count ≤ 2) ⌝ }
-    requires { ⌜ LastIn last (length (now s)) ⌝ }
-    ensures { λ r. ⌜ ((letter : ℕ) → faultOf r ≡ nameFault count (nameKey count) (elementNumbers (now (s .entry)) (now (index .entry)) k) before (lastField (now (s .entry)) letter last) (fieldOf (now (s .entry)) letter start len)) ⌝ }
+    requires { ⌜ Lies (now s) f ⌝ }
+    ensures { λ r. ⌜ ((letter : ℕ) → faultOf r ≡ faultAt
+        (nameFault count (nameKey count) (elementNumbers (now (s .entry)) (now (index .entry)) k)) (now (s .entry)) letter f) ⌝ }
 {
-    if len < 2 * count {
+    let last = f.last;
+    if f.len < 2 * count {
         return Fault::Draws(3);
     }
-    if FIELDS <= before {
+    if FIELDS <= f.before {
         return Fault::Draws(4);
     }
-    if !has_element(s, index, k, ElId(num(s, start + 2 * (count - 1)))) {
+    if !has_element(s, index, k, ElId(num(s, f.start + 2 * (count - 1)))) {
         return Fault::Draws(5);
     }
-    if not_above(s, last, count, start, len) {
+    if not_above(s, last, count, f.start, f.len) {
         return Fault::Draws(6);
     }
-    if bad_name(s, start + 2 * count, len - 2 * count, 1, NAME_BYTES) {
+    if bad_name(s, f.start + 2 * count, f.len - 2 * count, 1, NAME_BYTES) {
         return Fault::Draws(8);
     }
     Fault::Sound
@@ -266,7 +257,10 @@ fn pairs_named(
     requires { ⌜ Elements (now s) (now index) source ⌝ }
     requires { ⌜ Elements (now s) (now index) target ⌝ }
     requires { ⌜ (source < structureLimit) × (target < structureLimit) × (start + 4 * count ≤ length (now s)) ⌝ }
-    ensures { λ r. ⌜ r ≡ all (pairNamed (elementNumbers (now (s .entry)) (now (index .entry)) source) (elementNumbers (now (s .entry)) (now (index .entry)) target)) (pairsOf (numbers (stretch (now (s .entry)) start (4 * count)))) ⌝ }
+    ensures { λ r. ⌜ r ≡ all
+        (pairNamed (elementNumbers (now (s .entry)) (now (index .entry)) source)
+        (elementNumbers (now (s .entry)) (now (index .entry)) target))
+        (pairsOf (numbers (stretch (now (s .entry)) start (4 * count)))) ⌝ }
 {
     let mut i: usize = 0;
     while i < count {
@@ -297,27 +291,22 @@ fn keys_ascend(s: &[u8], start: usize, count: usize) -> bool
 }
 
 // An M field: source, target, and pairs of key and image.
-pub fn map_fault(
-    s: &[u8],
-    index: &[u16; RULE_INDEX],
-    structures: usize,
-    start: usize,
-    len: usize,
-    before: usize,
-    last: Last,
-) -> Fault
+pub fn map_fault(s: &[u8], index: &[u16; RULE_INDEX], structures: usize, f: Spot) -> Fault
     requires { ⌜ Known (now s) (now index) structures ⌝ }
-    requires { ⌜ start + len ≤ length (now s) ⌝ }
-    requires { ⌜ LastIn last (length (now s)) ⌝ }
-    ensures { λ r. ⌜ ((letter : ℕ) → faultOf r ≡ mapFault (numbersIn (now (s .entry)) (now (index .entry)) structures) before (lastField (now (s .entry)) letter last) (fieldOf (now (s .entry)) letter start len)) ⌝ }
+    requires { ⌜ Lies (now s) f ⌝ }
+    ensures { λ r. ⌜ ((letter : ℕ)
+        → faultOf r ≡ faultAt (mapFault (numbersIn (now (s .entry)) (now (index .entry)) structures)) (now (s .entry)) letter f) ⌝ }
 {
+    let start = f.start;
+    let len = f.len;
+    let last = f.last;
     if len < 4 {
         return Fault::Draws(3);
     }
     if len % 4 != 0 {
         return Fault::Draws(3);
     }
-    if MAPS <= before {
+    if MAPS <= f.before {
         return Fault::Draws(4);
     }
     if !named(s, start, 4, structures) {
@@ -337,22 +326,17 @@ pub fn map_fault(
 }
 
 // A K field: source, target, and a byte for the kind.
-pub fn kind_fault(
-    s: &[u8],
-    structures: usize,
-    start: usize,
-    len: usize,
-    before: usize,
-    last: Last,
-) -> Fault
-    requires { ⌜ start + len ≤ length (now s) ⌝ }
-    requires { ⌜ LastIn last (length (now s)) ⌝ }
-    ensures { λ r. ⌜ ((letter : ℕ) (named : List (List ℕ)) → length named ≡ structures → faultOf r ≡ kindFault named before (lastField (now (s .entry)) letter last) (fieldOf (now (s .entry)) letter start len)) ⌝ }
+pub fn kind_fault(s: &[u8], structures: usize, f: Spot) -> Fault
+    requires { ⌜ Lies (now s) f ⌝ }
+    ensures { λ r. ⌜ ((letter : ℕ) (named : List (List ℕ)) → length named ≡ structures
+        → faultOf r ≡ faultAt (kindFault named) (now (s .entry)) letter f) ⌝ }
 {
-    if len != 5 {
+    let start = f.start;
+    let last = f.last;
+    if f.len != 5 {
         return Fault::Draws(3);
     }
-    if MAPS <= before {
+    if MAPS <= f.before {
         return Fault::Draws(4);
     }
     if !named(s, start, 4, structures) {
@@ -361,7 +345,7 @@ pub fn kind_fault(
     if 3 < s[start + 4] {
         return Fault::Draws(5);
     }
-    if first_not_above(s, last, 2, start, len) {
+    if first_not_above(s, last, 2, start, f.len) {
         return Fault::Draws(6);
     }
     Fault::Sound
@@ -371,7 +355,8 @@ pub fn kind_fault(
 fn class_falls(s: &[u8], last: Last, start: usize) -> bool
     requires { ⌜ start < length (now s) ⌝ }
     requires { ⌜ LastIn last (length (now s)) ⌝ }
-    ensures { λ r. ⌜ ((letter len : ℕ) → 1 ≤ len → r ≡ classFalls (lastField (now (s .entry)) letter last) (fieldOf (now (s .entry)) letter start len)) ⌝ }
+    ensures { λ r. ⌜ ((letter len : ℕ) → 1 ≤ len
+        → r ≡ classFalls (lastField (now (s .entry)) letter last) (fieldOf (now (s .entry)) letter start len)) ⌝ }
 {
     match last {
         Last::Nothing => false,
@@ -380,22 +365,17 @@ fn class_falls(s: &[u8], last: Last, start: usize) -> bool
 }
 
 // An X field: a byte for the class, and a structure.
-pub fn auxiliary_fault(
-    s: &[u8],
-    structures: usize,
-    start: usize,
-    len: usize,
-    before: usize,
-    last: Last,
-) -> Fault
-    requires { ⌜ start + len ≤ length (now s) ⌝ }
-    requires { ⌜ LastIn last (length (now s)) ⌝ }
-    ensures { λ r. ⌜ ((letter : ℕ) (named : List (List ℕ)) → length named ≡ structures → faultOf r ≡ auxiliaryFault named before (lastField (now (s .entry)) letter last) (fieldOf (now (s .entry)) letter start len)) ⌝ }
+pub fn auxiliary_fault(s: &[u8], structures: usize, f: Spot) -> Fault
+    requires { ⌜ Lies (now s) f ⌝ }
+    ensures { λ r. ⌜ ((letter : ℕ) (named : List (List ℕ)) → length named ≡ structures
+        → faultOf r ≡ faultAt (auxiliaryFault named) (now (s .entry)) letter f) ⌝ }
 {
-    if len != 3 {
+    let start = f.start;
+    let last = f.last;
+    if f.len != 3 {
         return Fault::Draws(3);
     }
-    if MAPS <= before {
+    if MAPS <= f.before {
         return Fault::Draws(4);
     }
     if 2 < s[start] {
@@ -420,50 +400,24 @@ pub fn field_fault(
     index: &[u16; RULE_INDEX],
     structures: usize,
     letter: u8,
-    start: usize,
-    len: usize,
-    before: usize,
-    last: Last,
+    f: Spot,
 ) -> Fault
     requires { ⌜ Indexed (now sig) (now symbols) counts ⌝ }
     requires { ⌜ Known (now s) (now index) structures ⌝ }
-    requires { ⌜ start + len ≤ length (now s) ⌝ }
-    requires { ⌜ LastIn last (length (now s)) ⌝ }
     requires { ⌜ (letter ≡ letterR ⊎ letter ≡ letterA ⊎ letter ≡ letterV ⊎ letter ≡ letterI → 1 ≤ structures) ⌝ }
-    ensures { λ r. ⌜ faultOf r ≡ checkOf (signatureAt (now (sig .entry)) (now (symbols .entry)) counts) (numbersIn (now (s .entry)) (now (index .entry)) structures) letter before (lastField (now (s .entry)) letter last) (fieldOf (now (s .entry)) letter start len) ⌝ }
+    requires { ⌜ Lies (now s) f ⌝ }
+    ensures { λ r. ⌜ faultOf r
+        ≡ faultAt (checkOf (signatureAt (now (sig .entry)) (now (symbols .entry)) counts)
+        (numbersIn (now (s .entry)) (now (index .entry)) structures) letter) (now (s .entry)) letter f ⌝ }
 {
     match letter {
-        LETTER_N => head_fault(s, start, len),
-        LETTER_M => map_fault(s, index, structures, start, len, before, last),
-        LETTER_K => kind_fault(s, structures, start, len, before, last),
-        LETTER_R => row_fault(
-            sig,
-            symbols,
-            counts,
-            s,
-            index,
-            structures - 1,
-            0,
-            start,
-            len,
-            before,
-            last,
-        ),
-        LETTER_A => row_fault(
-            sig,
-            symbols,
-            counts,
-            s,
-            index,
-            structures - 1,
-            1,
-            start,
-            len,
-            before,
-            last,
-        ),
-        LETTER_V => name_fault(s, index, structures - 1, 1, start, len, before, last),
-        LETTER_I => name_fault(s, index, structures - 1, 2, start, len, before, last),
-        _ => auxiliary_fault(s, structures, start, len, before, last),
+        LETTER_N => head_fault(s, f.start, f.len),
+        LETTER_M => map_fault(s, index, structures, f),
+        LETTER_K => kind_fault(s, structures, f),
+        LETTER_R => row_fault(sig, symbols, counts, s, index, structures - 1, 0, f),
+        LETTER_A => row_fault(sig, symbols, counts, s, index, structures - 1, 1, f),
+        LETTER_V => name_fault(s, index, structures - 1, 1, f),
+        LETTER_I => name_fault(s, index, structures - 1, 2, f),
+        _ => auxiliary_fault(s, structures, f),
     }
 }

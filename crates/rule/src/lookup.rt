@@ -61,7 +61,8 @@ pub struct Section {
 pub fn section_in(s: &[u8], index: &[u16; RULE_INDEX], k: usize, place: usize) -> Section
     requires { ⌜ Ready (now s) (now index) ⌝ }
     requires { ⌜ (k < length (ruleAt (now s) .structures)) × (3 ≤ place) × (place ≤ 7) ⌝ }
-    ensures { λ r. ⌜ Run (now (s .entry)) (r .from) (r .to) (withLetter (letterAt place) (blockAt (rulePart (now (s .entry)) .fields) k .body)) ⌝ }
+    ensures { λ r. ⌜ Run (now (s .entry)) (r .from) (r .to)
+        (withLetter (letterAt place) (blockAt (rulePart (now (s .entry)) .fields) k .body)) ⌝ }
 {
     let section = LETTERS * k + place - 1;
     Section {
@@ -174,7 +175,8 @@ pub fn name_element(s: &[u8], start: usize, len: usize, count: usize) -> ElId
 
 pub fn name_span(s: &[u8], start: usize, len: usize, count: usize) -> Span
     requires { ⌜ (start + len ≤ length (now s)) × (2 * count ≤ len) ⌝ }
-    ensures { λ r. ⌜ ((letter : ℕ) → stretch (now (s .entry)) (r .start) (r .len) ≡ nameOf count (fieldOf (now (s .entry)) letter start len) .name) ⌝ }
+    ensures { λ r. ⌜ ((letter : ℕ)
+        → stretch (now (s .entry)) (r .start) (r .len) ≡ nameOf count (fieldOf (now (s .entry)) letter start len) .name) ⌝ }
     ensures { λ r. ⌜ r .start + r .len ≤ length (now (s .entry)) ⌝ }
 {
     Span {
@@ -280,7 +282,8 @@ pub fn find_map(s: &[u8], index: &[u16; RULE_INDEX], source: usize, target: usiz
 // Is this the map from the one structure to the other?
 fn joins(s: &[u8], start: usize, len: usize, source: usize, target: usize) -> bool
     requires { ⌜ (start + len ≤ length (now s)) × (4 ≤ len) ⌝ }
-    ensures { λ r. ⌜ ((letter : ℕ) → r ≡ (eqb (mapOf (fieldOf (now (s .entry)) letter start len) .source) source && eqb (mapOf (fieldOf (now (s .entry)) letter start len) .target) target)) ⌝ }
+    ensures { λ r. ⌜ ((letter : ℕ) → r ≡ (eqb (mapOf (fieldOf (now (s .entry)) letter start len) .source) source
+        && eqb (mapOf (fieldOf (now (s .entry)) letter start len) .target) target)) ⌝ }
 {
     if source_at(s, start, len) != source {
         return false;

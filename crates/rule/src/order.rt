@@ -6,7 +6,7 @@ ghost use Rattle.definition.specs.Records as definition;
 ghost use Rattle.definition.specs.Records.{numbers, notAbove};
 ghost use Rattle.definition.specs.Rule.{rowKey};
 ghost use Rattle.records.specs.Places.{fieldOf};
-ghost use Rattle.rule.specs.Faults.{lastField, LastIn};
+ghost use Rattle.rule.specs.Faults.{lastField, LastIn, spotOf};
 use records::order::less_bytes;
 use records::order::less_numbers;
 
@@ -14,6 +14,25 @@ use records::order::less_numbers;
 pub enum Last {
     Content { start: usize, len: usize },
     Nothing,
+}
+
+// A field to be checked: its content, how many fields of its letter came before it, and the last of them.
+pub struct Spot {
+    pub start: usize,
+    pub len: usize,
+    pub before: usize,
+    pub last: Last,
+}
+
+pub fn spot_of(start: usize, len: usize, before: usize, last: Last) -> Spot
+    ensures { λ r. ⌜ r ≡ spotOf start len before last ⌝ }
+{
+    Spot {
+        start,
+        len,
+        before,
+        last,
+    }
 }
 
 // What is left of a length.
@@ -40,7 +59,8 @@ pub fn first_not_above(s: &[u8], last: Last, count: usize, start: usize, len: us
     requires { ⌜ start + len ≤ length (now s) ⌝ }
     requires { ⌜ count ≤ 2 ⌝ }
     requires { ⌜ LastIn last (length (now s)) ⌝ }
-    ensures { λ r. ⌜ ((letter : ℕ) → r ≡ notAbove (λ (g : definition.Field). take count (numbers (g .content))) (lastField (now (s .entry)) letter last) (fieldOf (now (s .entry)) letter start len)) ⌝ }
+    ensures { λ r. ⌜ ((letter : ℕ) → r ≡ notAbove (λ (g : definition.Field). take count (numbers (g .content)))
+        (lastField (now (s .entry)) letter last) (fieldOf (now (s .entry)) letter start len)) ⌝ }
 {
     match last {
         Last::Nothing => false,
@@ -59,7 +79,8 @@ pub fn row_not_above(s: &[u8], last: Last, results: usize, start: usize, len: us
     requires { ⌜ start + len ≤ length (now s) ⌝ }
     requires { ⌜ results ≤ 1 ⌝ }
     requires { ⌜ LastIn last (length (now s)) ⌝ }
-    ensures { λ r. ⌜ ((letter : ℕ) → r ≡ notAbove (rowKey results) (lastField (now (s .entry)) letter last) (fieldOf (now (s .entry)) letter start len)) ⌝ }
+    ensures { λ r. ⌜ ((letter : ℕ)
+        → r ≡ notAbove (rowKey results) (lastField (now (s .entry)) letter last) (fieldOf (now (s .entry)) letter start len)) ⌝ }
 {
     match last {
         Last::Nothing => false,
@@ -73,7 +94,8 @@ pub fn row_not_above(s: &[u8], last: Last, results: usize, start: usize, len: us
 pub fn name_not_above(s: &[u8], last: Last, start: usize, len: usize) -> bool
     requires { ⌜ start + len ≤ length (now s) ⌝ }
     requires { ⌜ LastIn last (length (now s)) ⌝ }
-    ensures { λ r. ⌜ ((letter : ℕ) → r ≡ notAbove (λ (g : definition.Field). drop 2 (g .content)) (lastField (now (s .entry)) letter last) (fieldOf (now (s .entry)) letter start len)) ⌝ }
+    ensures { λ r. ⌜ ((letter : ℕ) → r ≡ notAbove (λ (g : definition.Field). drop 2 (g .content))
+        (lastField (now (s .entry)) letter last) (fieldOf (now (s .entry)) letter start len)) ⌝ }
 {
     match last {
         Last::Nothing => false,

@@ -124,6 +124,24 @@ fn fill(index: &mut [u16; RULE_INDEX], section: usize, to: usize, at: usize)
     }
 }
 
+// The pass ends at a position, where the sections behind the last one start too.
+fn ended(
+    index: &mut [u16; RULE_INDEX],
+    section: usize,
+    at: usize,
+    whole: bool,
+    structures: usize,
+) -> Passed
+    requires { ⌜ (section ≤ sections) × (at < 65536) ⌝ }
+    requires { ⌜ length (now index) ≡ ruleIndex ⌝ }
+    ensures { λ r. ⌜ (r .whole ≡ whole) × (r .structures ≡ structures) ⌝ }
+    ensures { λ r. ⌜ ((t : ℕ) → boundAt (now (index .exit)) sections at t ≡ boundAt (now (index .entry)) section at t) ⌝ }
+    ensures { λ r. ⌜ length (now (index .exit)) ≡ ruleIndex ⌝ }
+{
+    fill(index, section, SECTIONS, at);
+    Passed { whole, structures }
+}
+
 // Everything from the first structure over the limit on is left out: that S has a fault, and nothing behind it is reached.
 pub fn pass(s: &[u8], index: &mut [u16; RULE_INDEX]) -> Passed
     requires { ⌜ length (now s) ≤ ruleBytes ⌝ }
@@ -138,34 +156,16 @@ pub fn pass(s: &[u8], index: &mut [u16; RULE_INDEX]) -> Passed
     let mut section: usize = 0;
     while at < s.len() {
         let f = read_field(s, at);
-        let Field::Got {
-            letter,
-            start: _,
-            len: _,
-            next,
-        } = f
-        else {
-            fill(index, section, SECTIONS, at);
-            return Passed {
-                whole: false,
-                structures,
-            };
+        let Field::Got { letter, next, .. } = f else {
+            return ended(index, section, at, false, structures);
         };
         let p = place(letter);
         if !may_follow(behind, p) {
-            fill(index, section, SECTIONS, at);
-            return Passed {
-                whole: false,
-                structures,
-            };
+            return ended(index, section, at, false, structures);
         }
         let n = counted(structures, p);
         if STRUCTURES < n {
-            fill(index, section, SECTIONS, at);
-            return Passed {
-                whole: false,
-                structures: n,
-            };
+            return ended(index, section, at, false, n);
         }
         let to = section_of(n, p);
         fill(index, section, to, at);
@@ -174,9 +174,5 @@ pub fn pass(s: &[u8], index: &mut [u16; RULE_INDEX]) -> Passed
         behind = p;
         at = next;
     }
-    fill(index, section, SECTIONS, at);
-    Passed {
-        whole: PLACE_S <= behind,
-        structures,
-    }
+    ended(index, section, at, PLACE_S <= behind, structures)
 }

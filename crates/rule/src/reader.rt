@@ -4,18 +4,16 @@ ghost use mathlib.Core.Logic.{_⊎_};
 ghost use mathlib.Core.Path.{_≡_};
 ghost use Prim.Native.Nat.{_+_, _*_, _≤_, _<_};
 ghost use lib.ListN.{length, getD};
-ghost use Rattle.definition.specs.Letters.{letterE, letterR, letterA, letterV, letterI};
+ghost use Rattle.definition.specs.Letters.{letterR, letterA, letterV, letterI};
 ghost use Rattle.definition.specs.Limits.{structureLimit, ruleBytes};
 ghost use Rattle.definition.specs.Records as definition;
-ghost use Rattle.definition.specs.Records.{withLetter, faultAmong};
-ghost use Rattle.definition.specs.Rule.{namedElements, structureFault, elementFault, bodyFault, structuresFault, namedIn, readRule};
-ghost use Rattle.records.specs.Places.{Run};
+ghost use Rattle.definition.specs.Rule.{namedElements, structureFault, bodyFault, structuresFault, namedIn, readRule};
 ghost use Rattle.signature.specs.Faults.{faultOf};
 ghost use Rattle.signature.specs.Index.{signatureAt, Indexed};
 ghost use Rattle.rule.specs.Layout.{sections, ruleIndex};
 ghost use Rattle.rule.specs.Elements.{elementNumbers, numbersIn, Known};
-ghost use Rattle.rule.specs.Faults.{Below, checkOf, restFault, tailFault};
-ghost use Rattle.rule.specs.Answers.{HeadAt, Bodied, Structured, Tailed, Stored, Holds, AllStored, AllHold, Usable, ruleReading};
+ghost use Rattle.rule.specs.Faults.{Below, restFault, tailFault};
+ghost use Rattle.rule.specs.Answers.{SectionChecked, ElementsChecked, ElementsHeld, HeadAt, Bodied, Structured, Tailed, Stored, Holds, AllStored, AllHold, Usable, ruleReading};
 use crate::elements::wide_entry;
 use crate::faults::element_fault;
 use crate::faults::field_fault;
@@ -40,6 +38,7 @@ use crate::ids::SECTION_N;
 use crate::ids::SECTION_S;
 use crate::ids::SECTION_X;
 use crate::order::Last;
+use crate::order::spot_of;
 use crate::pass::pass;
 use records::fields::Field;
 use records::fields::read_field;
@@ -76,7 +75,8 @@ fn check_section(
     requires { ⌜ Known (now s) (now index) structures ⌝ }
     requires { ⌜ section < sections ⌝ }
     requires { ⌜ (letter ≡ letterR ⊎ letter ≡ letterA ⊎ letter ≡ letterV ⊎ letter ≡ letterI → 1 ≤ structures) ⌝ }
-    ensures { λ r. ⌜ ((fs : List definition.Field) → Run (now (s .entry)) (getD (now (index .entry)) section 0) (getD (now (index .entry)) (section + 1) 0) (withLetter letter fs) → faultOf r ≡ faultAmong letter (checkOf (signatureAt (now (sig .entry)) (now (symbols .entry)) counts) (numbersIn (now (s .entry)) (now (index .entry)) structures) letter) fs) ⌝ }
+    ensures { λ r. ⌜ SectionChecked r (signatureAt (now (sig .entry)) (now (symbols .entry)) counts)
+        (now (s .entry)) (now (index .entry)) structures letter section ⌝ }
 {
     let to = bound(index, section + 1);
     let mut at = bound(index, section);
@@ -84,34 +84,17 @@ fn check_section(
     let mut last = Last::Nothing;
     while at < to {
         let f = read_field(s, at);
-        let Field::Got {
-            letter: _,
-            start,
-            len,
-            next,
-        } = f
-        else {
+        let Field::Got { start, len, .. } = f else {
             return Fault::Draws(2);
         };
-        let fault = field_fault(
-            sig,
-            symbols,
-            counts,
-            s,
-            index,
-            structures,
-            letter,
-            start,
-            len,
-            count,
-            last,
-        );
+        let spot = spot_of(start, len, count, last);
+        let fault = field_fault(sig, symbols, counts, s, index, structures, letter, spot);
         let Fault::Sound = fault else {
             return fault;
         };
         count += 1;
         last = Last::Content { start, len };
-        at = next;
+        at = start + len;
     }
     Fault::Sound
 }
@@ -131,8 +114,8 @@ fn check_elements(
     requires { ⌜ length (now s) ≤ ruleBytes ⌝ }
     requires { ⌜ length (now index) ≡ ruleIndex ⌝ }
     requires { ⌜ k < structureLimit ⌝ }
-    ensures { λ r. ⌜ ((body : List definition.Field) → Run (now (s .entry)) from to (withLetter letterE body) → faultOf r ≡ faultAmong letterE (elementFault (signatureAt (now (sig .entry)) (now (symbols .entry)) counts) (namedElements body)) body) ⌝ }
-    ensures { λ r. ⌜ ((body : List definition.Field) → Run (now (s .entry)) from to (withLetter letterE body) → Holds r (now (s .entry)) (now (index .exit)) k body) ⌝ }
+    ensures { λ r. ⌜ ElementsChecked r (signatureAt (now (sig .entry)) (now (symbols .entry)) counts) (now (s .entry)) from to ⌝ }
+    ensures { λ r. ⌜ ElementsHeld r (now (s .entry)) (now (index .exit)) k from to ⌝ }
     ensures { λ r. ⌜ Stored r (now (s .entry)) (now (index .entry)) (now (index .exit)) k ⌝ }
     ensures { λ r. ⌜ length (now (index .exit)) ≡ ruleIndex ⌝ }
 {
@@ -141,23 +124,18 @@ fn check_elements(
     let mut last = Last::Nothing;
     while at < to {
         let f = read_field(s, at);
-        let Field::Got {
-            letter: _,
-            start,
-            len,
-            next,
-        } = f
-        else {
+        let Field::Got { start, len, .. } = f else {
             return Fault::Draws(2);
         };
-        let fault = element_fault(sig, symbols, counts, s, from, to, start, len, count, last);
+        let spot = spot_of(start, len, count, last);
+        let fault = element_fault(sig, symbols, counts, s, from, to, spot);
         let Fault::Sound = fault else {
             return fault;
         };
         index[ELEMENTS_FROM + FIELDS * k + count] = at as u16;
         count += 1;
         last = Last::Content { start, len };
-        at = next;
+        at = start + len;
     }
     index[COUNTS_FROM + k] = count as u16;
     Fault::Sound
@@ -166,17 +144,12 @@ fn check_elements(
 // The first fault of the S field of structure k.
 fn check_head(s: &[u8], index: &[u16; RULE_INDEX], k: usize) -> Fault
     requires { ⌜ k ≤ structureLimit ⌝ }
-    ensures { λ r. ⌜ ((f : definition.Field) → HeadAt (now (s .entry)) (getD (now (index .entry)) (6 * k + 1) 0) f → faultOf r ≡ structureFault k f) ⌝ }
+    ensures { λ r. ⌜ ((f : definition.Field)
+        → HeadAt (now (s .entry)) (getD (now (index .entry)) (6 * k + 1) 0) f → faultOf r ≡ structureFault k f) ⌝ }
     ensures { λ r. ⌜ Below r k ⌝ }
 {
     let f = read_field(s, bound(index, LETTERS * k + SECTION_S));
-    let Field::Got {
-        letter: _,
-        start: _,
-        len,
-        next: _,
-    } = f
-    else {
+    let Field::Got { len, .. } = f else {
         return Fault::Draws(2);
     };
     structure_fault(len, k)
@@ -194,7 +167,9 @@ fn check_rest(
     requires { ⌜ Indexed (now sig) (now symbols) counts ⌝ }
     requires { ⌜ k < structureLimit ⌝ }
     requires { ⌜ Known (now s) (now index) (k + 1) ⌝ }
-    ensures { λ r. ⌜ ((body : List definition.Field) → Bodied (now (s .entry)) (now (index .entry)) k body → elementNumbers (now (s .entry)) (now (index .entry)) k ≡ namedElements body → faultOf r ≡ restFault (signatureAt (now (sig .entry)) (now (symbols .entry)) counts) (namedElements body) body) ⌝ }
+    ensures { λ r. ⌜ ((body : List definition.Field) → Bodied (now (s .entry)) (now (index .entry)) k body
+        → elementNumbers (now (s .entry)) (now (index .entry)) k ≡ namedElements body
+        → faultOf r ≡ restFault (signatureAt (now (sig .entry)) (now (symbols .entry)) counts) (namedElements body) body) ⌝ }
 {
     let section = LETTERS * k + SECTION_S;
     let r = check_section(sig, symbols, counts, s, index, k + 1, LETTER_R, section + 2);
@@ -226,8 +201,10 @@ fn check_body(
     requires { ⌜ length (now index) ≡ ruleIndex ⌝ }
     requires { ⌜ k < structureLimit ⌝ }
     requires { ⌜ Known (now s) (now index) k ⌝ }
-    ensures { λ r. ⌜ ((body : List definition.Field) → Bodied (now (s .entry)) (now (index .entry)) k body → faultOf r ≡ bodyFault (signatureAt (now (sig .entry)) (now (symbols .entry)) counts) (namedElements body) body) ⌝ }
-    ensures { λ r. ⌜ ((body : List definition.Field) → Bodied (now (s .entry)) (now (index .entry)) k body → Holds r (now (s .entry)) (now (index .exit)) k body) ⌝ }
+    ensures { λ r. ⌜ ((body : List definition.Field) → Bodied (now (s .entry)) (now (index .entry)) k body
+        → faultOf r ≡ bodyFault (signatureAt (now (sig .entry)) (now (symbols .entry)) counts) (namedElements body) body) ⌝ }
+    ensures { λ r. ⌜ ((body : List definition.Field) → Bodied (now (s .entry)) (now (index .entry)) k body
+        → Holds r (now (s .entry)) (now (index .exit)) k body) ⌝ }
     ensures { λ r. ⌜ Stored r (now (s .entry)) (now (index .entry)) (now (index .exit)) k ⌝ }
     ensures { λ r. ⌜ length (now (index .exit)) ≡ ruleIndex ⌝ }
 {
@@ -254,8 +231,10 @@ fn check_structures(
     requires { ⌜ length (now s) ≤ ruleBytes ⌝ }
     requires { ⌜ length (now index) ≡ ruleIndex ⌝ }
     requires { ⌜ structures ≤ structureLimit + 1 ⌝ }
-    ensures { λ r. ⌜ ((bs : List definition.Block) → Structured (now (s .entry)) (now (index .entry)) structures bs → faultOf r ≡ structuresFault (signatureAt (now (sig .entry)) (now (symbols .entry)) counts) 0 bs) ⌝ }
-    ensures { λ r. ⌜ ((bs : List definition.Block) → Structured (now (s .entry)) (now (index .entry)) structures bs → AllHold r (now (s .entry)) (now (index .exit)) structures bs) ⌝ }
+    ensures { λ r. ⌜ ((bs : List definition.Block) → Structured (now (s .entry)) (now (index .entry)) structures bs
+        → faultOf r ≡ structuresFault (signatureAt (now (sig .entry)) (now (symbols .entry)) counts) 0 bs) ⌝ }
+    ensures { λ r. ⌜ ((bs : List definition.Block) → Structured (now (s .entry)) (now (index .entry)) structures bs
+        → AllHold r (now (s .entry)) (now (index .exit)) structures bs) ⌝ }
     ensures { λ r. ⌜ AllStored r (now (s .entry)) (now (index .entry)) (now (index .exit)) structures ⌝ }
     ensures { λ r. ⌜ length (now (index .exit)) ≡ ruleIndex ⌝ }
 {
@@ -281,48 +260,22 @@ fn check_tail(
     counts: Counts,
     s: &[u8],
     index: &[u16; RULE_INDEX],
-    structures: usize,
+    known: usize,
 ) -> Fault
     requires { ⌜ Indexed (now sig) (now symbols) counts ⌝ }
-    requires { ⌜ Known (now s) (now index) structures ⌝ }
-    ensures { λ r. ⌜ ((fs : List definition.Field) → Tailed (now (s .entry)) (now (index .entry)) fs → numbersIn (now (s .entry)) (now (index .entry)) structures ≡ namedIn fs → faultOf r ≡ tailFault fs) ⌝ }
+    requires { ⌜ Known (now s) (now index) known ⌝ }
+    ensures { λ r. ⌜ ((fs : List definition.Field) → Tailed (now (s .entry)) (now (index .entry)) fs
+        → numbersIn (now (s .entry)) (now (index .entry)) known ≡ namedIn fs → faultOf r ≡ tailFault fs) ⌝ }
 {
-    let m = check_section(
-        sig,
-        symbols,
-        counts,
-        s,
-        index,
-        structures,
-        LETTER_M,
-        SECTION_M,
-    );
+    let m = check_section(sig, symbols, counts, s, index, known, LETTER_M, SECTION_M);
     let Fault::Sound = m else {
         return m;
     };
-    let k = check_section(
-        sig,
-        symbols,
-        counts,
-        s,
-        index,
-        structures,
-        LETTER_K,
-        SECTION_K,
-    );
+    let k = check_section(sig, symbols, counts, s, index, known, LETTER_K, SECTION_K);
     let Fault::Sound = k else {
         return k;
     };
-    check_section(
-        sig,
-        symbols,
-        counts,
-        s,
-        index,
-        structures,
-        LETTER_X,
-        SECTION_X,
-    )
+    check_section(sig, symbols, counts, s, index, known, LETTER_X, SECTION_X)
 }
 
 // The rule's answer; where it is accepted, the index holds where its sections start and where its elements stand.
@@ -335,7 +288,8 @@ pub fn read_rule(
 ) -> Reading
     requires { ⌜ Indexed (now sig) (now symbols) counts ⌝ }
     requires { ⌜ length (now index) ≡ ruleIndex ⌝ }
-    ensures { λ r. ⌜ ruleReading (now (s .entry)) r ≡ readRule (signatureAt (now (sig .entry)) (now (symbols .entry)) counts) (now (s .entry)) ⌝ }
+    ensures { λ r. ⌜ ruleReading (now (s .entry)) r
+        ≡ readRule (signatureAt (now (sig .entry)) (now (symbols .entry)) counts) (now (s .entry)) ⌝ }
     ensures { λ r. ⌜ Usable (signatureAt (now (sig .entry)) (now (symbols .entry)) counts) (now (s .entry)) (now (index .exit)) r ⌝ }
 {
     if RULE_BYTES < s.len() {

@@ -8,6 +8,7 @@ use Rattle.definition.specs.Base.{Outcome, refused, accepted}
 use Rattle.definition.specs.Records.{Field, withLetter, faultAmong}
 use Rattle.definition.specs.Signature.{Signature}
 use Rattle.records.specs.Held.{heldAt}
+use Rattle.records.specs.Places.{Run}
 use Rattle.signature.specs.Faults.{checkOf}
 use Rattle.signature.specs.Index.{indexSize, signatureAt, Held, Indexed}
 use Rattle.signature.specs.declared.reader.Checked.{Checked}
@@ -33,6 +34,10 @@ CheckedAs (checked.Count n) s index letter types from fs = (faultAmong letter (c
 -- The same, in a form by which its arguments are found.
 pub record Checks (r : Checked) (s index : List ℕ) (letter types from : ℕ) (fs : List Field) : Type 0 where
   pub is : CheckedAs r s index letter types from fs
+
+-- The same of all fields before a position.
+abbrev pub ChecksUpTo : Checked → List ℕ → List ℕ → ℕ → ℕ → ℕ → ℕ → Type 0
+ChecksUpTo r s index letter types from end = (fs : List Field) → Run s 0 end fs → Checks r s index letter types from fs
 
 -- The new entries after the check: where none was refused, they are sound.
 abbrev HeldBy : Checked → List ℕ → List ℕ → ℕ → ℕ → ℕ → Type 0

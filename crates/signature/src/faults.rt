@@ -57,7 +57,8 @@ fn columns_fault(
 // A T field: its parents.
 fn type_fault(s: &[u8], start: usize, len: usize, types: usize, before: usize) -> Fault
     requires { ⌜ start + len ≤ length (now s) ⌝ }
-    ensures { λ r. ⌜ ((letter : ℕ) (last : Option Field) → faultOf r ≡ typeFault types before last (fieldOf (now (s .entry)) letter start len)) ⌝ }
+    ensures { λ r. ⌜ ((letter : ℕ) (last : Option Field)
+        → faultOf r ≡ typeFault types before last (fieldOf (now (s .entry)) letter start len)) ⌝ }
 {
     if len % 2 == 1 {
         return Fault::Draws(3);
@@ -75,7 +76,8 @@ fn symbol_fault(
     before: usize,
 ) -> Fault
     requires { ⌜ (start + len ≤ length (now s)) × (results ≤ 1) ⌝ }
-    ensures { λ r. ⌜ ((letter : ℕ) (last : Option Field) → faultOf r ≡ symbolFault results types before last (fieldOf (now (s .entry)) letter start len)) ⌝ }
+    ensures { λ r. ⌜ ((letter : ℕ) (last : Option Field)
+        → faultOf r ≡ symbolFault results types before last (fieldOf (now (s .entry)) letter start len)) ⌝ }
 {
     if len % 2 != 1 {
         return Fault::Draws(3);
@@ -96,7 +98,8 @@ pub fn field_fault(
     before: usize,
 ) -> Fault
     requires { ⌜ start + len ≤ length (now s) ⌝ }
-    ensures { λ r. ⌜ ((last : Option Field) → faultOf r ≡ checkOf letter types before last (fieldOf (now (s .entry)) letter start len)) ⌝ }
+    ensures { λ r. ⌜ ((last : Option Field)
+        → faultOf r ≡ checkOf letter types before last (fieldOf (now (s .entry)) letter start len)) ⌝ }
 {
     if letter == LETTER_T {
         return type_fault(s, start, len, types, before);

@@ -1,15 +1,13 @@
 // Reading a signature: the part before the first field that draws 2, then the faults of its fields, letter by letter.
 ghost use mathlib.Core.Path.{_≡_};
-ghost use mathlib.Core.List.{List};
 ghost use Prim.Native.Nat.{_+_, _≤_, _<_};
 ghost use lib.ListN.{length};
 ghost use Rattle.definition.specs.Letters.{letterT};
 ghost use Rattle.definition.specs.Limits.{symbolLimit, signatureBytes};
-ghost use Rattle.definition.specs.Records as definition;
 ghost use Rattle.definition.specs.Records.{follows, withLetter};
 ghost use Rattle.definition.specs.Signature.{signatureGrammar, signaturePart, readSignature};
-ghost use Rattle.records.specs.Places.{Run, Parted};
-ghost use Rattle.signature.specs.Answers.{Checks, Stored, numberOf, signatureReading, Usable};
+ghost use Rattle.records.specs.Places.{Parted};
+ghost use Rattle.signature.specs.Answers.{ChecksUpTo, Stored, numberOf, signatureReading, Usable};
 ghost use Rattle.signature.specs.Index.{indexSize};
 use crate::faults::Fault;
 use crate::faults::drawn;
@@ -76,13 +74,7 @@ fn pass(s: &[u8]) -> Passed
     let mut types: usize = 0;
     while at < s.len() {
         let f = read_field(s, at);
-        let Field::Got {
-            letter,
-            start: _,
-            len: _,
-            next,
-        } = f
-        else {
+        let Field::Got { letter, next, .. } = f else {
             return Passed {
                 end: at,
                 whole: false,
@@ -111,7 +103,7 @@ fn pass(s: &[u8]) -> Passed
 }
 
 // The faults of the fields of one letter, front to back; their positions go into the index, from an entry on.
-// T stand before P and P before F, so letter by letter is front to back in all.
+// T stand before P and P before F, so letter by letter is front to back in all. The pass has read every field, so none is bad.
 fn check(
     s: &[u8],
     end: usize,
@@ -122,7 +114,7 @@ fn check(
 ) -> Checked
     requires { ⌜ (end ≤ length (now s)) × (length (now s) ≤ signatureBytes) ⌝ }
     requires { ⌜ (from + symbolLimit ≤ indexSize) × (length (now index) ≡ indexSize) ⌝ }
-    ensures { λ r. ⌜ ((fs : List definition.Field) → Run (now (s .entry)) 0 end fs → Checks r (now (s .entry)) (now (index .exit)) letter types from fs) ⌝ }
+    ensures { λ r. ⌜ ChecksUpTo r (now (s .entry)) (now (index .exit)) letter types from end ⌝ }
     ensures { λ r. ⌜ Stored r (now (s .entry)) (now (index .entry)) (now (index .exit)) letter types from ⌝ }
 {
     let mut at: usize = 0;
@@ -136,7 +128,6 @@ fn check(
             next,
         } = f
         else {
-            // Never: the pass has been here.
             return Checked::Refused(2);
         };
         if l != letter {

@@ -1,7 +1,7 @@
 use mathlib.Core.Path.{_∙_, sym}
-use borrow.Author.Tests.{eq-eqb, ne-eqb, le-ltb, lt-ltb}
+use borrow.Author.Tests.{le-ltb, lt-ltb}
+use Rattle.group.proofs.Drawn.{statement-even, statement-short, statement-tests}
 use borrow.Author.Needs.{needs}
-use Rattle.group.proofs.Drawn.{statement-even, statement-short, statement-tests, parentless, with-parents}
 use Rattle.group.proofs.faults.statement_fault.Statement.{statement}
 use Rattle.group.proofs.faults.statement_fault.Tie as tie
 
@@ -44,20 +44,14 @@ named-requires c κs = search needs
 returns-5 : tie.Need-returns-5
 returns-5 c = λ before last. sym (statement-tests _ _ _ (c .before .before .before .before .before .before .before .before .before .before .before .before .pre .1) _ _ _ _ before last (c .before .before .before .before .before .before .before .before .before .if1 .left) (c .before .before .before .before .before .before .before .before .if2 .left) ∙ rw (← (c .before .before .before .before .before .before .may-state .ensures), c .before .before .before .before .before .if3 .left, ← (c .before .before .before .before .num .ensures), ← (c .before .before .before .symbol-count .ensures _ _), lt-ltb _ _ (c .before .before .if4 .left), ← (c .before .named .ensures), c .if5 .taken))
 
-arity-requires : tie.Need-arity-requires
-arity-requires c κs = (c .before .before .before .before .before .before .before .before .before .before .before .before .pre .0, rw (← (c .before .before .before .symbol-count .ensures _ _)) (c .before .before .if4 .left))
+bad-columns-requires : tie.Need-bad-columns-requires
+bad-columns-requires c κs = (c .before .before .before .before .before .before .before .before .before .before .before .before .pre .0, rw (← (c .before .before .before .symbol-count .ensures _ _)) (c .before .before .if4 .left))
 
 returns-6 : tie.Need-returns-6
-returns-6 c = λ before last. sym (statement-tests _ _ _ (c .before .before .before .before .before .before .before .before .before .before .before .before .before .before .pre .1) _ _ _ _ before last (c .before .before .before .before .before .before .before .before .before .before .before .if1 .left) (c .before .before .before .before .before .before .before .before .before .before .if2 .left) ∙ rw (← (c .before .before .before .before .before .before .before .before .may-state .ensures), c .before .before .before .before .before .before .before .if3 .left, ← (c .before .before .before .before .before .before .num .ensures), ← (c .before .before .before .before .before .symbol-count .ensures _ _), lt-ltb _ _ (c .before .before .before .before .if4 .left), ← (c .before .before .before .named .ensures), c .before .before .if5 .left, ← (c .before .arity .ensures), ne-eqb _ _ (c .if6 .taken)))
+returns-6 c = λ before last. sym (statement-tests _ _ _ (c .before .before .before .before .before .before .before .before .before .before .before .before .before .before .pre .1) _ _ _ _ before last (c .before .before .before .before .before .before .before .before .before .before .before .if1 .left) (c .before .before .before .before .before .before .before .before .before .before .if2 .left) ∙ rw (← (c .before .before .before .before .before .before .before .before .may-state .ensures), c .before .before .before .before .before .before .before .if3 .left, ← (c .before .before .before .before .before .before .num .ensures), ← (c .before .before .before .before .before .symbol-count .ensures _ _), lt-ltb _ _ (c .before .before .before .before .if4 .left), ← (c .before .before .before .named .ensures), c .before .before .if5 .left, ← (c .before .bad-columns .ensures), c .if6 .taken))
 
 returns-7 : tie.Need-returns-7
-returns-7 c = λ before last. sym (statement-tests _ _ _ (c .before .before .before .before .before .before .before .before .before .before .before .before .before .before .before .before .pre .1) _ _ _ _ before last (c .before .before .before .before .before .before .before .before .before .before .before .before .before .if1 .left) (c .before .before .before .before .before .before .before .before .before .before .before .before .if2 .left) ∙ rw (← (c .before .before .before .before .before .before .before .before .before .before .may-state .ensures), c .before .before .before .before .before .before .before .before .before .if3 .left, ← (c .before .before .before .before .before .before .before .before .num .ensures), ← (c .before .before .before .before .before .before .before .symbol-count .ensures _ _), lt-ltb _ _ (c .before .before .before .before .before .before .if4 .left), ← (c .before .before .before .before .before .named .ensures), c .before .before .before .before .if5 .left, ← (c .before .before .before .arity .ensures), eq-eqb _ _ (c .before .before .if6 .left), eq-eqb _ _ (c .before .if7 .taken), parentless _ _ _ (rw (c .before .if7 .taken) at (c .before .before .before .arity .ensures)) (c .if8 .taken)))
-
-returns-8 : tie.Need-returns-8
-returns-8 c = λ before last. sym (statement-tests _ _ _ (c .before .before .before .before .before .before .before .before .before .before .before .before .before .before .before .before .pre .1) _ _ _ _ before last (c .before .before .before .before .before .before .before .before .before .before .before .before .before .if1 .left) (c .before .before .before .before .before .before .before .before .before .before .before .before .if2 .left) ∙ rw (← (c .before .before .before .before .before .before .before .before .before .before .may-state .ensures), c .before .before .before .before .before .before .before .before .before .if3 .left, ← (c .before .before .before .before .before .before .before .before .num .ensures), ← (c .before .before .before .before .before .before .before .symbol-count .ensures _ _), lt-ltb _ _ (c .before .before .before .before .before .before .if4 .left), ← (c .before .before .before .before .before .named .ensures), c .before .before .before .before .if5 .left, ← (c .before .before .before .arity .ensures), eq-eqb _ _ (c .before .before .if6 .left), eq-eqb _ _ (c .before .if7 .taken), with-parents _ _ _ (rw (c .before .if7 .taken) at (c .before .before .before .arity .ensures)) (c .if8 .left)))
-
-returns-9 : tie.Need-returns-9
-returns-9 c = λ before last. sym (statement-tests _ _ _ (c .before .before .before .before .before .before .before .before .before .before .before .before .before .before .before .pre .1) _ _ _ _ before last (c .before .before .before .before .before .before .before .before .before .before .before .before .if1 .left) (c .before .before .before .before .before .before .before .before .before .before .before .if2 .left) ∙ rw (← (c .before .before .before .before .before .before .before .before .before .may-state .ensures), c .before .before .before .before .before .before .before .before .if3 .left, ← (c .before .before .before .before .before .before .before .num .ensures), ← (c .before .before .before .before .before .before .symbol-count .ensures _ _), lt-ltb _ _ (c .before .before .before .before .before .if4 .left), ← (c .before .before .before .before .named .ensures), c .before .before .before .if5 .left, ← (c .before .before .arity .ensures), eq-eqb _ _ (c .before .if6 .left), ne-eqb _ _ (c .if7 .left)))
+returns-7 c = λ before last. sym (statement-tests _ _ _ (c .before .before .before .before .before .before .before .before .before .before .before .before .before .before .pre .1) _ _ _ _ before last (c .before .before .before .before .before .before .before .before .before .before .before .if1 .left) (c .before .before .before .before .before .before .before .before .before .before .if2 .left) ∙ rw (← (c .before .before .before .before .before .before .before .before .may-state .ensures), c .before .before .before .before .before .before .before .if3 .left, ← (c .before .before .before .before .before .before .num .ensures), ← (c .before .before .before .before .before .symbol-count .ensures _ _), lt-ltb _ _ (c .before .before .before .before .if4 .left), ← (c .before .before .before .named .ensures), c .before .before .if5 .left, ← (c .before .bad-columns .ensures), c .if6 .left))
 
 pub statement-fault-spec : {M : Type 1} → statement M
 statement-fault-spec =
@@ -76,8 +70,6 @@ statement-fault-spec =
     add-named
     named-requires
     returns-5
-    arity-requires
+    bad-columns-requires
     returns-6
-    returns-7
-    returns-8
-    returns-9)
+    returns-7)

@@ -20,7 +20,7 @@ add-t10 : tie.Need-add-t10
 add-t10 c = search needs
 
 returns : tie.Need-returns
-returns c = λ letter. says _ _ _ letter (c .before .before .before .pre) (c .num .ensures) refl refl
+returns c = (λ letter. says _ _ _ letter (c .before .before .before .pre) (c .num .ensures) refl refl, refl)
 
 pub read-statement-spec : {M : Type 1} → statement M
 read-statement-spec =

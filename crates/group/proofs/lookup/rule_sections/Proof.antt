@@ -56,7 +56,7 @@ place-requires-3 : tie.Need-place-requires-3
 place-requires-3 c κs = search needs
 
 returns : tie.Need-returns
-returns c = sections-are (c .before .before .before .before .before .before .before .before .pre .0) (c .before .before .before .before .before .before .before .before .pre .1) (rw (c .before .before .before .before .two .ensures .0, c .before .before .before .before .before .place .ensures .0)) (c .before .before .place2 .ensures .0) (c .place3 .ensures .0)
+returns c = (sections-are (c .before .before .before .before .before .before .before .before .pre .0) (c .before .before .before .before .before .before .before .before .pre .1) (rw (c .before .before .before .before .two .ensures .0, c .before .before .before .before .before .place .ensures .0)) (c .before .before .place2 .ensures .0) (c .place3 .ensures .0), c .before .before .place2 .ensures .0)
 
 pub rule-sections-spec : {M : Type 1} → statement M
 rule-sections-spec =

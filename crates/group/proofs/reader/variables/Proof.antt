@@ -1,22 +1,22 @@
 use Prim.Native.Nat.{_+_, _-_, _≤_, _<_}
-use native.Mathlib.Omega.{arith}
-use mathlib.Core.Path.{_≡_, sym, _∙_}
+use mathlib.Core.Path.{_≡_}
 use mathlib.Core.Option.{Option, none}
 use mathlib.Core.List.{List}
 use lib.ListN.{length}
-use borrow.Author.Needs.{needs}
 use Rattle.definition.specs.Group.{variableFault}
 use Rattle.definition.specs.Signature.{Signature}
 use Rattle.definition.specs.Records.{Field}
 use Rattle.definition.specs.Letters.{letterW}
 use Rattle.definition.specs.Limits.{variableLimit}
-use Rattle.records.proofs.Link.{got-letter}
-use Rattle.records.specs.declared.fields.Field.the-variants.{Got}
-use Rattle.records.specs.Places.{Run, fieldAt, fieldOf}
+use Rattle.records.specs.Places.{Run, fieldOf}
 use Rattle.signature.proofs.Checking.{told-sound, told-drawn}
+use Rattle.group.specs.Answers.{HereAt}
 use Rattle.group.specs.Index.{variablesFrom}
+use Rattle.group.specs.declared.reader.Here.the-variants as here
 use Rattle.group.proofs.Listing.{few-before, some-types, some-length, Stored, stored-start, stored-next, Listing, listing-start, listing-next, listing-over, listing-fault}
-use Rattle.group.proofs.Along.{along-fault, along-bad, over-end, over-stop}
+use Rattle.group.proofs.Along.{here-told, along-fault, over-end, over-none}
+use borrow.Author.Needs.{needs}
+use native.Mathlib.Omega.{arith}
 use Rattle.group.proofs.reader.variables.Statement.{statement}
 use Rattle.group.proofs.reader.variables.Tie as tie
 
@@ -28,19 +28,20 @@ abbrev μ-loop : tie.MeasureT-loop
 
 -- Where a W field is read that has no fault: its reading, its check, and that the index has room for it.
 abbrev L : tie.After-enum-told2 Inv-loop μ-loop → tie.At-loop Inv-loop μ-loop
-L c = c .before .before .before .before .before .before .before .before .before
+L c = c .before .before .before .before .before .before .before .before
 
-abbrev G : tie.After-enum-told2 Inv-loop μ-loop → tie.After-f Inv-loop μ-loop
-G c = c .before .before .before .before .before
+abbrev G : tie.After-enum-told2 Inv-loop μ-loop → tie.After-start Inv-loop μ-loop
+G c = c .before .before .before .before
 
 abbrev A : tie.After-enum-told2 Inv-loop μ-loop → tie.Start Inv-loop μ-loop
 A c = L c .before .before
 
-got : (c : tie.After-enum-told2 Inv-loop μ-loop) → fieldAt (A c .args .s .now) (L c .loop .at) ≡ Got letterW (G c .f .given .0 .1 .0) (G c .f .given .0 .1 .1 .0) (G c .f .given .0 .1 .1 .1 .0)
-got c = got-letter _ _ (sym (G c .before .before .read-field .ensures .0) ∙ G c .f .given .1) (c .before .before .before .if1 .left)
+found : (c : tie.After-enum-told2 Inv-loop μ-loop)
+    → HereAt (here.Field (G c .start .given .0 .0) (G c .start .given .0 .1 .0) (G c .start .given .0 .1 .1 .0)) (A c .args .s .now) (L c .loop .at) letterW
+found c = here-told (G c .start .given .1) (G c .before .before .field-here .ensures)
 
 fine : (c : tie.After-enum-told2 Inv-loop μ-loop) (sig : Signature) → length (sig .types) ≡ A c .args .types → (last : Option Field)
-    → none ≡ variableFault sig (L c .loop .count) last (fieldOf (A c .args .s .now) letterW (G c .f .given .0 .1 .0) (G c .f .given .0 .1 .1 .0))
+    → none ≡ variableFault sig (L c .loop .count) last (fieldOf (A c .args .s .now) letterW (G c .start .given .0 .0) (G c .start .given .0 .1 .0))
 fine c sig e last = told-sound (c .before .before .variable-fault .ensures sig letterW last e) (c .enum-told2 .given .1)
 
 few : (c : tie.After-enum-told2 Inv-loop μ-loop) → L c .loop .count < variableLimit
@@ -52,23 +53,20 @@ room c = let f = few c in let l = L c .loop .inv .2 .size in omega arith
 loop-holds : tie.Need-loop-holds Inv-loop μ-loop
 loop-holds c = (search needs, search needs, stored-start (c .before .pre .1), λ sig fs e r. listing-start r)
 
-read-field-requires : tie.Need-read-field-requires Inv-loop μ-loop
-read-field-requires c κs = search needs
+field-here-requires : tie.Need-field-here-requires Inv-loop μ-loop
+field-here-requires c κs = search needs
 
-enum-known-f : tie.Need-enum-known-f Inv-loop μ-loop
-enum-known-f c = search needs
+enum-known-start : tie.Need-enum-known-start Inv-loop μ-loop
+enum-known-start c = search needs
 
 enum-told : tie.Need-enum-told Inv-loop μ-loop
 enum-told c = search needs
 
 returns : tie.Need-returns Inv-loop μ-loop
-returns c = (λ sig fs e r. along-bad (c .before .before .before .before .loop .inv .3 sig fs e r .along) (c .before .before .before .loop-test .taken) (sym (c .before .before .read-field .ensures .0) ∙ c .enum-told .given .1), (tt, c .before .before .before .before .loop .inv .2 .size))
-
-returns-2 : tie.Need-returns-2 Inv-loop μ-loop
-returns-2 c = (λ sig fs e r. let w = c .before .before .before .before .before .before .loop .inv .3 sig fs e r in listing-over w (c .before .before .before .before .before .before .loop .inv .2) (over-stop (w .along) (c .before .before .before .before .before .loop-test .taken) (sym (c .before .before .before .before .read-field .ensures .0) ∙ c .before .before .f .given .1) (c .if1 .taken)), ((c .before .before .before .before .before .before .loop .inv .0, c .before .before .before .before .before .before .loop .inv .1), c .before .before .before .before .before .before .loop .inv .2 .size))
+returns c = (λ sig fs e r. let w = c .before .before .before .before .loop .inv .3 sig fs e r in listing-over w (c .before .before .before .before .loop .inv .2) (over-none (w .along) (c .before .before .before .loop-test .taken) (rw (c .enum-told .given .1) at (c .before .before .field-here .ensures))), ((c .before .before .before .before .loop .inv .0, c .before .before .before .before .loop .inv .1), c .before .before .before .before .loop .inv .2 .size))
 
 variable-fault-requires : tie.Need-variable-fault-requires Inv-loop μ-loop
-variable-fault-requires c κs = let a = rw (c .before .before .f .given .1) at (c .before .before .before .before .read-field .ensures .1) in omega arith
+variable-fault-requires c κs = (rw (c .before .start .given .1) at (c .before .before .before .field-here .ensures)) .is .2
 
 enum-told-2 : tie.Need-enum-told-2 Inv-loop μ-loop
 enum-told-2 c = search needs
@@ -79,8 +77,8 @@ enum-told-3 c = search needs
 drawn-requires : tie.Need-drawn-requires Inv-loop μ-loop
 drawn-requires c κs = search needs
 
-returns-3 : tie.Need-returns-3 Inv-loop μ-loop
-returns-3 c = (λ sig fs e r. let w = c .before .before .before .before .before .before .before .before .before .before .loop .inv .3 sig fs e r in listing-fault w (along-fault (w .along) (c .before .before .before .before .before .before .before .before .before .loop-test .taken) (got-letter _ _ (sym (c .before .before .before .before .before .before .before .before .read-field .ensures .0) ∙ c .before .before .before .before .before .before .f .given .1) (c .before .before .before .before .if1 .left)) (λ last. told-drawn (c .before .before .before .variable-fault .ensures sig _ last e) (c .before .enum-told3 .given .1) (c .drawn .ensures))), (tt, c .before .before .before .before .before .before .before .before .before .before .loop .inv .2 .size))
+returns-2 : tie.Need-returns-2 Inv-loop μ-loop
+returns-2 c = let h = rw (c .before .before .before .before .before .start .given .1) at (c .before .before .before .before .before .before .before .field-here .ensures) in (λ sig fs e r. let w = c .before .before .before .before .before .before .before .before .before .loop .inv .3 sig fs e r in listing-fault w (along-fault (w .along) (c .before .before .before .before .before .before .before .before .loop-test .taken) (h .is .0) (λ last. told-drawn (c .before .before .before .variable-fault .ensures sig _ last e) (c .before .enum-told3 .given .1) (c .drawn .ensures))), (tt, c .before .before .before .before .before .before .before .before .before .loop .inv .2 .size))
 
 cast-index : tie.Need-cast-index Inv-loop μ-loop
 cast-index c = omega arith
@@ -98,13 +96,13 @@ add-count : tie.Need-add-count Inv-loop μ-loop
 add-count c = search needs
 
 loop-less : tie.Need-loop-less Inv-loop μ-loop
-loop-less c = let a = rw (c .before .before .before .before .before .f .given .1) at (c .before .before .before .before .before .before .before .read-field .ensures .1) in omega arith
+loop-less c = let a = found c .is .1 in omega arith
 
 loop-again : tie.Need-loop-again Inv-loop μ-loop
-loop-again c = let a = rw (c .before .before .before .before .before .f .given .1) at (c .before .before .before .before .before .before .before .read-field .ensures .1) in (omega arith, omega arith, stored-next (some-types _) _ (c .before .before .before .before .before .before .before .before .before .loop .inv .2) (got c) (fine c (some-types _) (some-length _) none), λ sig fs e r. listing-next (c .before .before .before .before .before .before .before .before .before .loop .inv .3 sig fs e r) (c .before .before .before .before .before .before .before .before .loop-test .taken) (room c) (got c) (fine c sig e))
+loop-again c = let a = found c .is .1 in let b = found c .is .3 in (omega arith, omega arith, stored-next (some-types _) _ (L c .loop .inv .2) (found c .is .0) (fine c (some-types _) (some-length _) none), λ sig fs e r. listing-next (L c .loop .inv .3 sig fs e r) (c .before .before .before .before .before .before .before .loop-test .taken) (room c) (found c .is .0) (fine c sig e))
 
-returns-4 : tie.Need-returns-4 Inv-loop μ-loop
-returns-4 c = (λ sig fs e r. let w = c .before .loop .inv .3 sig fs e r in listing-over w (c .before .loop .inv .2) (over-end (w .along) (c .loop-test .left)), ((c .before .loop .inv .0, c .before .loop .inv .1), c .before .loop .inv .2 .size))
+returns-3 : tie.Need-returns-3 Inv-loop μ-loop
+returns-3 c = (λ sig fs e r. let w = c .before .loop .inv .3 sig fs e r in listing-over w (c .before .loop .inv .2) (over-end (w .along) (c .loop-test .left)), ((c .before .loop .inv .0, c .before .loop .inv .1), c .before .loop .inv .2 .size))
 
 pub variables-spec : {M : Type 1} → statement M
 variables-spec =
@@ -113,16 +111,15 @@ variables-spec =
     Inv-loop
     μ-loop
     loop-holds
-    read-field-requires
-    enum-known-f
+    field-here-requires
+    enum-known-start
     enum-told
     returns
-    returns-2
     variable-fault-requires
     enum-told-2
     enum-told-3
     drawn-requires
-    returns-3
+    returns-2
     cast-index
     add-index
     mul-index
@@ -130,4 +127,4 @@ variables-spec =
     add-count
     loop-less
     loop-again
-    returns-4)
+    returns-3)

@@ -9,10 +9,10 @@ mul-if1 : tie.Need-mul-if1
 mul-if1 c = search needs
 
 returns : tie.Need-returns
-returns c = λ letter. sym (name-short _ _ _ (c .before .before .pre .1 .1 .0) letter _ _ _ _ _ (c .if1 .taken))
+returns c = λ letter. sym (name-short _ _ _ (c .before .before .before .pre .1 .1 .1 .0) letter _ _ _ _ _ (c .if1 .taken))
 
 returns-2 : tie.Need-returns-2
-returns-2 c = λ letter. sym (name-tests _ _ _ (c .before .before .before .pre .1 .1 .0) letter _ _ _ _ _ (c .before .before .before .pre .1 .1 .1 .0 .0) (c .before .if1 .left) ∙ rw (le-leb _ _ (c .if2 .taken)))
+returns-2 c = λ letter. sym (name-tests _ _ _ (c .before .before .before .before .before .pre .1 .1 .1 .0) letter _ _ _ _ _ (c .before .before .before .before .before .pre .1 .1 .0 .0) (c .before .before .if1 .left) ∙ rw (le-leb _ _ (c .if2 .taken)))
 
 sub-num : tie.Need-sub-num
 sub-num c = search needs
@@ -30,13 +30,13 @@ has-element-requires : tie.Need-has-element-requires
 has-element-requires c κs = search needs
 
 returns-3 : tie.Need-returns-3
-returns-3 c = λ letter. sym (name-tests _ _ _ (c .before .before .before .before .before .before .pre .1 .1 .0) letter _ _ _ _ _ (c .before .before .before .before .before .before .pre .1 .1 .1 .0 .0) (c .before .before .before .before .if1 .left) ∙ rw (lt-leb _ _ (c .before .before .before .if2 .left), ← (c .before .before .num .ensures), ← (c .before .has-element .ensures), c .if3 .taken))
+returns-3 c = λ letter. sym (name-tests _ _ _ (c .before .before .before .before .before .before .before .before .before .pre .1 .1 .1 .0) letter _ _ _ _ _ (c .before .before .before .before .before .before .before .before .before .pre .1 .1 .0 .0) (c .before .before .before .before .before .before .if1 .left) ∙ rw (lt-leb _ _ (c .before .before .before .before .if2 .left), ← (c .before .before .num .ensures), ← (c .before .has-element .ensures), c .if3 .taken))
 
 not-above-requires : tie.Need-not-above-requires
 not-above-requires c κs = search needs
 
 returns-4 : tie.Need-returns-4
-returns-4 c = λ letter. sym (name-tests _ _ _ (c .before .before .before .before .before .before .before .before .pre .1 .1 .0) letter _ _ _ _ _ (c .before .before .before .before .before .before .before .before .pre .1 .1 .1 .0 .0) (c .before .before .before .before .before .before .if1 .left) ∙ rw (lt-leb _ _ (c .before .before .before .before .before .if2 .left), ← (c .before .before .before .before .num .ensures), ← (c .before .before .before .has-element .ensures), c .before .before .if3 .left, ← (c .before .not-above .ensures letter), c .if4 .taken))
+returns-4 c = λ letter. sym (name-tests _ _ _ (c .before .before .before .before .before .before .before .before .before .before .before .pre .1 .1 .1 .0) letter _ _ _ _ _ (c .before .before .before .before .before .before .before .before .before .before .before .pre .1 .1 .0 .0) (c .before .before .before .before .before .before .before .before .if1 .left) ∙ rw (lt-leb _ _ (c .before .before .before .before .before .before .if2 .left), ← (c .before .before .before .before .num .ensures), ← (c .before .before .before .has-element .ensures), c .before .before .if3 .left, ← (c .before .not-above .ensures letter), c .if4 .taken))
 
 mul-bad-name : tie.Need-mul-bad-name
 mul-bad-name c = search needs
@@ -54,10 +54,10 @@ bad-name-requires : tie.Need-bad-name-requires
 bad-name-requires c κs = search needs
 
 returns-5 : tie.Need-returns-5
-returns-5 c = λ letter. sym (name-tests _ _ _ (c .before .before .before .before .before .before .before .before .before .before .pre .1 .1 .0) letter _ _ _ _ _ (c .before .before .before .before .before .before .before .before .before .before .pre .1 .1 .1 .0 .0) (c .before .before .before .before .before .before .before .before .if1 .left) ∙ rw (lt-leb _ _ (c .before .before .before .before .before .before .before .if2 .left), ← (c .before .before .before .before .before .before .num .ensures), ← (c .before .before .before .before .before .has-element .ensures), c .before .before .before .before .if3 .left, ← (c .before .before .before .not-above .ensures letter), c .before .before .if4 .left, ← (c .before .bad-name .ensures), c .if5 .taken))
+returns-5 c = λ letter. sym (name-tests _ _ _ (c .before .before .before .before .before .before .before .before .before .before .before .before .before .before .before .pre .1 .1 .1 .0) letter _ _ _ _ _ (c .before .before .before .before .before .before .before .before .before .before .before .before .before .before .before .pre .1 .1 .0 .0) (c .before .before .before .before .before .before .before .before .before .before .before .before .if1 .left) ∙ rw (lt-leb _ _ (c .before .before .before .before .before .before .before .before .before .before .if2 .left), ← (c .before .before .before .before .before .before .before .before .num .ensures), ← (c .before .before .before .before .before .before .before .has-element .ensures), c .before .before .before .before .before .before .if3 .left, ← (c .before .before .before .before .before .not-above .ensures letter), c .before .before .before .before .if4 .left, ← (c .before .bad-name .ensures), c .if5 .taken))
 
 returns-6 : tie.Need-returns-6
-returns-6 c = λ letter. sym (name-tests _ _ _ (c .before .before .before .before .before .before .before .before .before .before .pre .1 .1 .0) letter _ _ _ _ _ (c .before .before .before .before .before .before .before .before .before .before .pre .1 .1 .1 .0 .0) (c .before .before .before .before .before .before .before .before .if1 .left) ∙ rw (lt-leb _ _ (c .before .before .before .before .before .before .before .if2 .left), ← (c .before .before .before .before .before .before .num .ensures), ← (c .before .before .before .before .before .has-element .ensures), c .before .before .before .before .if3 .left, ← (c .before .before .before .not-above .ensures letter), c .before .before .if4 .left, ← (c .before .bad-name .ensures), c .if5 .left))
+returns-6 c = λ letter. sym (name-tests _ _ _ (c .before .before .before .before .before .before .before .before .before .before .before .before .before .before .before .pre .1 .1 .1 .0) letter _ _ _ _ _ (c .before .before .before .before .before .before .before .before .before .before .before .before .before .before .before .pre .1 .1 .0 .0) (c .before .before .before .before .before .before .before .before .before .before .before .before .if1 .left) ∙ rw (lt-leb _ _ (c .before .before .before .before .before .before .before .before .before .before .if2 .left), ← (c .before .before .before .before .before .before .before .before .num .ensures), ← (c .before .before .before .before .before .before .before .has-element .ensures), c .before .before .before .before .before .before .if3 .left, ← (c .before .before .before .before .before .not-above .ensures letter), c .before .before .before .before .if4 .left, ← (c .before .bad-name .ensures), c .if5 .left))
 
 pub name-fault-spec : {M : Type 1} → statement M
 name-fault-spec =

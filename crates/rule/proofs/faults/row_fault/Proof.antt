@@ -16,10 +16,10 @@ returns : tie.Need-returns
 returns c = λ letter. sym (row-short _ _ _ (c .before .before .before .before .pre .1 .1 .1 .0) letter _ _ _ _ _ _ (sym (c .before .not-numbers .ensures) ∙ c .if1 .taken))
 
 returns-2 : tie.Need-returns-2
-returns-2 c = λ letter. sym (row-tests _ _ _ (c .before .before .before .before .before .pre .1 .1 .1 .0) letter _ _ _ _ _ _ (sym (c .before .before .not-numbers .ensures) ∙ c .before .if1 .left) (row-long _ _ (sym (c .before .before .not-numbers .ensures) ∙ c .before .if1 .left)) ∙ rw (le-leb _ _ (c .if2 .taken)))
+returns-2 c = λ letter. sym (row-tests _ _ _ (c .before .before .before .before .before .before .pre .1 .1 .1 .0) letter _ _ _ _ _ _ (sym (c .before .before .before .not-numbers .ensures) ∙ c .before .before .if1 .left) (row-long _ _ (sym (c .before .before .before .not-numbers .ensures) ∙ c .before .before .if1 .left)) ∙ rw (le-leb _ _ (c .if2 .taken)))
 
 num-requires : tie.Need-num-requires
-num-requires c κs = let l = row-long (c .before .before .before .before .before .args .len) (c .before .before .before .before .before .args .results) (sym (c .before .before .not-numbers .ensures) ∙ c .before .if1 .left) in omega arith
+num-requires c κs = let l = row-long (c .before .before .before .before .before .before .args .f .len) (c .before .before .before .before .before .before .args .results) (sym (c .before .before .before .not-numbers .ensures) ∙ c .before .before .if1 .left) in omega arith
 
 row-symbols-requires : tie.Need-row-symbols-requires
 row-symbols-requires c κs = search needs
@@ -28,37 +28,37 @@ cast-if3 : tie.Need-cast-if3
 cast-if3 c = search needs
 
 returns-3 : tie.Need-returns-3
-returns-3 c = λ letter. sym (row-tests _ _ _ (c .before .before .before .before .before .before .before .before .pre .1 .1 .1 .0) letter _ _ _ _ _ _ (sym (c .before .before .before .before .before .not-numbers .ensures) ∙ c .before .before .before .before .if1 .left) (row-long _ _ (sym (c .before .before .before .before .before .not-numbers .ensures) ∙ c .before .before .before .before .if1 .left)) ∙ rw (lt-leb _ _ (c .before .before .before .if2 .left), ← (c .before .before .num .ensures), preds-length, funcs-length, ← (c .before .row-symbols .ensures), le-ltb _ _ (c .if3 .taken)))
+returns-3 c = λ letter. sym (row-tests _ _ _ (c .before .before .before .before .before .before .before .before .before .pre .1 .1 .1 .0) letter _ _ _ _ _ _ (sym (c .before .before .before .before .before .before .not-numbers .ensures) ∙ c .before .before .before .before .before .if1 .left) (row-long _ _ (sym (c .before .before .before .before .before .before .not-numbers .ensures) ∙ c .before .before .before .before .before .if1 .left)) ∙ rw (lt-leb _ _ (c .before .before .before .if2 .left), ← (c .before .before .num .ensures), preds-length, funcs-length, ← (c .before .row-symbols .ensures), le-ltb _ _ (c .if3 .taken)))
 
 add-elements-named : tie.Need-add-elements-named
 add-elements-named c = search needs
 
 sub-elements-named : tie.Need-sub-elements-named
-sub-elements-named c = let l = row-long (c .before .before .before .before .before .before .before .before .args .len) (c .before .before .before .before .before .before .before .before .args .results) (sym (c .before .before .before .before .before .not-numbers .ensures) ∙ c .before .before .before .before .if1 .left) in omega arith
+sub-elements-named c = let l = row-long (c .before .before .before .before .before .before .before .before .before .before .before .args .f .len) (c .before .before .before .before .before .before .before .before .before .before .before .args .results) (sym (c .before .before .before .before .before .before .before .before .not-numbers .ensures) ∙ c .before .before .before .before .before .before .before .if1 .left) in omega arith
 
 elements-named-requires : tie.Need-elements-named-requires
-elements-named-requires c κs = let l = row-long (c .before .before .before .before .before .before .before .before .args .len) (c .before .before .before .before .before .before .before .before .args .results) (sym (c .before .before .before .before .before .not-numbers .ensures) ∙ c .before .before .before .before .if1 .left) in (c .before .before .before .before .before .before .before .before .pre .1 .0, (c .before .before .before .before .before .before .before .before .pre .1 .1 .0, omega arith))
+elements-named-requires c κs = let l = row-long (c .before .before .before .before .before .before .before .before .before .before .before .args .f .len) (c .before .before .before .before .before .before .before .before .before .before .before .args .results) (sym (c .before .before .before .before .before .before .before .before .not-numbers .ensures) ∙ c .before .before .before .before .before .before .before .if1 .left) in (c .before .before .before .before .before .before .before .before .before .before .before .pre .1 .0 .0, (c .before .before .before .before .before .before .before .before .before .before .before .pre .1 .1 .0, omega arith))
 
 returns-4 : tie.Need-returns-4
-returns-4 c = λ letter. sym (row-tests _ _ _ (c .before .before .before .before .before .before .before .before .before .before .pre .1 .1 .1 .0) letter _ _ _ _ _ _ (sym (c .before .before .before .before .before .before .before .not-numbers .ensures) ∙ c .before .before .before .before .before .before .if1 .left) (row-long _ _ (sym (c .before .before .before .before .before .before .before .not-numbers .ensures) ∙ c .before .before .before .before .before .before .if1 .left)) ∙ rw (lt-leb _ _ (c .before .before .before .before .before .if2 .left), ← (c .before .before .before .before .num .ensures), preds-length, funcs-length, ← (c .before .before .before .row-symbols .ensures), lt-ltb _ _ (c .before .before .if3 .left), ← (c .before .elements-named .ensures), c .if4 .taken))
+returns-4 c = λ letter. sym (row-tests _ _ _ (c .before .before .before .before .before .before .before .before .before .before .before .before .before .pre .1 .1 .1 .0) letter _ _ _ _ _ _ (sym (c .before .before .before .before .before .before .before .before .before .before .not-numbers .ensures) ∙ c .before .before .before .before .before .before .before .before .before .if1 .left) (row-long _ _ (sym (c .before .before .before .before .before .before .before .before .before .before .not-numbers .ensures) ∙ c .before .before .before .before .before .before .before .before .before .if1 .left)) ∙ rw (lt-leb _ _ (c .before .before .before .before .before .before .before .if2 .left), ← (c .before .before .before .before .before .before .num .ensures), preds-length, funcs-length, ← (c .before .before .before .before .before .row-symbols .ensures), lt-ltb _ _ (c .before .before .before .before .if3 .left), ← (c .before .elements-named .ensures), c .if4 .taken))
 
 row-not-above-requires : tie.Need-row-not-above-requires
 row-not-above-requires c κs = search needs
 
 returns-5 : tie.Need-returns-5
-returns-5 c = λ letter. sym (row-tests _ _ _ (c .before .before .before .before .before .before .before .before .before .before .before .before .pre .1 .1 .1 .0) letter _ _ _ _ _ _ (sym (c .before .before .before .before .before .before .before .before .before .not-numbers .ensures) ∙ c .before .before .before .before .before .before .before .before .if1 .left) (row-long _ _ (sym (c .before .before .before .before .before .before .before .before .before .not-numbers .ensures) ∙ c .before .before .before .before .before .before .before .before .if1 .left)) ∙ rw (lt-leb _ _ (c .before .before .before .before .before .before .before .if2 .left), ← (c .before .before .before .before .before .before .num .ensures), preds-length, funcs-length, ← (c .before .before .before .before .before .row-symbols .ensures), lt-ltb _ _ (c .before .before .before .before .if3 .left), ← (c .before .before .before .elements-named .ensures), c .before .before .if4 .left, ← (c .before .row-not-above .ensures letter), c .if5 .taken))
+returns-5 c = λ letter. sym (row-tests _ _ _ (c .before .before .before .before .before .before .before .before .before .before .before .before .before .before .before .pre .1 .1 .1 .0) letter _ _ _ _ _ _ (sym (c .before .before .before .before .before .before .before .before .before .before .before .before .not-numbers .ensures) ∙ c .before .before .before .before .before .before .before .before .before .before .before .if1 .left) (row-long _ _ (sym (c .before .before .before .before .before .before .before .before .before .before .before .before .not-numbers .ensures) ∙ c .before .before .before .before .before .before .before .before .before .before .before .if1 .left)) ∙ rw (lt-leb _ _ (c .before .before .before .before .before .before .before .before .before .if2 .left), ← (c .before .before .before .before .before .before .before .before .num .ensures), preds-length, funcs-length, ← (c .before .before .before .before .before .before .before .row-symbols .ensures), lt-ltb _ _ (c .before .before .before .before .before .before .if3 .left), ← (c .before .before .before .elements-named .ensures), c .before .before .if4 .left, ← (c .before .row-not-above .ensures letter), c .if5 .taken))
 
 sub-if6 : tie.Need-sub-if6
-sub-if6 c = let l = row-long (c .before .before .before .before .before .before .before .before .before .before .before .before .args .len) (c .before .before .before .before .before .before .before .before .before .before .before .before .args .results) (sym (c .before .before .before .before .before .before .before .before .before .not-numbers .ensures) ∙ c .before .before .before .before .before .before .before .before .if1 .left) in omega arith
+sub-if6 c = let l = row-long (c .before .before .before .before .before .before .before .before .before .before .before .before .before .before .before .before .args .f .len) (c .before .before .before .before .before .before .before .before .before .before .before .before .before .before .before .before .args .results) (sym (c .before .before .before .before .before .before .before .before .before .before .before .before .before .not-numbers .ensures) ∙ c .before .before .before .before .before .before .before .before .before .before .before .before .if1 .left) in omega arith
 
 row-columns-requires : tie.Need-row-columns-requires
-row-columns-requires c κs = (c .before .before .before .before .before .before .before .before .before .before .before .before .pre .0, rw (c .before .before .before .before .before .row-symbols .ensures) at (c .before .before .before .before .if3 .left))
+row-columns-requires c κs = (c .before .before .before .before .before .before .before .before .before .before .before .before .before .before .before .before .pre .0, rw (c .before .before .before .before .before .before .before .before .row-symbols .ensures) at (c .before .before .before .before .before .before .before .if3 .left))
 
 returns-6 : tie.Need-returns-6
-returns-6 c = λ letter. sym (row-tests _ _ _ (c .before .before .before .before .before .before .before .before .before .before .before .before .before .before .pre .1 .1 .1 .0) letter _ _ _ _ _ _ (sym (c .before .before .before .before .before .before .before .before .before .before .before .not-numbers .ensures) ∙ c .before .before .before .before .before .before .before .before .before .before .if1 .left) (row-long _ _ (sym (c .before .before .before .before .before .before .before .before .before .before .before .not-numbers .ensures) ∙ c .before .before .before .before .before .before .before .before .before .before .if1 .left)) ∙ rw (lt-leb _ _ (c .before .before .before .before .before .before .before .before .before .if2 .left), ← (c .before .before .before .before .before .before .before .before .num .ensures), preds-length, funcs-length, ← (c .before .before .before .before .before .before .before .row-symbols .ensures), lt-ltb _ _ (c .before .before .before .before .before .before .if3 .left), ← (c .before .before .before .before .before .elements-named .ensures), c .before .before .before .before .if4 .left, ← (c .before .before .before .row-not-above .ensures letter), c .before .before .if5 .left, ← (c .before .row-columns .ensures), ne-eqb _ _ (c .if6 .taken)))
+returns-6 c = λ letter. sym (row-tests _ _ _ (c .before .before .before .before .before .before .before .before .before .before .before .before .before .before .before .before .before .before .pre .1 .1 .1 .0) letter _ _ _ _ _ _ (sym (c .before .before .before .before .before .before .before .before .before .before .before .before .before .before .before .not-numbers .ensures) ∙ c .before .before .before .before .before .before .before .before .before .before .before .before .before .before .if1 .left) (row-long _ _ (sym (c .before .before .before .before .before .before .before .before .before .before .before .before .before .before .before .not-numbers .ensures) ∙ c .before .before .before .before .before .before .before .before .before .before .before .before .before .before .if1 .left)) ∙ rw (lt-leb _ _ (c .before .before .before .before .before .before .before .before .before .before .before .before .if2 .left), ← (c .before .before .before .before .before .before .before .before .before .before .before .num .ensures), preds-length, funcs-length, ← (c .before .before .before .before .before .before .before .before .before .before .row-symbols .ensures), lt-ltb _ _ (c .before .before .before .before .before .before .before .before .before .if3 .left), ← (c .before .before .before .before .before .before .elements-named .ensures), c .before .before .before .before .before .if4 .left, ← (c .before .before .before .before .row-not-above .ensures letter), c .before .before .before .if5 .left, ← (c .before .row-columns .ensures), ne-eqb _ _ (c .if6 .taken)))
 
 returns-7 : tie.Need-returns-7
-returns-7 c = λ letter. sym (row-tests _ _ _ (c .before .before .before .before .before .before .before .before .before .before .before .before .before .before .pre .1 .1 .1 .0) letter _ _ _ _ _ _ (sym (c .before .before .before .before .before .before .before .before .before .before .before .not-numbers .ensures) ∙ c .before .before .before .before .before .before .before .before .before .before .if1 .left) (row-long _ _ (sym (c .before .before .before .before .before .before .before .before .before .before .before .not-numbers .ensures) ∙ c .before .before .before .before .before .before .before .before .before .before .if1 .left)) ∙ rw (lt-leb _ _ (c .before .before .before .before .before .before .before .before .before .if2 .left), ← (c .before .before .before .before .before .before .before .before .num .ensures), preds-length, funcs-length, ← (c .before .before .before .before .before .before .before .row-symbols .ensures), lt-ltb _ _ (c .before .before .before .before .before .before .if3 .left), ← (c .before .before .before .before .before .elements-named .ensures), c .before .before .before .before .if4 .left, ← (c .before .before .before .row-not-above .ensures letter), c .before .before .if5 .left, ← (c .before .row-columns .ensures), eq-eqb _ _ (c .if6 .left)))
+returns-7 c = λ letter. sym (row-tests _ _ _ (c .before .before .before .before .before .before .before .before .before .before .before .before .before .before .before .before .before .before .pre .1 .1 .1 .0) letter _ _ _ _ _ _ (sym (c .before .before .before .before .before .before .before .before .before .before .before .before .before .before .before .not-numbers .ensures) ∙ c .before .before .before .before .before .before .before .before .before .before .before .before .before .before .if1 .left) (row-long _ _ (sym (c .before .before .before .before .before .before .before .before .before .before .before .before .before .before .before .not-numbers .ensures) ∙ c .before .before .before .before .before .before .before .before .before .before .before .before .before .before .if1 .left)) ∙ rw (lt-leb _ _ (c .before .before .before .before .before .before .before .before .before .before .before .before .if2 .left), ← (c .before .before .before .before .before .before .before .before .before .before .before .num .ensures), preds-length, funcs-length, ← (c .before .before .before .before .before .before .before .before .before .before .row-symbols .ensures), lt-ltb _ _ (c .before .before .before .before .before .before .before .before .before .if3 .left), ← (c .before .before .before .before .before .before .elements-named .ensures), c .before .before .before .before .before .if4 .left, ← (c .before .before .before .before .row-not-above .ensures letter), c .before .before .before .if5 .left, ← (c .before .row-columns .ensures), eq-eqb _ _ (c .if6 .left)))
 
 pub row-fault-spec : {M : Type 1} → statement M
 row-fault-spec =

@@ -30,11 +30,11 @@ enum-known-f c = search needs
 enum-told : tie.Need-enum-told Inv-loop μ-loop
 enum-told c = search needs
 
-fill-requires : tie.Need-fill-requires Inv-loop μ-loop
-fill-requires c κs = ((section-in (c .before .before .before .before .before .loop .inv .1), search needs, short (c .before .before .before .before .before .loop .inv .1) (c .before .before .before .before .before .before .before .pre .0)), c .before .before .before .before .before .loop .inv .0)
+ended-requires : tie.Need-ended-requires Inv-loop μ-loop
+ended-requires c κs = ((section-in (c .before .before .before .before .before .loop .inv .1), short (c .before .before .before .before .before .loop .inv .1) (c .before .before .before .before .before .before .before .pre .0)), c .before .before .before .before .before .loop .inv .0)
 
 returns : tie.Need-returns Inv-loop μ-loop
-returns c = (pass-bad (c .before .before .before .before .before .before .loop .inv .1) _ (c .fill .ensures .0) (c .before .before .before .before .before .loop-test .taken) (sym (c .before .before .before .before .read-field .ensures .0) ∙ c .before .before .enum-told .given .1), c .fill .ensures .1)
+returns c = (rw (c .ended .ensures .0 .0, c .ended .ensures .0 .1) (pass-bad (c .before .before .before .before .before .before .loop .inv .1) _ (c .ended .ensures .1 .0) (c .before .before .before .before .before .loop-test .taken) (sym (c .before .before .before .before .read-field .ensures .0) ∙ c .before .before .enum-told .given .1)), c .ended .ensures .1 .1)
 
 place-requires : tie.Need-place-requires Inv-loop μ-loop
 place-requires c κs = search needs
@@ -42,38 +42,38 @@ place-requires c κs = search needs
 may-follow-requires : tie.Need-may-follow-requires Inv-loop μ-loop
 may-follow-requires c κs = search needs
 
-fill-requires-2 : tie.Need-fill-requires-2 Inv-loop μ-loop
-fill-requires-2 c κs = ((section-in (c .before .before .before .before .before .before .before .before .before .loop .inv .1), search needs, short (c .before .before .before .before .before .before .before .before .before .loop .inv .1) (c .before .before .before .before .before .before .before .before .before .before .before .pre .0)), c .before .before .before .before .before .before .before .before .before .loop .inv .0)
+ended-requires-2 : tie.Need-ended-requires-2 Inv-loop μ-loop
+ended-requires-2 c κs = ((section-in (c .before .before .before .before .before .before .before .before .before .loop .inv .1), short (c .before .before .before .before .before .before .before .before .before .loop .inv .1) (c .before .before .before .before .before .before .before .before .before .before .before .pre .0)), c .before .before .before .before .before .before .before .before .before .loop .inv .0)
 
 returns-2 : tie.Need-returns-2 Inv-loop μ-loop
-returns-2 c = (pass-stop (c .before .before .before .before .before .before .before .before .before .before .loop .inv .1) _ (c .fill2 .ensures .0) _ _ _ _ _ (sym (c .before .before .before .before .before .before .before .before .read-field .ensures .0) ∙ c .before .before .before .before .before .before .f .given .1) (c .before .before .before .before .place .ensures) (sym (c .before .before .before .may-follow .ensures) ∙ not-true _ (c .before .before .if1 .taken)), c .fill2 .ensures .1)
+returns-2 c = (rw (c .ended2 .ensures .0 .0, c .ended2 .ensures .0 .1) (pass-stop (c .before .before .before .before .before .before .before .before .before .before .loop .inv .1) _ (c .ended2 .ensures .1 .0) _ _ _ _ _ (sym (c .before .before .before .before .before .before .before .before .read-field .ensures .0) ∙ c .before .before .before .before .before .before .f .given .1) (c .before .before .before .before .place .ensures) (sym (c .before .before .before .may-follow .ensures) ∙ not-true _ (c .before .before .if1 .taken))), c .ended2 .ensures .1 .1)
 
 counted-requires : tie.Need-counted-requires Inv-loop μ-loop
 counted-requires c κs = let h = c .before .before .before .before .before .before .before .before .loop .inv .1 .few in omega arith
 
-fill-requires-3 : tie.Need-fill-requires-3 Inv-loop μ-loop
-fill-requires-3 c κs = ((section-in (c .before .before .before .before .before .before .before .before .before .before .before .loop .inv .1), search needs, short (c .before .before .before .before .before .before .before .before .before .before .before .loop .inv .1) (c .before .before .before .before .before .before .before .before .before .before .before .before .before .pre .0)), c .before .before .before .before .before .before .before .before .before .before .before .loop .inv .0)
+ended-requires-3 : tie.Need-ended-requires-3 Inv-loop μ-loop
+ended-requires-3 c κs = ((section-in (c .before .before .before .before .before .before .before .before .before .before .before .loop .inv .1), short (c .before .before .before .before .before .before .before .before .before .before .before .loop .inv .1) (c .before .before .before .before .before .before .before .before .before .before .before .before .before .pre .0)), c .before .before .before .before .before .before .before .before .before .before .before .loop .inv .0)
 
 returns-3 : tie.Need-returns-3 Inv-loop μ-loop
-returns-3 c = (rw (c .before .before .before .counted .ensures) (pass-over (c .before .before .before .before .before .before .before .before .before .before .before .before .loop .inv .1) _ (c .fill3 .ensures .0) _ _ _ _ _ (sym (c .before .before .before .before .before .before .before .before .before .before .read-field .ensures .0) ∙ c .before .before .before .before .before .before .before .before .f .given .1) (c .before .before .before .before .before .before .place .ensures) (sym (c .before .before .before .before .before .may-follow .ensures) ∙ not-false _ (c .before .before .before .before .if1 .left)) (rw (← (c .before .before .before .counted .ensures)) (c .before .before .if2 .taken))), c .fill3 .ensures .1)
+returns-3 c = (rw (c .ended3 .ensures .0 .0, c .ended3 .ensures .0 .1) (rw (c .before .before .before .counted .ensures) (pass-over (c .before .before .before .before .before .before .before .before .before .before .before .before .loop .inv .1) _ (c .ended3 .ensures .1 .0) _ _ _ _ _ (sym (c .before .before .before .before .before .before .before .before .before .before .read-field .ensures .0) ∙ c .before .before .before .before .before .before .before .before .f .given .1) (c .before .before .before .before .before .before .place .ensures) (sym (c .before .before .before .before .before .may-follow .ensures) ∙ not-false _ (c .before .before .before .before .if1 .left)) (rw (← (c .before .before .before .counted .ensures)) (c .before .before .if2 .taken)))), c .ended3 .ensures .1 .1)
 
 section-of-requires : tie.Need-section-of-requires Inv-loop μ-loop
 section-of-requires c κs = ((c .if2 .left, place-in (c .before .before .before .before .before .before .before .before .before .before .loop .inv .1) _ (sym (c .before .before .before .may-follow .ensures) ∙ not-false _ (c .before .before .if1 .left)) .1), rw (c .before .counted .ensures) (some-structure (c .before .before .before .before .before .before .before .before .before .before .loop .inv .1) _ (sym (c .before .before .before .may-follow .ensures) ∙ not-false _ (c .before .before .if1 .left))))
 
-fill-requires-4 : tie.Need-fill-requires-4 Inv-loop μ-loop
-fill-requires-4 c κs = rw (c .before .section-of .ensures, c .before .before .before .counted .ensures) ((section-next (c .before .before .before .before .before .before .before .before .before .before .before .before .loop .inv .1) _ (sym (c .before .before .before .before .before .may-follow .ensures) ∙ not-false _ (c .before .before .before .before .if1 .left)), next-in (c .before .before .before .before .before .before .before .before .before .before .before .before .loop .inv .1) _ (sym (c .before .before .before .before .before .may-follow .ensures) ∙ not-false _ (c .before .before .before .before .if1 .left)) (rw (← (c .before .before .before .counted .ensures)) (c .before .before .if2 .left)), short (c .before .before .before .before .before .before .before .before .before .before .before .before .loop .inv .1) (c .before .before .before .before .before .before .before .before .before .before .before .before .before .before .pre .0)), c .before .before .before .before .before .before .before .before .before .before .before .before .loop .inv .0)
+fill-requires : tie.Need-fill-requires Inv-loop μ-loop
+fill-requires c κs = rw (c .before .section-of .ensures, c .before .before .before .counted .ensures) ((section-next (c .before .before .before .before .before .before .before .before .before .before .before .before .loop .inv .1) _ (sym (c .before .before .before .before .before .may-follow .ensures) ∙ not-false _ (c .before .before .before .before .if1 .left)), next-in (c .before .before .before .before .before .before .before .before .before .before .before .before .loop .inv .1) _ (sym (c .before .before .before .before .before .may-follow .ensures) ∙ not-false _ (c .before .before .before .before .if1 .left)) (rw (← (c .before .before .before .counted .ensures)) (c .before .before .if2 .left)), short (c .before .before .before .before .before .before .before .before .before .before .before .before .loop .inv .1) (c .before .before .before .before .before .before .before .before .before .before .before .before .before .before .pre .0)), c .before .before .before .before .before .before .before .before .before .before .before .before .loop .inv .0)
 
 loop-less : tie.Need-loop-less Inv-loop μ-loop
 loop-less c = let a = rw (c .before .before .before .before .before .before .before .before .before .f .given .1) at (c .before .before .before .before .before .before .before .before .before .before .before .read-field .ensures .1) in omega arith
 
 loop-again : tie.Need-loop-again Inv-loop μ-loop
-loop-again c = (c .fill4 .ensures .1, rw (c .before .before .section-of .ensures, c .before .before .before .before .counted .ensures) (pass-next (c .before .before .before .before .before .before .before .before .before .before .before .before .before .loop .inv .1) _ _ _ _ _ _ (sym (c .before .before .before .before .before .before .before .before .before .before .before .read-field .ensures .0) ∙ c .before .before .before .before .before .before .before .before .before .f .given .1) (c .before .before .before .before .before .before .before .place .ensures) (sym (c .before .before .before .before .before .before .may-follow .ensures) ∙ not-false _ (c .before .before .before .before .before .if1 .left)) (rw (← (c .before .before .before .before .counted .ensures)) (c .before .before .before .if2 .left)) (rw (c .before .before .section-of .ensures, c .before .before .before .before .counted .ensures) at (c .fill4 .ensures .0))))
+loop-again c = (c .fill .ensures .1, rw (c .before .before .section-of .ensures, c .before .before .before .before .counted .ensures) (pass-next (c .before .before .before .before .before .before .before .before .before .before .before .before .before .loop .inv .1) _ _ _ _ _ _ (sym (c .before .before .before .before .before .before .before .before .before .before .before .read-field .ensures .0) ∙ c .before .before .before .before .before .before .before .before .before .f .given .1) (c .before .before .before .before .before .before .before .place .ensures) (sym (c .before .before .before .before .before .before .may-follow .ensures) ∙ not-false _ (c .before .before .before .before .before .if1 .left)) (rw (← (c .before .before .before .before .counted .ensures)) (c .before .before .before .if2 .left)) (rw (c .before .before .section-of .ensures, c .before .before .before .before .counted .ensures) at (c .fill .ensures .0))))
 
-fill-requires-5 : tie.Need-fill-requires-5 Inv-loop μ-loop
-fill-requires-5 c κs = ((section-in (c .before .before .loop .inv .1), search needs, short (c .before .before .loop .inv .1) (c .before .before .before .before .pre .0)), c .before .before .loop .inv .0)
+ended-requires-4 : tie.Need-ended-requires-4 Inv-loop μ-loop
+ended-requires-4 c κs = ((section-in (c .before .before .loop .inv .1), short (c .before .before .loop .inv .1) (c .before .before .before .before .pre .0)), c .before .before .loop .inv .0)
 
 returns-4 : tie.Need-returns-4 Inv-loop μ-loop
-returns-4 c = (pass-end (c .before .before .before .loop .inv .1) _ (c .fill5 .ensures .0) (c .before .before .loop-test .left), c .fill5 .ensures .1)
+returns-4 c = (rw (c .ended4 .ensures .0 .0, c .ended4 .ensures .0 .1) (pass-end (c .before .before .before .loop .inv .1) _ (c .ended4 .ensures .1 .0) (c .before .before .loop-test .left)), c .ended4 .ensures .1 .1)
 
 pub pass-spec : {M : Type 1} → statement M
 pass-spec =
@@ -86,18 +86,18 @@ pass-spec =
     read-field-requires
     enum-known-f
     enum-told
-    fill-requires
+    ended-requires
     returns
     place-requires
     may-follow-requires
-    fill-requires-2
+    ended-requires-2
     returns-2
     counted-requires
-    fill-requires-3
+    ended-requires-3
     returns-3
     section-of-requires
-    fill-requires-4
+    fill-requires
     loop-less
     loop-again
-    fill-requires-5
+    ended-requires-4
     returns-4)

@@ -36,8 +36,11 @@ enum-told c = search needs
 returns : tie.Need-returns Inv-loop μ-loop
 returns c = (λ body r. check-bad (c .before .before .before .before .loop .inv .2 body r .checking) (c .before .before .before .loop-test .taken) (sym (c .before .before .read-field .ensures .0) ∙ c .enum-told .given .1), (λ body r. holds-not, (store-fault (c .before .before .before .before .loop .inv .1) (c .before .before .before .before .before .before .before .pre .1 .1 .1), c .before .before .before .before .loop .inv .1 .long)))
 
+spot-of-requires : tie.Need-spot-of-requires Inv-loop μ-loop
+spot-of-requires c κs = search needs
+
 element-fault-requires : tie.Need-element-fault-requires Inv-loop μ-loop
-element-fault-requires c κs = let a = rw (c .before .f .given .1) at (c .before .before .before .read-field .ensures .1) in (c .before .before .before .before .before .before .before .before .pre .0, (omega arith, c .before .before .before .before .before .loop .inv .0))
+element-fault-requires c κs = let a = rw (c .before .before .f .given .1) at (c .before .before .before .before .read-field .ensures .1) in rw (c .spot-of .ensures) (c .before .before .before .before .before .before .before .before .before .pre .0, (omega arith, c .before .before .before .before .before .before .loop .inv .0))
 
 enum-told-2 : tie.Need-enum-told-2 Inv-loop μ-loop
 enum-told-2 c = search needs
@@ -46,10 +49,10 @@ enum-told-3 : tie.Need-enum-told-3 Inv-loop μ-loop
 enum-told-3 c = search needs
 
 returns-2 : tie.Need-returns-2 Inv-loop μ-loop
-returns-2 c = (λ body r. check-fault (c .before .before .before .before .before .before .before .before .loop .inv .2 body r .checking) (c .before .before .before .before .before .before .before .loop-test .taken) (sym (c .before .before .before .before .before .before .read-field .ensures .0) ∙ c .before .before .before .before .f .given .1) (c .enum-told3 .given .1) (c .before .before .element-fault .ensures .0 body letterE r), rw (c .enum-told3 .given .1) (λ body r. holds-not, (store-fault (c .before .before .before .before .before .before .before .before .loop .inv .1) (c .before .before .before .before .before .before .before .before .before .before .before .pre .1 .1 .1), c .before .before .before .before .before .before .before .before .loop .inv .1 .long)))
+returns-2 c = (λ body r. check-fault (c .before .before .before .before .before .before .before .before .before .loop .inv .2 body r .checking) (c .before .before .before .before .before .before .before .before .loop-test .taken) (sym (c .before .before .before .before .before .before .before .read-field .ensures .0) ∙ c .before .before .before .before .before .f .given .1) (c .enum-told3 .given .1) (rw (c .before .before .before .spot-of .ensures) at (c .before .before .element-fault .ensures .0 body letterE r)), rw (c .enum-told3 .given .1) (λ body r. holds-not, (store-fault (c .before .before .before .before .before .before .before .before .before .loop .inv .1) (c .before .before .before .before .before .before .before .before .before .before .before .before .pre .1 .1 .1), c .before .before .before .before .before .before .before .before .before .loop .inv .1 .long)))
 
 cast-index : tie.Need-cast-index Inv-loop μ-loop
-cast-index c = let a = rw (c .before .before .before .before .f .given .1) at (c .before .before .before .before .before .before .read-field .ensures .1) in omega arith
+cast-index c = let a = rw (c .before .before .before .before .before .f .given .1) at (c .before .before .before .before .before .before .before .read-field .ensures .1) in omega arith
 
 mul-index : tie.Need-mul-index Inv-loop μ-loop
 mul-index c = search needs
@@ -58,22 +61,25 @@ add-index : tie.Need-add-index Inv-loop μ-loop
 add-index c = search needs
 
 add-index-2 : tie.Need-add-index-2 Inv-loop μ-loop
-add-index-2 c = let a = read-fits (c .enum-told2 .given .1) (c .before .before .element-fault .ensures .1) in omega arith
+add-index-2 c = let a = read-fits (c .enum-told2 .given .1) (rw (c .before .before .before .spot-of .ensures) at (c .before .before .element-fault .ensures .1)) in omega arith
 
 mul-index-2 : tie.Need-mul-index-2 Inv-loop μ-loop
 mul-index-2 c = search needs
 
 element-write-index : tie.Need-element-write-index Inv-loop μ-loop
-element-write-index c = let a = read-fits (c .enum-told2 .given .1) (c .before .before .element-fault .ensures .1) in omega arith
+element-write-index c = let a = read-fits (c .enum-told2 .given .1) (rw (c .before .before .before .spot-of .ensures) at (c .before .before .element-fault .ensures .1)) in omega arith
 
 add-count : tie.Need-add-count Inv-loop μ-loop
-add-count c = let a = read-fits (c .enum-told2 .given .1) (c .before .before .element-fault .ensures .1) in omega arith
+add-count c = let a = read-fits (c .enum-told2 .given .1) (rw (c .before .before .before .spot-of .ensures) at (c .before .before .element-fault .ensures .1)) in omega arith
+
+add-at : tie.Need-add-at Inv-loop μ-loop
+add-at c = let a = rw (c .before .before .before .before .before .f .given .1) at (c .before .before .before .before .before .before .before .read-field .ensures .1) in omega arith
 
 loop-less : tie.Need-loop-less Inv-loop μ-loop
-loop-less c = let a = rw (c .before .before .before .before .f .given .1) at (c .before .before .before .before .before .before .read-field .ensures .1) in omega arith
+loop-less c = let a = rw (c .before .before .before .before .before .f .given .1) at (c .before .before .before .before .before .before .before .read-field .ensures .1) in omega arith
 
 loop-again : tie.Need-loop-again Inv-loop μ-loop
-loop-again c = let a = rw (c .before .before .before .before .f .given .1) at (c .before .before .before .before .before .before .read-field .ensures .1) in let g = sym (c .before .before .before .before .before .before .read-field .ensures .0) ∙ c .before .before .before .before .f .given .1 in let t = rw (c .enum-told2 .given .1) at (c .before .before .element-fault .ensures .1) in (record { is = omega arith }, store-next (c .before .before .before .before .before .before .before .before .loop .inv .1) (c .before .before .before .before .before .before .before .before .before .before .before .pre .1 .1 .1) _ g t, λ body r. list-next (c .before .before .before .before .before .before .before .before .loop .inv .2 body r) (c .before .before .before .before .before .before .before .loop-test .taken) g (c .enum-told2 .given .1) (c .before .before .element-fault .ensures .0 body letterE r) (room (c .before .before .before .before .before .before .before .before .loop .inv .1) (c .before .before .before .before .before .before .before .before .before .before .before .pre .1 .1 .1) _ g t))
+loop-again c = let a = rw (c .before .before .before .before .before .f .given .1) at (c .before .before .before .before .before .before .before .read-field .ensures .1) in let g = sym (c .before .before .before .before .before .before .before .read-field .ensures .0) ∙ c .before .before .before .before .before .f .given .1 in let t = rw (c .enum-told2 .given .1) at (rw (c .before .before .before .spot-of .ensures) at (c .before .before .element-fault .ensures .1)) in (record { is = omega arith }, store-next (c .before .before .before .before .before .before .before .before .before .loop .inv .1) (c .before .before .before .before .before .before .before .before .before .before .before .before .pre .1 .1 .1) _ g t, λ body r. rw (a .1) (list-next (c .before .before .before .before .before .before .before .before .before .loop .inv .2 body r) (c .before .before .before .before .before .before .before .before .loop-test .taken) g (c .enum-told2 .given .1) (rw (c .before .before .before .spot-of .ensures) at (c .before .before .element-fault .ensures .0 body letterE r)) (room (c .before .before .before .before .before .before .before .before .before .loop .inv .1) (c .before .before .before .before .before .before .before .before .before .before .before .before .pre .1 .1 .1) _ g t)))
 
 cast-index-2 : tie.Need-cast-index-2 Inv-loop μ-loop
 cast-index-2 c = let a = c .before .loop .inv .1 .few in omega arith
@@ -101,6 +107,7 @@ check-elements-spec =
     enum-known-f
     enum-told
     returns
+    spot-of-requires
     element-fault-requires
     enum-told-2
     enum-told-3
@@ -112,6 +119,7 @@ check-elements-spec =
     mul-index-2
     element-write-index
     add-count
+    add-at
     loop-less
     loop-again
     cast-index-2

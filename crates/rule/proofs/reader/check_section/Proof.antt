@@ -43,8 +43,11 @@ enum-told c = search needs
 returns : tie.Need-returns Inv-loop μ-loop
 returns c = λ fs r. check-bad (c .before .before .before .before .loop .inv .2 fs r) (c .before .before .before .loop-test .taken) (sym (c .before .before .read-field .ensures .0) ∙ c .enum-told .given .1)
 
+spot-of-requires : tie.Need-spot-of-requires Inv-loop μ-loop
+spot-of-requires c κs = search needs
+
 field-fault-requires : tie.Need-field-fault-requires Inv-loop μ-loop
-field-fault-requires c κs = let a = rw (c .before .f .given .1) at (c .before .before .before .read-field .ensures .1) in (c .before .before .before .before .before .before .before .before .before .before .pre .0, (c .before .before .before .before .before .before .before .before .before .before .pre .1 .0, (omega arith, (c .before .before .before .before .before .loop .inv .1, c .before .before .before .before .before .before .before .before .before .before .pre .1 .1 .1))))
+field-fault-requires c κs = let a = rw (c .before .before .f .given .1) at (c .before .before .before .before .read-field .ensures .1) in let p = c .before .before .before .before .before .before .before .before .before .before .before .pre in rw (c .spot-of .ensures) (p .0, (p .1 .0, (p .1 .1 .1, (omega arith, c .before .before .before .before .before .before .loop .inv .1))))
 
 enum-told-2 : tie.Need-enum-told-2 Inv-loop μ-loop
 enum-told-2 c = search needs
@@ -53,16 +56,19 @@ enum-told-3 : tie.Need-enum-told-3 Inv-loop μ-loop
 enum-told-3 c = search needs
 
 returns-2 : tie.Need-returns-2 Inv-loop μ-loop
-returns-2 c = λ fs r. check-fault (c .before .before .before .before .before .before .before .before .loop .inv .2 fs r) (c .before .before .before .before .before .before .before .loop-test .taken) (sym (c .before .before .before .before .before .before .read-field .ensures .0) ∙ c .before .before .before .before .f .given .1) (c .enum-told3 .given .1) (c .before .before .field-fault .ensures)
+returns-2 c = λ fs r. check-fault (c .before .before .before .before .before .before .before .before .before .loop .inv .2 fs r) (c .before .before .before .before .before .before .before .before .loop-test .taken) (sym (c .before .before .before .before .before .before .before .read-field .ensures .0) ∙ c .before .before .before .before .before .f .given .1) (c .enum-told3 .given .1) (rw (c .before .before .before .spot-of .ensures) at (c .before .before .field-fault .ensures))
 
 add-count : tie.Need-add-count Inv-loop μ-loop
-add-count c = let a = rw (c .before .before .before .before .f .given .1) at (c .before .before .before .before .before .before .read-field .ensures .1) in omega arith
+add-count c = let a = rw (c .before .before .before .before .before .f .given .1) at (c .before .before .before .before .before .before .before .read-field .ensures .1) in omega arith
+
+add-at : tie.Need-add-at Inv-loop μ-loop
+add-at c = let a = rw (c .before .before .before .before .before .f .given .1) at (c .before .before .before .before .before .before .before .read-field .ensures .1) in omega arith
 
 loop-less : tie.Need-loop-less Inv-loop μ-loop
-loop-less c = let a = rw (c .before .before .before .before .f .given .1) at (c .before .before .before .before .before .before .read-field .ensures .1) in omega arith
+loop-less c = let a = rw (c .before .before .before .before .before .f .given .1) at (c .before .before .before .before .before .before .before .read-field .ensures .1) in omega arith
 
 loop-again : tie.Need-loop-again Inv-loop μ-loop
-loop-again c = let a = rw (c .before .before .before .before .f .given .1) at (c .before .before .before .before .before .before .read-field .ensures .1) in (omega arith, record { is = omega arith }, λ fs r. check-next (c .before .before .before .before .before .before .before .before .loop .inv .2 fs r) (c .before .before .before .before .before .before .before .loop-test .taken) (sym (c .before .before .before .before .before .before .read-field .ensures .0) ∙ c .before .before .before .before .f .given .1) (c .enum-told2 .given .1) (c .before .before .field-fault .ensures))
+loop-again c = let a = rw (c .before .before .before .before .before .f .given .1) at (c .before .before .before .before .before .before .before .read-field .ensures .1) in (omega arith, record { is = omega arith }, λ fs r. rw (a .1) (check-next (c .before .before .before .before .before .before .before .before .before .loop .inv .2 fs r) (c .before .before .before .before .before .before .before .before .loop-test .taken) (sym (c .before .before .before .before .before .before .before .read-field .ensures .0) ∙ c .before .before .before .before .before .f .given .1) (c .enum-told2 .given .1) (rw (c .before .before .before .spot-of .ensures) at (c .before .before .field-fault .ensures))))
 
 returns-3 : tie.Need-returns-3 Inv-loop μ-loop
 returns-3 c = λ fs r. check-end (c .before .loop .inv .2 fs r) (c .loop-test .left)
@@ -81,11 +87,13 @@ check-section-spec =
     enum-known-f
     enum-told
     returns
+    spot-of-requires
     field-fault-requires
     enum-told-2
     enum-told-3
     returns-2
     add-count
+    add-at
     loop-less
     loop-again
     returns-3)
