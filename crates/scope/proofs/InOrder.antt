@@ -3,18 +3,18 @@ use Prim.Native.Nat.{ℕ, _+_, _-_, _*_, _/_, _%_, _≤_, _<_}
 use native.Mathlib.Omega.{arith}
 use mathlib.Core.Bool.{Bool, true, false}
 use mathlib.Core.List.{List, _∷_}
-use mathlib.Core.Option.{Option, none, some}
-use mathlib.Core.Path.{_≡_, refl, sym, ap, _∙_}
-use lib.ListN.{length, take}
-use borrow.Author.Tests.{lt-ltb, le-ltb}
+use mathlib.Core.Option.{Option, none}
+use mathlib.Core.Path.{_≡_, refl, sym, _∙_}
+use lib.Dec.{ltb}
+use lib.ListN.{length}
+use borrow.Author.Tests.{le-ltb}
 use Rattle.definition.specs.Base.{Outcome, refused, accepted, orElse, each, firstOf}
-use Rattle.definition.specs.Letters.{letterB, letterH}
-use Rattle.definition.specs.Records.{Field, Block, numbers, withLetter}
+use Rattle.definition.specs.Records.{Field, Block, withLetter}
 use Rattle.definition.specs.Signature.{Signature, parentModel}
 use Rattle.definition.specs.Group as definition
-use Rattle.definition.specs.Group.{statementOf, statementFault, badColumns, flatRuleOf}
-use Rattle.definition.specs.Scope.{Scope, global, model, ownerCount, conclusionVerdict, premiseVerdict, modelScope, outputScope, conclusionScope}
-use Rattle.records.specs.Places.{twoAt, stretch, fieldAt, fieldOf, Run}
+use Rattle.definition.specs.Group.{FlatRule, statementOf, statementFault, badColumns, flatRuleOf}
+use Rattle.definition.specs.Scope.{Scope, global, ownerCount, modelScope, outputScope, conclusionScope}
+use Rattle.records.specs.Places.{twoAt, fieldAt, fieldOf, Run}
 use Rattle.records.specs.declared.fields.Field.the-variants.{Got, Bad}
 use Rattle.records.proofs.Link.{got-is}
 use Rattle.records.proofs.Runs.{run-got, run-bad, run-end}
@@ -25,23 +25,33 @@ use Rattle.signature.specs.declared.lookup.ParentModel.{ParentModel}
 use Rattle.signature.specs.declared.lookup.ParentModel.the-variants.{Model, Nothing}
 use Rattle.group.specs.Sections.{kindsOf}
 use Rattle.group.specs.Lookups.{table, Says, SectionsAt, VariablesAt}
+use Rattle.group.specs.declared.lookup.Sections.{Sections}
 use Rattle.group.specs.declared.lookup.Statement.{Statement}
 use Rattle.group.proofs.Drawn.{variables-are, variables-count}
 use Rattle.group.proofs.Stands.{Stands, stands}
-use Rattle.group.proofs.Values.{number-at, taken}
-use Rattle.scope.specs.Statements.{said, StatementAt, ownersIn, Section}
+use Rattle.group.proofs.Values.{numbers-count, number-at, taken}
+use Rattle.scope.specs.Statements.{said, StatementAt, ownersIn, Section, RuleStands}
+use Rattle.scope.specs.Sides.{letterOf, beginOf, endOf, verdictAt, firstAmong, firstVerdict}
 use Rattle.scope.specs.Answers.{verdictOf, leavesOpen, scopeAnswer, settledAs, Leads, OwnersFrom}
 use Rattle.scope.specs.declared.answers.Owned.{Owned}
 use Rattle.scope.specs.declared.answers.Scope as answer
+use Rattle.scope.specs.declared.answers.Side.{Side}
+use Rattle.scope.specs.declared.answers.Side.the-variants.{Premises, Conclusions}
 use Rattle.scope.specs.declared.answers.Verdict.{Verdict}
 use Rattle.scope.specs.declared.answers.Verdict.the-variants as verdict
 use Rattle.scope.specs.declared.answers.Verdict.the-variants.{Open}
-use Rattle.scope.proofs.Settling.{prefix-at}
 
 -- A statement is what its field says.
 pub said-is : {s : List ℕ} {t : Statement} {u : definition.Statement} → Says s t u → said s t ≡ u
 unfolding said
 said-is w = rw (w .kind, w .symbol, w .variables)
+
+-- A side's section of a rule.
+pub section-of : {sig : Signature} {variables : ℕ} {s : List ℕ} {rule : Sections} → RuleStands sig variables s rule → (side : Side)
+    → Section sig (letterOf side) variables s (beginOf rule side) (endOf rule side)
+unfolding letterOf beginOf endOf
+section-of w Premises = w .premise
+section-of w Conclusions = w .conclusion
 
 -- The field at a position of a section has no fault; behind it the section goes on.
 module _ {sig : Signature} {letter variables : ℕ} {s : List ℕ} {at end : ℕ} (w : Section sig letter variables s at end) (lt : at < end)
@@ -79,19 +89,6 @@ module _ {sig : Signature} {letter variables : ℕ} {s : List ℕ} {at end : ℕ
       symbol = rw (y .kind, y .symbol) (stands-here .symbol);
       named = record { within = y .within; each = λ i q. rw (same-number i q) (stands-here .named .each i (rw (← counted) q)) };
     }
-
-    -- Its first variables, where they stand.
-    pub first-named : (count : ℕ) → count ≤ t .count → VariablesAt s variables (start + 3) count
-    first-named count q = prefix-at count (rw (← counted) q) (stands-here .named)
-
-    pub first-are : (own : Owned) → own .start ≡ start + 3 → own .count ≤ t .count → take (own .count) (said s t .variables) ≡ ownersIn s own
-    unfolding ownersIn
-    first-are own p q =
-        let d : len - 3 ≡ 2 * ((len - 3) / 2) = omega (arith, stands-here .odd, stands-here .long) in
-        let k : own .count ≤ (len - 3) / 2 = rw (← counted) q in
-        let v : said s t .variables ≡ numbers (stretch s (start + 3) (2 * ((len - 3) / 2))) =
-        ap (λ (u : definition.Statement). u .variables) (said-is y) ∙ variables-are s start len inside letter (stands-here .long) ∙ ap (λ (n : ℕ). numbers (stretch s (start + 3) n)) d in
-        rw (v, p) (taken s (start + 3) ((len - 3) / 2) (stands-here .named .within) (own .count) k)
 
 -- A verdict that leaves the scope open, and one that settles it.
 open-is : (v : Verdict) → leavesOpen v ≡ true → v ≡ Open
@@ -137,30 +134,48 @@ module _ {s : List ℕ} {at end : ℕ} {f : definition.Statement → Option (Out
       pub rest-settles : {o : Bool} → o ≡ leavesOpen v → o ≡ false → verdictOf v ≡ firstOf f (each statementOf fs)
       rest-settles a d = sym (rest-turn ∙ settles v _ (sym a ∙ d))
 
--- The first verdict of the conclusions, else of the premises, settles the scope.
+-- The conclusions' first verdict is the rule's where it settles, else the premises'.
 module _ (sig : Signature) (s : List ℕ) (m : ℕ) (owners : List ℕ) (b : Block) where
-  abbrev conclusionsFirst : Option (Outcome Scope)
-  conclusionsFirst = firstOf (conclusionVerdict sig (table s) m owners) (each statementOf (withLetter letterH (b .body)))
+  abbrev sideFirst : Side → Option (Outcome Scope)
+  sideFirst side = firstAmong side sig (table s) m owners (withLetter (letterOf side) (b .body))
 
-  abbrev premisesFirst : Option (Outcome Scope)
-  premisesFirst = firstOf (premiseVerdict sig (table s) m owners) (each statementOf (withLetter letterB (b .body)))
+  module _ (u : Verdict) (d : verdictOf u ≡ sideFirst Conclusions) where
+    pub conclusions-settle : leavesOpen u ≡ false → verdictOf u ≡ firstVerdict sig (table s) (flatRuleOf b) m owners
+    unfolding firstVerdict firstAmong flatRuleOf verdictAt letterOf
+    conclusions-settle n = sym (rw (← d) (settles u _ n))
 
-  pub by-conclusions : (v : Verdict) → verdictOf v ≡ conclusionsFirst → leavesOpen v ≡ false → scopeAnswer s (settledAs v) ≡ modelScope sig (table s) (flatRuleOf b) m owners
-  unfolding modelScope flatRuleOf
-  by-conclusions Open e n = let z : _≡_ {A = ℕ} 0 1 = cc in absurd (omega arith)
-  by-conclusions verdict.Global e n = rw (← e)
-  by-conclusions (verdict.Refused k) e n = rw (← e)
+    pub premises-settle : leavesOpen u ≡ true → (v : Verdict) → verdictOf v ≡ sideFirst Premises → verdictOf v ≡ firstVerdict sig (table s) (flatRuleOf b) m owners
+    unfolding firstVerdict firstAmong flatRuleOf verdictAt letterOf
+    premises-settle o v e = rw (← d, open-is u o) e
 
-  module _ (u : Verdict) (d : verdictOf u ≡ conclusionsFirst) (o : leavesOpen u ≡ true) where
-    pub by-premises : (v : Verdict) → verdictOf v ≡ premisesFirst → leavesOpen v ≡ false → scopeAnswer s (settledAs v) ≡ modelScope sig (table s) (flatRuleOf b) m owners
-    unfolding modelScope flatRuleOf
-    by-premises Open e n = let z : _≡_ {A = ℕ} 0 1 = cc in absurd (omega arith)
-    by-premises verdict.Global e n = rw (← d, open-is u o, ← e)
-    by-premises (verdict.Refused k) e n = rw (← d, open-is u o, ← e)
+-- The rule's verdict settles the scope.
+pub settled-is : (sig : Signature) (s : List ℕ) (r : FlatRule) (own : Owned) (v : Verdict) → verdictOf v ≡ firstVerdict sig (table s) r (own .model .0) (ownersIn s own)
+    → scopeAnswer s (settledAs own v) ≡ modelScope sig (table s) r (own .model .0) (ownersIn s own)
+unfolding modelScope firstVerdict ownersIn
+settled-is sig s r own Open e = rw (← e)
+settled-is sig s r own verdict.Global e = rw (← e)
+settled-is sig s r own (verdict.Refused n) e = rw (← e)
 
-    pub left-open : (v : Verdict) → verdictOf v ≡ premisesFirst → leavesOpen v ≡ true → accepted (model m owners) ≡ modelScope sig (table s) (flatRuleOf b) m owners
-    unfolding modelScope flatRuleOf
-    left-open v e q = rw (← d, open-is u o, ← e, open-is v q)
+-- The scope of a rule by a statement that stands as its first conclusion.
+module _ (sig : Signature) (s : List ℕ) (r : FlatRule) (t : Statement) (p : ParentModel) (q : modelOf p ≡ parentModel sig (t .kind) (t .symbol)) where
+  abbrev byOutput : Outcome Scope
+  byOutput = outputScope sig (table s) r (said s t) (parentModel sig (t .kind) (t .symbol))
+
+  pub no-output : p ≡ Nothing → accepted global ≡ byOutput
+  unfolding outputScope
+  no-output d = rw (← q, d)
+
+  module _ {variables : ℕ} (w : VariablesAt s variables (t .at) (t .count)) {m : TypeId} (d : p ≡ Model m) {count : ℕ} (c : count ≡ ownerCount sig (m .0)) where
+    pub output-short : ltb (t .count) count ≡ true → refused 43 ≡ byOutput
+    unfolding outputScope said
+    output-short h = rw (← q, d, numbers-count s (t .at) (t .count) (w .within), ← c, h)
+
+    pub output-long : count ≤ t .count → (own : Owned) → own ≡ record { model = m; start = t .at; count = count }
+        → {answer : Outcome Scope} → answer ≡ modelScope sig (table s) r (own .model .0) (ownersIn s own) → answer ≡ byOutput
+    unfolding outputScope said ownersIn
+    output-long h own o g =
+        let k : ownerCount sig (m .0) ≤ t .count = rw c at h in
+        rw (← q, d, numbers-count s (t .at) (t .count) (w .within), le-ltb (t .count) (ownerCount sig (m .0)) k, taken s (t .at) (t .count) (w .within) (ownerCount sig (m .0)) k) (rw (o, c) at g)
 
 -- The scope of a rule by its first conclusion.
 module _ (sig : Signature) (s : List ℕ) (b : Block) {premises conclusions end : ℕ} (w : SectionsAt s premises conclusions end b) where
@@ -171,47 +186,20 @@ module _ (sig : Signature) (s : List ℕ) (b : Block) {premises conclusions end 
   unfolding conclusionScope flatRuleOf each
   no-conclusion h = rw (run-end (w .conclusion) h)
 
-  module _ (lt : conclusions < end) where
-    module _ {l start len next : ℕ} (e : fieldAt s conclusions ≡ Got l start len next) {t : Statement} (y : (letter : ℕ) → Says s t (statementOf (fieldOf s letter start len)))
-        (p : ParentModel) (q : modelOf p ≡ parentModel sig (t .kind) (t .symbol)) where
-      -- The first conclusion, its model and its variables.
-      by-first : ruleScope ≡ outputScope sig (table s) (flatRuleOf b) (said s t) (modelOf p)
-      unfolding conclusionScope flatRuleOf each said
-      by-first = rw (run-got (w .conclusion) lt e .same, ← (said-is (y l)), q)
-
-      pub no-output : p ≡ Nothing → accepted global ≡ ruleScope
-      unfolding outputScope
-      no-output d = sym (by-first ∙ rw d)
-
-      module _ {m : TypeId} (d : p ≡ Model m) {count : ℕ} (c : count ≡ ownerCount sig (m .0)) where
-        tested : ruleScope ≡ outputScope sig (table s) (flatRuleOf b) (said s t) (some (m .0))
-        tested = by-first ∙ rw d
-
-        long : length (said s t .variables) ≡ t .count
-        long = ap (λ (u : definition.Statement). length (u .variables)) (said-is (y l)) ∙ sym (y l .count)
-
-        pub output-short : t .count < count → refused 43 ≡ ruleScope
-        unfolding outputScope
-        output-short h = sym (tested ∙ rw (long, lt-ltb (t .count) (ownerCount sig (m .0)) (rw c at h)))
-
-        pub output-long : count ≤ t .count → {owners : List ℕ} → take count (said s t .variables) ≡ owners
-            → {answer : Outcome Scope} → answer ≡ modelScope sig (table s) (flatRuleOf b) (m .0) owners → answer ≡ ruleScope
-        unfolding outputScope
-        output-long h {owners} f g =
-            let k : ownerCount sig (m .0) ≤ t .count = rw c at h in
-            let o : take (ownerCount sig (m .0)) (said s t .variables) ≡ owners = rw c at f in
-            g ∙ sym (tested ∙ rw (long, le-ltb (t .count) (ownerCount sig (m .0)) k, o))
+  pub by-first : conclusions < end → {l start len next : ℕ} → fieldAt s conclusions ≡ Got l start len next
+      → {t : Statement} → ((letter : ℕ) → Says s t (statementOf (fieldOf s letter start len)))
+      → outputScope sig (table s) (flatRuleOf b) (said s t) (parentModel sig (t .kind) (t .symbol)) ≡ ruleScope
+  unfolding conclusionScope flatRuleOf each said
+  by-first lt {l} e y = rw (run-got (w .conclusion) lt e .same, ← (said-is (y l)))
 
 -- Where the owners stand, if there are any.
-pub leads-settled : (v : Verdict) (r : answer.Scope) (first n : ℕ) → r ≡ settledAs v → Leads r first n
-leads-settled Open r first n e = rw e tt
-leads-settled verdict.Global r first n e = rw e tt
-leads-settled (verdict.Refused k) r first n e = rw e tt
+pub leads-settled : (own : Owned) (v : Verdict) {r : answer.Scope} {size : ℕ} → r ≡ settledAs own v → own .start + 2 * own .count ≤ size → Leads r (own .start) size
+leads-settled own Open e h = rw e (refl, h)
+leads-settled own verdict.Global e h = rw e tt
+leads-settled own (verdict.Refused k) e h = rw e tt
 
-pub owners-from : (s : List ℕ) (r : answer.Scope) {variables at end l start len next n : ℕ} → fieldAt s at ≡ Got l start len next → at < end
-    → VariablesAt s variables (start + 3) n → Leads r (start + 3) n → OwnersFrom r at end (length s)
-owners-from s answer.the-variants.Global e lt w o = tt
-owners-from s (answer.the-variants.Refused k) e lt w o = tt
-owners-from s (answer.the-variants.Model m first count) {at = at} e lt w o =
-    let g = got-is s at e in
-    (lt, omega (arith, o .0, g .start-is), omega (arith, o .0, o .1, w .within))
+pub owners-from : (s : List ℕ) (r : answer.Scope) {at end l start len next first : ℕ} → fieldAt s at ≡ Got l start len next → at < end
+    → first ≡ start + 3 → Leads r first (length s) → OwnersFrom r at end (length s)
+owners-from s answer.the-variants.Global e lt f o = tt
+owners-from s (answer.the-variants.Refused k) e lt f o = tt
+owners-from s (answer.the-variants.Model m start count) {at = at} e lt f o = let g = got-is s at e in (lt, omega (arith, o .0, f, g .start-is), o .1)

@@ -6,7 +6,8 @@ use mathlib.Core.List.{List}
 use mathlib.Core.Option.{Option, none, some}
 use mathlib.Core.Path.{_≡_, sym, _∙_}
 use lib.ListN.{length, getD, drop, drop-of-length-le}
-use borrow.Author.Tests.{eq-eqb, ne-eqb, lt-ltb, le-ltb}
+use lib.Dec.{eqb, ltb}
+use borrow.Author.Tests.{eqb-true, eq-eqb, ne-eqb, ltb-false, le-ltb}
 use Rattle.definition.specs.Base.{Outcome, refused, accepted, pick, any, has}
 use Rattle.definition.specs.Letters.{equality}
 use Rattle.definition.specs.Records.{numbers}
@@ -23,7 +24,10 @@ use Rattle.group.specs.Lookups.{table, VariablesAt}
 use Rattle.group.specs.declared.lookup.Statement.{Statement}
 use Rattle.group.proofs.Values.{numbers-count, taken}
 use Rattle.scope.specs.Statements.{said, ownersIn}
+use Rattle.scope.specs.Sides.{verdictAt, withoutModel, suiting}
 use Rattle.scope.specs.declared.answers.Owned.{Owned}
+use Rattle.scope.specs.declared.answers.Side.{Side}
+use Rattle.scope.specs.declared.answers.Side.the-variants.{Premises, Conclusions}
 
 -- A search along a list.
 module _ (xs : List ℕ) (x : ℕ) where
@@ -58,12 +62,16 @@ module _ (sig : Signature) (m p : ℕ) where
 pub prefix-at : {s : List ℕ} {variables at n : ℕ} (k : ℕ) → k ≤ n → VariablesAt s variables at n → VariablesAt s variables at k
 prefix-at k h w = record { within = omega (arith, w .within); each = λ i q. w .each i (omega arith) }
 
+-- There are so many.
+pub enough : {r : Bool} {a b : ℕ} → r ≡ ltb a b → r ≡ false → b ≤ a
+enough {a = a} {b = b} e q = ltb-false a b (sym e ∙ q)
+
 -- A statement's variables against the owners.
 module _ {s : List ℕ} {variables : ℕ} (own : Owned) (count : ℕ) (t : Statement)
     (h : (count ≤ own .count) × VariablesAt s variables (own .start) (own .count)) (w : VariablesAt s variables (t .at) (t .count)) where
-  pub too-few : t .count < count → some (refused 43) ≡ ownersVerdict (table s) (ownersIn s own) count (said s t)
+  pub short : ltb (t .count) count ≡ true → some (refused 43) ≡ ownersVerdict (table s) (ownersIn s own) count (said s t)
   unfolding ownersVerdict said
-  too-few q = rw (numbers-count s (t .at) (t .count) (w .within), lt-ltb (t .count) count q)
+  short q = rw (numbers-count s (t .at) (t .count) (w .within), q)
 
   module _ (q : count ≤ t .count) {r : Bool}
       (e : r ≡ sameVariables (table s) (numbers (stretch s (t .at) (2 * count))) (numbers (stretch s (own .start) (2 * count)))) where
@@ -86,41 +94,32 @@ module _ {s : List ℕ} {variables : ℕ} (own : Owned) (count : ℕ) (t : State
 -- By the model of the statement's symbol.
 module _ (sig : Signature) (variables : List Variable) (m : ℕ) (owners : List ℕ) (s : List ℕ) (t : Statement) {r : ParentModel}
     (e : modelOf r ≡ parentModel sig (t .kind) (t .symbol)) where
-  -- A conclusion without a model, with another one, and with the model.
-  pub no-model : r ≡ Nothing → some (accepted global) ≡ conclusionVerdict sig variables m owners (said s t)
-  unfolding conclusionVerdict said
-  no-model q = rw (← e, q)
+  -- It has none.
+  pub no-model : (side : Side) → r ≡ Nothing → withoutModel side (t .kind) ≡ verdictAt side sig variables m owners (said s t)
+  unfolding withoutModel verdictAt conclusionVerdict premiseVerdict relationVerdict said
+  no-model Premises q = rw (← e, q)
+  no-model Conclusions q = rw (← e, q)
 
-  pub other-model : {x : TypeId} → r ≡ Model x → (x .0 ≡ m → ⊥) → some (accepted global) ≡ conclusionVerdict sig variables m owners (said s t)
-  unfolding conclusionVerdict said
-  other-model {x} q n = rw (← e, q, ne-eqb (x .0) m n)
+  module _ {x : TypeId} (q : r ≡ Model x) where
+    -- It has one, so it is no Equality.
+    no-equality : eqb (t .kind) equality ≡ false
+    unfolding parentModel
+    no-equality = ne-eqb (t .kind) equality λ d. let f = rw (q, d) at e in let z : _≡_ {A = ℕ} 0 1 = cc in absurd (omega arith)
 
-  pub same-model : {x : TypeId} → r ≡ Model x → x .0 ≡ m → {v : Option (Outcome Scope)} {count : ℕ} → count ≡ ownerCount sig m
-      → v ≡ ownersVerdict variables owners count (said s t) → v ≡ conclusionVerdict sig variables m owners (said s t)
-  unfolding conclusionVerdict said
-  same-model {x} q d c f = rw (← e, q, eq-eqb (x .0) m d, ← c) f
+    -- It is another's, or one that suits.
+    pub other-model : (side : Side) {b : Bool} → b ≡ suiting side sig m (x .0) → b ≡ false → some (accepted global) ≡ verdictAt side sig variables m owners (said s t)
+    unfolding suiting verdictAt conclusionVerdict premiseVerdict relationVerdict said
+    other-model Premises f d = rw (no-equality, ← e, q, sym f ∙ d)
+    other-model Conclusions f d = rw (← e, q, sym f ∙ d)
 
-  -- A premise that is no Equality: without a model, with one that is not related, and with one that is.
-  module _ (n : t .kind ≡ equality → ⊥) where
-    pub passes : r ≡ Nothing → none ≡ premiseVerdict sig variables m owners (said s t)
-    unfolding premiseVerdict relationVerdict said
-    passes q = rw (ne-eqb (t .kind) equality n, ← e, q)
-
-    module _ {x : TypeId} (q : r ≡ Model x) {b : Bool} (f : b ≡ related sig m (x .0)) where
-      pub unrelated : b ≡ false → some (accepted global) ≡ premiseVerdict sig variables m owners (said s t)
-      unfolding premiseVerdict relationVerdict said
-      unrelated d = rw (ne-eqb (t .kind) equality n, ← e, q, sym f ∙ d)
-
-      pub by-prefix : b ≡ true → {v : Option (Outcome Scope)} {count : ℕ} → count ≡ min (ownerCount sig (x .0)) (ownerCount sig m)
-          → v ≡ ownersVerdict variables owners count (said s t) → v ≡ premiseVerdict sig variables m owners (said s t)
-      unfolding premiseVerdict relationVerdict said
-      by-prefix d c g = rw (ne-eqb (t .kind) equality n, ← e, q, sym f ∙ d, ← c) g
-
--- A premise Equality.
-pub equated : (sig : Signature) (variables : List Variable) (m : ℕ) (owners : List ℕ) (s : List ℕ) (t : Statement) → t .kind ≡ equality
-    → some (refused 42) ≡ premiseVerdict sig variables m owners (said s t)
-unfolding premiseVerdict said
-equated sig variables m owners s t q = rw (eq-eqb (t .kind) equality q)
+    pub by-prefix : (side : Side) {b : Bool} → b ≡ suiting side sig m (x .0) → b ≡ true → {v : Option (Outcome Scope)} {count : ℕ}
+        → count ≡ min (ownerCount sig (x .0)) (ownerCount sig m) → v ≡ ownersVerdict variables owners count (said s t) → v ≡ verdictAt side sig variables m owners (said s t)
+    unfolding suiting verdictAt conclusionVerdict premiseVerdict relationVerdict said
+    by-prefix Premises f d c g = rw (no-equality, ← e, q, sym f ∙ d, ← c) g
+    by-prefix Conclusions f d {count = count} c g =
+        let same : x .0 ≡ m = eqb-true (x .0) m (sym f ∙ d) in
+        let all : count ≡ ownerCount sig m = rw same at c ∙ omega arith in
+        rw (← e, q, sym f ∙ d, ← all) g
 
 -- The smaller of two counts that are told.
 pub prefix-count : {r a b x y : ℕ} → r ≡ min a b → a ≡ x → b ≡ y → r ≡ min x y

@@ -14,6 +14,7 @@ use Rattle.signature.specs.declared.reader.Reading as Signature
 use Rattle.signature.specs.declared.reader.Reading.the-variants as signature
 use Rattle.group.specs.declared.reader.Reading as Group
 use Rattle.group.specs.declared.reader.Reading.the-variants as group
+use Rattle.scope.specs.declared.answers.Owned.{Owned}
 use Rattle.scope.specs.declared.answers.Scope.{Scope}
 use Rattle.scope.specs.declared.answers.Scope.the-variants.{Global, Model, Refused}
 use Rattle.scope.specs.declared.answers.Verdict.{Verdict}
@@ -31,11 +32,11 @@ OwnersStand group position Global = Unit
 OwnersStand group position (Model m start count) = (start ≡ ownersAt group position) × (start + 2 * count ≤ length group)
 OwnersStand group position (Refused n) = Unit
 
--- Where a rule has owners, they are those that were compared with.
+-- Where a rule has owners, they stand from a position on.
 abbrev pub Leads : Scope → ℕ → ℕ → Type 0
-Leads Global first size = Unit
-Leads (Model m start count) first size = (start ≡ first) × (count ≡ size)
-Leads (Refused n) first size = Unit
+Leads Global from size = Unit
+Leads (Model m start count) from size = (start ≡ from) × (start + 2 * count ≤ size)
+Leads (Refused n) from size = Unit
 
 -- Where a rule has owners, it has a conclusion, and they stand in the first one, behind letter, length, kind and symbol.
 abbrev pub OwnersFrom : Scope → ℕ → ℕ → ℕ → Type 0
@@ -54,11 +55,11 @@ leavesOpen verdict.Open = true
 leavesOpen verdict.Global = false
 leavesOpen (verdict.Refused n) = false
 
--- The scope that a verdict settles.
-abbrev pub settledAs : Verdict → Scope
-settledAs verdict.Open = Global
-settledAs verdict.Global = Global
-settledAs (verdict.Refused n) = Refused n
+-- The scope by a rule's verdict.
+abbrev pub settledAs : Owned → Verdict → Scope
+settledAs own verdict.Open = Model (own .model) (own .start) (own .count)
+settledAs own verdict.Global = Global
+settledAs own (verdict.Refused n) = Refused n
 
 -- The number of a refused signature, and of a refused group.
 abbrev pub signatureNumber : Signature.Reading → ℕ

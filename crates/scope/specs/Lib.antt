@@ -1,3 +1,4 @@
 -- What the contracts of this crate cite beside the definition.
 pub mod Answers
+pub mod Sides
 pub mod Statements

@@ -19,6 +19,12 @@ pub struct Owned {
     pub count: usize,
 }
 
+// A rule's statements stand in two sections.
+pub enum Side {
+    Premises,
+    Conclusions,
+}
+
 // A statement leaves the scope open, or settles it.
 pub enum Verdict {
     Open,

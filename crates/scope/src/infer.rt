@@ -1,23 +1,12 @@
 // Scope and owners of a rule at a position of a group, for any bytes.
 ghost use mathlib.Core.Path.{_≡_};
-ghost use Prim.Native.Nat.{_<_};
-ghost use lib.ListN.{getD};
-ghost use Rattle.definition.specs.Letters.{letterU};
-ghost use Rattle.definition.specs.Records.{blocks};
-ghost use Rattle.definition.specs.Group.{groupPart};
 ghost use Rattle.definition.specs.Scope.{scopeOf, ownersOf};
-ghost use Rattle.group.specs.Index.{conclusionsAt, noBlock, Rules};
-ghost use Rattle.group.specs.Lookups.{SectionsAt};
 ghost use Rattle.scope.specs.Answers.{scopeAnswer, OwnersStand, signatureNumber, groupNumber};
 use crate::answers::Scope;
 use crate::rules::rule_scope;
-use group::ids::CONCLUSIONS_FROM;
 use group::ids::GROUP_INDEX;
-use group::ids::RULES_FROM;
-use group::lookup::Sections;
+use group::lookup::rule_sections;
 use group::reader::read_group;
-use records::fields::place;
-use records::fields::two;
 use signature::ids::INDEX;
 use signature::reader::read_signature;
 
@@ -43,21 +32,6 @@ fn group_number(r: group::reader::Reading) -> u8
     }
 }
 
-// Where the sections of a rule stand. The owners are the first conclusion's, so its place is told by the index entry.
-fn sections(s: &[u8], index: &[u16; GROUP_INDEX], rules: usize, k: usize) -> Sections
-    requires { ⌜ Rules (now s) (now index) rules (blocks letterU (groupPart (now s) .fields)) ⌝ }
-    requires { ⌜ k < rules ⌝ }
-    ensures { λ r. ⌜ SectionsAt (now (s .entry)) (r .premises) (r .conclusions) (r .end) (getD (blocks letterU (groupPart (now (s .entry)) .fields)) k noBlock) ⌝ }
-    ensures { λ r. ⌜ r .conclusions ≡ conclusionsAt (now (index .entry)) k ⌝ }
-{
-    let at = place(index[RULES_FROM + k]);
-    Sections {
-        premises: at + 3 + two(s, at + 1),
-        conclusions: place(index[CONCLUSIONS_FROM + k]),
-        end: place(index[RULES_FROM + k + 1]),
-    }
-}
-
 // The scope of the rule at a position, after all checks of signature and group.
 pub fn scope(sig: &[u8], group: &[u8], position: usize) -> Scope
     ensures { λ r. ⌜ scopeAnswer (now (group .entry)) r ≡ scopeOf (now (sig .entry)) (now (group .entry)) position ⌝ }
@@ -76,7 +50,7 @@ pub fn scope(sig: &[u8], group: &[u8], position: usize) -> Scope
     if rules <= position {
         return Scope::Refused(41);
     }
-    let rule = sections(group, &index, rules, position);
+    let rule = rule_sections(group, &index, rules, position);
     rule_scope(sig, &symbols, counts, group, &index, variables, rule)
 }
 

@@ -2,25 +2,27 @@
 ghost use mathlib.Core.List.{List};
 ghost use mathlib.Core.Path.{_≡_};
 ghost use lib.ListN.{length};
-ghost use Rattle.definition.specs.Base.{each, firstOf};
-ghost use Rattle.definition.specs.Letters.{letterB, letterH};
 ghost use Rattle.definition.specs.Records as definition;
 ghost use Rattle.definition.specs.Records.{Block};
-ghost use Rattle.definition.specs.Group.{statementOf, flatRuleOf};
-ghost use Rattle.definition.specs.Scope.{conclusionVerdict, premiseVerdict, modelScope, conclusionScope};
+ghost use Rattle.definition.specs.Group.{flatRuleOf};
+ghost use Rattle.definition.specs.Signature.{parentModel};
+ghost use Rattle.definition.specs.Scope.{outputScope, conclusionScope};
 ghost use Rattle.records.specs.Places.{Run};
 ghost use Rattle.signature.specs.Index.{signatureAt, Indexed};
 ghost use Rattle.group.specs.Lookups.{table, Listed, SectionsAt};
-ghost use Rattle.scope.specs.Statements.{ownersIn, OwnedAt, Section, RuleStands};
+ghost use Rattle.scope.specs.Statements.{said, StatementAt, ownersIn, OwnedAt, RuleStands};
+ghost use Rattle.scope.specs.Sides.{beginOf, endOf, firstAmong, firstVerdict};
 ghost use Rattle.scope.specs.Answers.{verdictOf, leavesOpen, scopeAnswer, settledAs, Leads, OwnersFrom};
 use crate::answers::Owned;
 use crate::answers::Scope;
+use crate::answers::Side;
 use crate::answers::Verdict;
-use crate::verdicts::conclusion_verdict;
 use crate::verdicts::owner_count;
-use crate::verdicts::premise_verdict;
+use crate::verdicts::statement_verdict;
+use crate::verdicts::too_few;
 use group::ids::GROUP_INDEX;
 use group::lookup::Sections;
+use group::lookup::Statement;
 use group::lookup::read_statement;
 use records::fields::Field;
 use records::fields::read_field;
@@ -40,103 +42,29 @@ fn is_open(v: Verdict) -> bool
     }
 }
 
-// The conclusions: the first verdict that settles the scope. Every field was read before, so here and below none is found bad.
-fn conclusions(
-    sig: &[u8],
-    symbols: &[u16; INDEX],
-    counts: Counts,
-    s: &[u8],
-    index: &[u16; GROUP_INDEX],
-    variables: usize,
-    own: Owned,
+// Where a section of a rule stands.
+struct Part {
     from: usize,
     end: usize,
-) -> Verdict
-    requires { ⌜ Indexed (now sig) (now symbols) counts ⌝ }
-    requires { ⌜ Listed (now s) (now index) variables ⌝ }
-    requires { ⌜ OwnedAt (signatureAt (now sig) (now symbols) counts) (counts .types) variables (now s) own ⌝ }
-    requires { ⌜ Section (signatureAt (now sig) (now symbols) counts) letterH variables (now s) from end ⌝ }
-    ensures { λ r. ⌜ ((fs : List definition.Field) → Run (now (s .entry)) from end fs
-        → verdictOf r ≡ firstOf (conclusionVerdict (signatureAt (now (sig .entry)) (now (symbols .entry)) counts) (table (now (s .entry)))
-        (own .model .0) (ownersIn (now (s .entry)) own)) (each statementOf fs)) ⌝ }
-{
-    let mut at = from;
-    while at < end {
-        let f = read_field(s, at);
-        let Field::Got {
-            letter: _,
-            start,
-            len,
-            next,
-        } = f
-        else {
-            return Verdict::Global;
-        };
-        let t = read_statement(s, start, len);
-        let v = conclusion_verdict(sig, symbols, counts, s, index, variables, own, t);
-        if !is_open(v) {
-            return v;
-        }
-        at = next;
-    }
-    Verdict::Open
 }
 
-// The premises.
-fn premises(
-    sig: &[u8],
-    symbols: &[u16; INDEX],
-    counts: Counts,
-    s: &[u8],
-    index: &[u16; GROUP_INDEX],
-    variables: usize,
-    own: Owned,
-    from: usize,
-    end: usize,
-) -> Verdict
-    requires { ⌜ Indexed (now sig) (now symbols) counts ⌝ }
-    requires { ⌜ Listed (now s) (now index) variables ⌝ }
-    requires { ⌜ OwnedAt (signatureAt (now sig) (now symbols) counts) (counts .types) variables (now s) own ⌝ }
-    requires { ⌜ Section (signatureAt (now sig) (now symbols) counts) letterB variables (now s) from end ⌝ }
-    ensures { λ r. ⌜ ((fs : List definition.Field) → Run (now (s .entry)) from end fs
-        → verdictOf r ≡ firstOf (premiseVerdict (signatureAt (now (sig .entry)) (now (symbols .entry)) counts) (table (now (s .entry)))
-        (own .model .0) (ownersIn (now (s .entry)) own)) (each statementOf fs)) ⌝ }
+fn part_of(rule: Sections, side: Side) -> Part
+    ensures { λ r. ⌜ (r .from ≡ beginOf rule side) × (r .end ≡ endOf rule side) ⌝ }
 {
-    let mut at = from;
-    while at < end {
-        let f = read_field(s, at);
-        let Field::Got {
-            letter: _,
-            start,
-            len,
-            next,
-        } = f
-        else {
-            return Verdict::Global;
-        };
-        let t = read_statement(s, start, len);
-        let v = premise_verdict(sig, symbols, counts, s, index, variables, own, t);
-        if !is_open(v) {
-            return v;
-        }
-        at = next;
-    }
-    Verdict::Open
-}
-
-// The scope that a verdict settles.
-fn settled(v: Verdict) -> Scope
-    ensures { λ r. ⌜ r ≡ settledAs v ⌝ }
-{
-    match v {
-        Verdict::Open => Scope::Global,
-        Verdict::Global => Scope::Global,
-        Verdict::Refused(n) => Scope::Refused(n),
+    match side {
+        Side::Premises => Part {
+            from: rule.premises,
+            end: rule.conclusions,
+        },
+        Side::Conclusions => Part {
+            from: rule.conclusions,
+            end: rule.end,
+        },
     }
 }
 
-// The scope of a rule whose first conclusion has a model and owners.
-fn model_scope(
+// The first verdict of a section that settles the scope. Every field was read before, so here and below none is found bad.
+fn section_verdict(
     sig: &[u8],
     symbols: &[u16; INDEX],
     counts: Counts,
@@ -145,52 +73,120 @@ fn model_scope(
     variables: usize,
     own: Owned,
     rule: Sections,
-) -> Scope
+    side: Side,
+) -> Verdict
     requires { ⌜ Indexed (now sig) (now symbols) counts ⌝ }
     requires { ⌜ Listed (now s) (now index) variables ⌝ }
     requires { ⌜ OwnedAt (signatureAt (now sig) (now symbols) counts) (counts .types) variables (now s) own ⌝ }
     requires { ⌜ RuleStands (signatureAt (now sig) (now symbols) counts) variables (now s) rule ⌝ }
-    ensures { λ r. ⌜ ((b : Block) → SectionsAt (now (s .entry)) (rule .premises) (rule .conclusions) (rule .end) b → scopeAnswer (now (s .entry)) r
-        ≡ modelScope (signatureAt (now (sig .entry)) (now (symbols .entry)) counts) (table (now (s .entry))) (flatRuleOf b) (own .model .0) (ownersIn (now (s .entry)) own)) ⌝ }
-    ensures { λ r. ⌜ Leads r (own .start) (own .count) ⌝ }
+    ensures { λ r. ⌜ ((fs : List definition.Field) → Run (now (s .entry)) (beginOf rule side) (endOf rule side) fs
+        → verdictOf r ≡ firstAmong side (signatureAt (now (sig .entry)) (now (symbols .entry)) counts) (table (now (s .entry))) (own .model .0) (ownersIn (now (s .entry)) own) fs) ⌝ }
 {
-    let c = conclusions(
-        sig,
-        symbols,
-        counts,
-        s,
-        index,
-        variables,
-        own,
-        rule.conclusions,
-        rule.end,
-    );
-    if !is_open(c) {
-        return settled(c);
+    let part = part_of(rule, side);
+    let mut at = part.from;
+    while at < part.end {
+        let f = read_field(s, at);
+        let Field::Got {
+            letter: _,
+            start,
+            len,
+            next,
+        } = f
+        else {
+            return Verdict::Global;
+        };
+        let t = read_statement(s, start, len);
+        let v = statement_verdict(sig, symbols, counts, s, index, variables, own, side, t);
+        if !is_open(v) {
+            return v;
+        }
+        at = next;
     }
-    let p = premises(
-        sig,
-        symbols,
-        counts,
-        s,
-        index,
-        variables,
-        own,
-        rule.premises,
-        rule.conclusions,
-    );
-    if !is_open(p) {
-        return settled(p);
+    Verdict::Open
+}
+
+// The first verdict of a rule: its conclusions', then its premises'.
+fn rule_verdict(
+    sig: &[u8],
+    symbols: &[u16; INDEX],
+    counts: Counts,
+    s: &[u8],
+    index: &[u16; GROUP_INDEX],
+    variables: usize,
+    own: Owned,
+    rule: Sections,
+) -> Verdict
+    requires { ⌜ Indexed (now sig) (now symbols) counts ⌝ }
+    requires { ⌜ Listed (now s) (now index) variables ⌝ }
+    requires { ⌜ OwnedAt (signatureAt (now sig) (now symbols) counts) (counts .types) variables (now s) own ⌝ }
+    requires { ⌜ RuleStands (signatureAt (now sig) (now symbols) counts) variables (now s) rule ⌝ }
+    ensures { λ r. ⌜ ((b : Block) → SectionsAt (now (s .entry)) (rule .premises) (rule .conclusions) (rule .end) b → verdictOf r
+        ≡ firstVerdict (signatureAt (now (sig .entry)) (now (symbols .entry)) counts) (table (now (s .entry))) (flatRuleOf b) (own .model .0) (ownersIn (now (s .entry)) own)) ⌝ }
+{
+    let first = Side::Conclusions;
+    let v = section_verdict(sig, symbols, counts, s, index, variables, own, rule, first);
+    if !is_open(v) {
+        return v;
     }
+    let second = Side::Premises;
+    section_verdict(sig, symbols, counts, s, index, variables, own, rule, second)
+}
+
+// The scope of a rule by its verdict: the owners' model, if that is left open.
+fn settled(v: Verdict, own: Owned) -> Scope
+    ensures { λ r. ⌜ r ≡ settledAs own v ⌝ }
+{
     let model = own.model;
-    Scope::Model {
-        model,
-        start: own.start,
-        count: own.count,
+    match v {
+        Verdict::Open => Scope::Model {
+            model,
+            start: own.start,
+            count: own.count,
+        },
+        Verdict::Global => Scope::Global,
+        Verdict::Refused(n) => Scope::Refused(n),
     }
 }
 
-// The scope of a rule: by its first conclusion, if it has one.
+// The scope of a rule by its first conclusion.
+fn output_scope(
+    sig: &[u8],
+    symbols: &[u16; INDEX],
+    counts: Counts,
+    s: &[u8],
+    index: &[u16; GROUP_INDEX],
+    variables: usize,
+    rule: Sections,
+    t: Statement,
+) -> Scope
+    requires { ⌜ Indexed (now sig) (now symbols) counts ⌝ }
+    requires { ⌜ Listed (now s) (now index) variables ⌝ }
+    requires { ⌜ RuleStands (signatureAt (now sig) (now symbols) counts) variables (now s) rule ⌝ }
+    requires { ⌜ StatementAt (signatureAt (now sig) (now symbols) counts) variables (now s) t ⌝ }
+    ensures { λ r. ⌜ ((b : Block) → SectionsAt (now (s .entry)) (rule .premises) (rule .conclusions) (rule .end) b → scopeAnswer (now (s .entry)) r
+        ≡ outputScope (signatureAt (now (sig .entry)) (now (symbols .entry)) counts) (table (now (s .entry))) (flatRuleOf b) (said (now (s .entry)) t)
+        (parentModel (signatureAt (now (sig .entry)) (now (symbols .entry)) counts) (t .kind) (t .symbol))) ⌝ }
+    ensures { λ r. ⌜ Leads r (t .at) (length (now (s .entry))) ⌝ }
+{
+    let p = parent_model_type(sig, symbols, counts, t.kind, t.symbol);
+    let ParentModel::Model(model) = p else {
+        return Scope::Global;
+    };
+    let count = owner_count(sig, symbols, counts, model);
+    if too_few(t, count) {
+        return Scope::Refused(43);
+    }
+    let start = t.at;
+    let own = Owned {
+        model,
+        start,
+        count,
+    };
+    let v = rule_verdict(sig, symbols, counts, s, index, variables, own, rule);
+    settled(v, own)
+}
+
+// The scope of a rule.
 pub fn rule_scope(
     sig: &[u8],
     symbols: &[u16; INDEX],
@@ -221,19 +217,5 @@ pub fn rule_scope(
         return Scope::Global;
     };
     let t = read_statement(s, start, len);
-    let p = parent_model_type(sig, symbols, counts, t.kind, t.symbol);
-    let ParentModel::Model(model) = p else {
-        return Scope::Global;
-    };
-    let count = owner_count(sig, symbols, counts, model);
-    if t.count < count {
-        return Scope::Refused(43);
-    }
-    // Behind the kind and the symbol stand the variables.
-    let own = Owned {
-        model,
-        start: start + 3,
-        count,
-    };
-    model_scope(sig, symbols, counts, s, index, variables, own, rule)
+    output_scope(sig, symbols, counts, s, index, variables, rule, t)
 }

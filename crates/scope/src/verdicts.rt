@@ -1,15 +1,18 @@
 // What one statement of a rule settles.
 ghost use mathlib.Core.Path.{_≡_};
 ghost use Prim.Native.Nat.{_+_, _≤_, _<_, min};
+ghost use lib.Dec.{ltb};
 ghost use Rattle.definition.specs.Base.{has};
 ghost use Rattle.definition.specs.Signature.{typeParents};
 ghost use Rattle.definition.specs.Scope as definition;
-ghost use Rattle.definition.specs.Scope.{ownerCount, ownersVerdict, conclusionVerdict, premiseVerdict};
+ghost use Rattle.definition.specs.Scope.{ownerCount, ownersVerdict};
 ghost use Rattle.signature.specs.Index.{signatureAt, Indexed};
 ghost use Rattle.group.specs.Lookups.{table, Listed, VariablesAt};
 ghost use Rattle.scope.specs.Statements.{said, StatementAt, ownersIn, OwnedAt};
 ghost use Rattle.scope.specs.Answers.{verdictOf};
+ghost use Rattle.scope.specs.Sides.{withoutModel, suiting, verdictAt};
 use crate::answers::Owned;
+use crate::answers::Side;
 use crate::answers::Verdict;
 use group::ids::GROUP_INDEX;
 use group::lookup::Statement;
@@ -75,6 +78,13 @@ fn smaller(a: usize, b: usize) -> usize
     b
 }
 
+// Has a statement fewer arguments than owners are compared? A FuncDomain's result is none of them.
+pub fn too_few(t: Statement, count: usize) -> bool
+    ensures { λ r. ⌜ r ≡ ltb (t .count) count ⌝ }
+{
+    t.count < count
+}
+
 // A statement's first variables against the owners, so many of each.
 fn compared(
     s: &[u8],
@@ -89,7 +99,7 @@ fn compared(
     requires { ⌜ VariablesAt (now s) variables (t .at) (t .count) ⌝ }
     ensures { λ r. ⌜ verdictOf r ≡ ownersVerdict (table (now (s .entry))) (ownersIn (now (s .entry)) own) count (said (now (s .entry)) t) ⌝ }
 {
-    if t.count < count {
+    if too_few(t, count) {
         return Verdict::Refused(43);
     }
     if same_variables(s, index, variables, t.at, own.start, count) {
@@ -98,38 +108,42 @@ fn compared(
     Verdict::Global
 }
 
-// A conclusion must have the model and its owners; an Equality has no model.
-pub fn conclusion_verdict(
-    sig: &[u8],
-    symbols: &[u16; INDEX],
-    counts: Counts,
-    s: &[u8],
-    index: &[u16; GROUP_INDEX],
-    variables: usize,
-    own: Owned,
-    t: Statement,
-) -> Verdict
-    requires { ⌜ Indexed (now sig) (now symbols) counts ⌝ }
-    requires { ⌜ Listed (now s) (now index) variables ⌝ }
-    requires { ⌜ OwnedAt (signatureAt (now sig) (now symbols) counts) (counts .types) variables (now s) own ⌝ }
-    requires { ⌜ StatementAt (signatureAt (now sig) (now symbols) counts) variables (now s) t ⌝ }
-    ensures { λ r. ⌜ verdictOf r ≡ conclusionVerdict (signatureAt (now (sig .entry)) (now (symbols .entry)) counts) (table (now (s .entry)))
-        (own .model .0) (ownersIn (now (s .entry)) own) (said (now (s .entry)) t) ⌝ }
+// A statement without a model. A conclusion must have one; a premise passes, but an Equality should have been eliminated.
+fn without_model(side: Side, kind: u8) -> Verdict
+    ensures { λ r. ⌜ verdictOf r ≡ withoutModel side kind ⌝ }
 {
-    let p = parent_model_type(sig, symbols, counts, t.kind, t.symbol);
-    let ParentModel::Model(model) = p else {
-        return Verdict::Global;
-    };
-    let wanted = own.model;
-    if model.0 != wanted.0 {
-        return Verdict::Global;
+    match side {
+        Side::Conclusions => Verdict::Global,
+        Side::Premises => {
+            if kind == EQUALITY {
+                return Verdict::Refused(42);
+            }
+            Verdict::Open
+        }
     }
-    compared(s, index, variables, own, own.count, t)
 }
 
-// A premise's relation must have a related model, and of the owners as many as both models have. An Equality should have been
-// eliminated; a TypeSet has no model, and like every relation without one it passes.
-pub fn premise_verdict(
+// Does a statement's model suit the rule's? A conclusion's must be the same, a premise's related.
+fn suits(
+    sig: &[u8],
+    symbols: &[u16; INDEX],
+    counts: Counts,
+    side: Side,
+    m: TypeId,
+    p: TypeId,
+) -> bool
+    requires { ⌜ Indexed (now sig) (now symbols) counts ⌝ }
+    requires { ⌜ (m .0 < counts .types) × (p .0 < counts .types) ⌝ }
+    ensures { λ r. ⌜ r ≡ suiting side (signatureAt (now (sig .entry)) (now (symbols .entry)) counts) (m .0) (p .0) ⌝ }
+{
+    match side {
+        Side::Conclusions => p.0 == m.0,
+        Side::Premises => related(sig, symbols, counts, m, p),
+    }
+}
+
+// What a statement settles. Of the owners it must have as many as both models have: where the models are the same, all.
+pub fn statement_verdict(
     sig: &[u8],
     symbols: &[u16; INDEX],
     counts: Counts,
@@ -137,27 +151,24 @@ pub fn premise_verdict(
     index: &[u16; GROUP_INDEX],
     variables: usize,
     own: Owned,
+    side: Side,
     t: Statement,
 ) -> Verdict
     requires { ⌜ Indexed (now sig) (now symbols) counts ⌝ }
     requires { ⌜ Listed (now s) (now index) variables ⌝ }
     requires { ⌜ OwnedAt (signatureAt (now sig) (now symbols) counts) (counts .types) variables (now s) own ⌝ }
     requires { ⌜ StatementAt (signatureAt (now sig) (now symbols) counts) variables (now s) t ⌝ }
-    ensures { λ r. ⌜ verdictOf r ≡ premiseVerdict (signatureAt (now (sig .entry)) (now (symbols .entry)) counts) (table (now (s .entry)))
+    ensures { λ r. ⌜ verdictOf r ≡ verdictAt side (signatureAt (now (sig .entry)) (now (symbols .entry)) counts) (table (now (s .entry)))
         (own .model .0) (ownersIn (now (s .entry)) own) (said (now (s .entry)) t) ⌝ }
 {
-    if t.kind == EQUALITY {
-        return Verdict::Refused(42);
-    }
     let p = parent_model_type(sig, symbols, counts, t.kind, t.symbol);
     let ParentModel::Model(parent) = p else {
-        return Verdict::Open;
+        return without_model(side, t.kind);
     };
     let model = own.model;
-    if !related(sig, symbols, counts, model, parent) {
+    if !suits(sig, symbols, counts, side, model, parent) {
         return Verdict::Global;
     }
     let n = owner_count(sig, symbols, counts, parent);
-    let prefix = smaller(n, own.count);
-    compared(s, index, variables, own, prefix, t)
+    compared(s, index, variables, own, smaller(n, own.count), t)
 }

@@ -38,14 +38,14 @@ returns-2 c = (ap refused (c .group-number .ensures) ∙ group-refused _ _ _ _ (
 returns-3 : tie.Need-returns-3
 returns-3 c = (no-rule _ _ _ _ (c .before .before .before .before .before .before .before .before .before .before .read-signature .ensures .0) (c .before .before .before .before .before .before .before .before .a .given .1) (c .before .before .before .before .read-group .ensures .0) (c .before .before .b .given .1) (usable-group (c .before .before .b .given .1) (c .before .before .before .before .read-group .ensures .1)) (c .if1 .taken), tt)
 
-sections-requires : tie.Need-sections-requires
-sections-requires c κs = (usable-group (c .before .before .before .b .given .1) (c .before .before .before .before .before .read-group .ensures .1) .rule, c .before .if1 .left)
+rule-sections-requires : tie.Need-rule-sections-requires
+rule-sections-requires c κs = (usable-group (c .before .before .before .b .given .1) (c .before .before .before .before .before .read-group .ensures .1) .rule, c .before .if1 .left)
 
 rule-scope-requires : tie.Need-rule-scope-requires
-rule-scope-requires c κs = (usable-signature (c .before .before .before .before .before .before .before .before .before .before .before .before .a .given .1) (c .before .before .before .before .before .before .before .before .before .before .before .before .before .before .read-signature .ensures .1), (usable-group (c .before .before .before .before .before .before .b .given .1) (c .before .before .before .before .before .before .before .before .read-group .ensures .1) .variable, rule-stands (usable-group (c .before .before .before .before .before .before .b .given .1) (c .before .before .before .before .before .before .before .before .read-group .ensures .1)) (c .before .before .before .before .if1 .left) (c .before .before .sections .ensures .0)))
+rule-scope-requires c κs = (usable-signature (c .before .before .before .before .before .before .before .before .before .before .before .before .a .given .1) (c .before .before .before .before .before .before .before .before .before .before .before .before .before .before .read-signature .ensures .1), (usable-group (c .before .before .before .before .before .before .b .given .1) (c .before .before .before .before .before .before .before .before .read-group .ensures .1) .variable, rule-stands (usable-group (c .before .before .before .before .before .before .b .given .1) (c .before .before .before .before .before .before .before .before .read-group .ensures .1)) (c .before .before .before .before .if1 .left) (c .before .before .rule-sections .ensures .0)))
 
 returns-4 : tie.Need-returns-4
-returns-4 c = (rule-answer _ _ _ _ (c .before .before .before .before .before .before .before .before .before .before .before .before .before .before .before .read-signature .ensures .0) (c .before .before .before .before .before .before .before .before .before .before .before .before .before .a .given .1) (c .before .before .before .before .before .before .before .before .before .read-group .ensures .0) (c .before .before .before .before .before .before .before .b .given .1) (usable-group (c .before .before .before .before .before .before .before .b .given .1) (c .before .before .before .before .before .before .before .before .before .read-group .ensures .1)) (c .before .before .before .before .before .if1 .left) (c .rule-scope .ensures .0 _ (c .before .before .before .sections .ensures .0)), owners-stand (usable-group (c .before .before .before .before .before .before .before .b .given .1) (c .before .before .before .before .before .before .before .before .before .read-group .ensures .1)) (c .before .before .before .before .before .if1 .left) (c .before .before .before .sections .ensures .0) (c .before .before .before .sections .ensures .1) (c .rule-scope .result) (c .rule-scope .ensures .1))
+returns-4 c = (rule-answer _ _ _ _ (c .before .before .before .before .before .before .before .before .before .before .before .before .before .before .before .read-signature .ensures .0) (c .before .before .before .before .before .before .before .before .before .before .before .before .before .a .given .1) (c .before .before .before .before .before .before .before .before .before .read-group .ensures .0) (c .before .before .before .before .before .before .before .b .given .1) (usable-group (c .before .before .before .before .before .before .before .b .given .1) (c .before .before .before .before .before .before .before .before .before .read-group .ensures .1)) (c .before .before .before .before .before .if1 .left) (c .rule-scope .ensures .0 _ (c .before .before .before .rule-sections .ensures .0)), owners-stand (usable-group (c .before .before .before .before .before .before .before .b .given .1) (c .before .before .before .before .before .before .before .before .before .read-group .ensures .1)) (c .before .before .before .before .before .if1 .left) (c .before .before .before .rule-sections .ensures .0) (c .before .before .before .rule-sections .ensures .1) (c .rule-scope .result) (c .rule-scope .ensures .1))
 
 pub scope-spec : {M : Type 1} → statement M
 scope-spec =
@@ -62,6 +62,6 @@ scope-spec =
     group-number-requires
     returns-2
     returns-3
-    sections-requires
+    rule-sections-requires
     rule-scope-requires
     returns-4)
