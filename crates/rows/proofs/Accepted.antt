@@ -144,10 +144,10 @@ module _ (results symbols : ℕ) (columns : ℕ → ℕ) (els : List ℕ) where
 
 -- Structure k of an accepted rule.
 module _ {sig : Signature} {s index : List ℕ} {n : ℕ} (w : Indexed sig s index n) (small : SmallArities sig) (k : ℕ) (h : k < n) where
-  abbrev body : List Field
+  abbrev pub body : List Field
   body = blockAt (rulePart s .fields) k .body
 
-  body-passed : bodyFault sig (namedElements body) body ≡ none
+  pub body-passed : bodyFault sig (namedElements body) body ≡ none
   body-passed =
       let l = w .counted in
       structure-bodies sig (blocks letterS (rulePart s .fields)) (rule-parts sig (rulePart s .fields) (w .sound) .1) (blockAt (rulePart s .fields) k)

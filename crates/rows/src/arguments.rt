@@ -72,15 +72,9 @@ fn mark(
 
 // The arguments of the rows of a section are marked.
 fn mark_rows(
-    sig: &[u8],
-    arities: &[u16; INDEX],
-    counts: Counts,
-    s: &[u8],
-    index: &[u16; RULE_INDEX],
-    k: usize,
-    kind: u8,
-    from: usize,
-    end: usize,
+    sig: &[u8], arities: &[u16; INDEX], counts: Counts,
+    s: &[u8], index: &[u16; RULE_INDEX], k: usize,
+    kind: u8, from: usize, end: usize,
     flags: &mut [bool; ROWS],
 )
     requires { ⌜ Indexed (now sig) (now arities) counts ⌝ }
@@ -119,15 +113,9 @@ fn mark_rows(
 
 // Which elements of a structure are constrained, by their places. Its R rows stand from one position on, its A rows from a second to a third.
 pub fn constrained_els(
-    sig: &[u8],
-    arities: &[u16; INDEX],
-    counts: Counts,
-    s: &[u8],
-    index: &[u16; RULE_INDEX],
-    k: usize,
-    preds: usize,
-    funcs: usize,
-    end: usize,
+    sig: &[u8], arities: &[u16; INDEX], counts: Counts,
+    s: &[u8], index: &[u16; RULE_INDEX], k: usize,
+    preds: usize, funcs: usize, end: usize,
 ) -> [bool; ROWS]
     requires { ⌜ Indexed (now sig) (now arities) counts ⌝ }
     requires { ⌜ k < structureLimit ⌝ }
@@ -139,29 +127,7 @@ pub fn constrained_els(
         → take (countAt (now (index .entry)) k) r ≡ each (constrained (signatureAt (now (sig .entry)) (now (arities .entry)) counts) st) (numbersOf st)) ⌝ }
 {
     let mut flags = [false; ROWS];
-    mark_rows(
-        sig,
-        arities,
-        counts,
-        s,
-        index,
-        k,
-        PREDICATE,
-        preds,
-        funcs,
-        &mut flags,
-    );
-    mark_rows(
-        sig,
-        arities,
-        counts,
-        s,
-        index,
-        k,
-        FUNCTION,
-        funcs,
-        end,
-        &mut flags,
-    );
+    mark_rows(sig, arities, counts, s, index, k, PREDICATE, preds, funcs, &mut flags);
+    mark_rows(sig, arities, counts, s, index, k, FUNCTION, funcs, end, &mut flags);
     flags
 }

@@ -175,15 +175,7 @@ pub fn new_rows(
         else {
             return flags;
         };
-        flags[i] = !is_image(
-            s,
-            num(s, start),
-            start + 2,
-            len / 2 - 1,
-            symbols,
-            els,
-            images,
-        );
+        flags[i] = !is_image(s, num(s, start), start + 2, len / 2 - 1, symbols, els, images);
         i += 1;
         at = next;
     }

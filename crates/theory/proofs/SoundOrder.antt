@@ -100,7 +100,7 @@ module _ (sig : Signature) (fs : List Field) (e : ruleFault sig fs ≡ none) whe
         (λ f i. let p = among-mem letterE _ (b .body) t i in element-key f (element-long sig _ (p .0) (p .1) f (p .2)))
         (letter-ascends (elementFault sig (namedElements (b .body))) _ (element-order sig _) letterE (b .body) t)
 
-  ordered : OrderedRule (ruleOf fs)
+  pub ordered : OrderedRule (ruleOf fs)
   unfolding ruleOf
   ordered = let t = rule-parts sig fs e in record {
       elements-ascend = λ st m. let r = mem-each structureOf _ m in rw (r .2) (structure-ascends (r .0) (r .1));

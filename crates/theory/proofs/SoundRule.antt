@@ -106,7 +106,7 @@ module _ (sig : Signature) (els : List ℕ) (body : List Field) where
       let tv = or-else-none ofV ofI (ta .1) in
       (te .0, tr .0, ta .0, tv .0, tv .1)
 
-structure-sound : (sig : Signature) (b : Block) → bodyFault sig (namedElements (b .body)) (b .body) ≡ none → SoundStructure sig (structureOf b)
+pub structure-sound : (sig : Signature) (b : Block) → bodyFault sig (namedElements (b .body)) (b .body) ≡ none → SoundStructure sig (structureOf b)
 unfolding structureOf rowOf
 structure-sound sig b e =
     let t = body-parts sig (namedElements (b .body)) (b .body) e in
@@ -137,7 +137,7 @@ target-is f = refl
 abbrev inside : List (List ℕ) → Field → Pair → Bool
 inside named f p = has (p .key) (elementsAt named (mapOf f .source)) && has (p .image) (elementsAt named (mapOf f .target))
 
-map-passed : (named : List (List ℕ)) (n : ℕ) (l : Option Field) (f : Field) → mapFault named n l f ≡ none
+pub map-passed : (named : List (List ℕ)) (n : ℕ) (l : Option Field) (f : Field) → mapFault named n l f ≡ none
     → (mapOf f .source < length named) × (mapOf f .target < length named)
     × ((p : Pair) → p ∈ mapOf f .pairs → (p .key ∈ elementsAt named (mapOf f .source)) × (p .image ∈ elementsAt named (mapOf f .target)))
     × (keysAscend (mapOf f .pairs) ≡ true)
@@ -152,7 +152,7 @@ map-passed named n l f e =
       λ p m. let h = all-mem (inside named f) (mapOf f .pairs) pairs m in (has-mem _ _ (and-left _ _ h), has-mem _ _ (and-right (has (p .key) (elementsAt named (mapOf f .source))) _ h)),
       not-false _ (or-right (notAbove sourceTarget l f) _ (t6 .0)))
 
-kind-passed : (named : List (List ℕ)) (n : ℕ) (l : Option Field) (f : Field) → kindFault named n l f ≡ none
+pub kind-passed : (named : List (List ℕ)) (n : ℕ) (l : Option Field) (f : Field) → kindFault named n l f ≡ none
     → (kindOf f .source < length named) × (kindOf f .target < length named)
 unfolding kindFault kindOf
 kind-passed named n l f e =
@@ -160,7 +160,7 @@ kind-passed named n l f e =
     let long : length (f .content) ≡ 5 = eqb-true _ _ (not-false _ (t3 .0)) in
     two-ends (f .content) (length named) (omega arith) (not-false _ (or-left _ _ (t5 .0)))
 
-auxiliary-passed : (named : List (List ℕ)) (n : ℕ) (l : Option Field) (f : Field) → auxiliaryFault named n l f ≡ none
+pub auxiliary-passed : (named : List (List ℕ)) (n : ℕ) (l : Option Field) (f : Field) → auxiliaryFault named n l f ≡ none
     → auxiliaryOf f .structure < length named
 unfolding auxiliaryFault
 auxiliary-passed named n l f e =
@@ -187,7 +187,7 @@ pub structure-bodies : (sig : Signature) (bs : List Block) → structuresFault s
 structure-bodies sig bs e = structures-passed sig 0 bs (omega arith) e .1
 
 -- What can be named in a structure is what it has.
-named-at : (fs : List Field) (s e : ℕ) → s < length (namedIn fs) → e ∈ elementsAt (namedIn fs) s
+pub named-at : (fs : List Field) (s e : ℕ) → s < length (namedIn fs) → e ∈ elementsAt (namedIn fs) s
     → e ∈ numbersOf (getD (each structureOf (blocks letterS fs)) s noStructure)
 unfolding namedIn
 named-at fs s e h m =
@@ -263,7 +263,7 @@ module _ (sig : Signature) (fs : List Field) where
       let tk = or-else-none ofK ofX (tm .1) in
       (tn .0, ts .0, tm .0, tk .0, tk .1)
 
-  named-length : length (namedIn fs) ≡ length (each structureOf (blocks letterS fs))
+  pub named-length : length (namedIn fs) ≡ length (each structureOf (blocks letterS fs))
   unfolding namedIn
   named-length = rw (length-each (λ (b : Block). namedElements (b .body)), length-each structureOf)
 

@@ -75,7 +75,7 @@ fiber-in : (pairs : List Pair) (e : ℕ) {k : ℕ} → k ∈ fiber pairs e → (
 unfolding fiber
 fiber-in pairs e m = let r = mem-each (λ (p : Pair). p .key) _ m in (r .0, mem-keep _ pairs (r .1) .0, r .2)
 
-kernel-in : (pairs : List Pair) (st : Structure) {p : Pair} → p ∈ kernelPairs pairs st
+pub kernel-in : (pairs : List Pair) (st : Structure) {p : Pair} → p ∈ kernelPairs pairs st
     → (a : Pair) × (b : Pair) × (a ∈ pairs) × (b ∈ pairs) × (p .key ≡ a .key) × (p .image ≡ b .key)
 unfolding kernelPairs
 kernel-in pairs st m =

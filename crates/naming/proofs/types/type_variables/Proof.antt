@@ -1,0 +1,73 @@
+use Rattle.naming.proofs.News.{Typing, typing, type-on, type-pass, type-end}
+use Rattle.naming.proofs.Placed.{below-count, past-count, element-few, type-read}
+use Rattle.naming.specs.Structures.{structureIn}
+use mathlib.Core.Logic.{⊎-elim}
+use Prim.Native.Nat.{_≤_, _-_}
+use borrow.Author.Needs.{needs}
+use Rattle.naming.proofs.types.type_variables.Statement.{statement}
+use Rattle.naming.proofs.types.type_variables.Tie as tie
+
+abbrev Inv-loop : tie.InvT-loop
+Inv-loop types₀ s index k first row count number₀ i₀ types number i = (i ≤ count) × Typing (structureIn s k) first row types₀ types number i
+
+abbrev μ-loop : tie.MeasureT-loop
+μ-loop types₀ s index k first row count number₀ i₀ types number i = count - i
+
+element-count-requires : tie.Need-element-count-requires Inv-loop μ-loop
+element-count-requires c κs = search needs
+
+place-requires : tie.Need-place-requires Inv-loop μ-loop
+place-requires c κs = search needs
+
+loop-holds : tie.Need-loop-holds Inv-loop μ-loop
+loop-holds c = (search needs, rw (c .place .ensures .0) (typing _ _ _ _))
+
+mul-if1 : tie.Need-mul-if1 Inv-loop μ-loop
+mul-if1 c = search needs
+
+array-read-if1 : tie.Need-array-read-if1 Inv-loop μ-loop
+array-read-if1 c = search needs
+
+read-element-requires : tie.Need-read-element-requires Inv-loop μ-loop
+read-element-requires c κs = ((c .before .before .before .before .before .before .pre .0 .few, search needs), c .before .before .before .before .before .before .pre .0 .elements)
+
+mul-types : tie.Need-mul-types Inv-loop μ-loop
+mul-types c = search needs
+
+element-write-types : tie.Need-element-write-types Inv-loop μ-loop
+element-write-types c = search needs
+
+add-number : tie.Need-add-number Inv-loop μ-loop
+add-number c = search needs
+
+add-i : tie.Need-add-i Inv-loop μ-loop
+add-i c = search needs
+
+loop-less : tie.Need-loop-less Inv-loop μ-loop
+loop-less c = search needs
+
+loop-again : tie.Need-loop-again Inv-loop μ-loop
+loop-again c = ⊎-elim (λ w. (search needs, rw (w .3, w .4) (type-on (c .before .before .loop .inv .1) (let f = element-few (c .before .before .before .before .before .before .pre .0) in search needs) (below-count (c .before .before .before .before .before .before .pre .0) (c .before .before .before .before .element-count .ensures) (c .before .loop-test .taken)) (w .0 .taken) (type-read (c .before .before .before .before .before .before .pre .0) (w .1 .result) _ (search needs) (w .1 .ensures .0))))) (λ w. (search needs, rw (w .1, w .2) (type-pass (c .before .before .loop .inv .1) (let f = element-few (c .before .before .before .before .before .before .pre .0) in search needs) (below-count (c .before .before .before .before .before .before .pre .0) (c .before .before .before .before .element-count .ensures) (c .before .loop-test .taken)) (w .0 .left)))) (c .if1 .came)
+
+returns : tie.Need-returns Inv-loop μ-loop
+returns c = type-end (c .before .loop .inv .1) (let f = element-few (c .before .before .before .before .before .pre .0) in search needs) (past-count (c .before .before .before .before .before .pre .0) (c .before .before .before .element-count .ensures) (c .loop-test .left))
+
+pub type-variables-spec : {M : Type 1} → statement M
+type-variables-spec =
+    tie.close
+    (tie.spec
+    Inv-loop
+    μ-loop
+    element-count-requires
+    place-requires
+    loop-holds
+    mul-if1
+    array-read-if1
+    read-element-requires
+    mul-types
+    element-write-types
+    add-number
+    add-i
+    loop-less
+    loop-again
+    returns)

@@ -1,0 +1,44 @@
+-- A structure of a rule, as the index of the rule has it.
+use mathlib.Core.List.{List}
+use mathlib.Core.Path.{_≡_}
+use Prim.Native.Nat.{ℕ, _+_, _-_, _*_, _≤_, _<_}
+use lib.Dec.{eqb}
+use lib.ListN.{length, getD}
+use Rattle.definition.specs.Base.{pick, each, _∈_}
+use Rattle.definition.specs.Limits.{structureLimit, nameBytes}
+use Rattle.definition.specs.Records.{Field}
+use Rattle.definition.specs.Rule.{Structure, Name, nameOf}
+use Rattle.definition.specs.Walk.{structureAt}
+use Rattle.records.specs.Places.{twoAt, stretch, Run}
+use Rattle.rule.specs.Lookup.{ruleAt}
+use Rattle.rows.specs.Elements.{elementsIn, ElementsAt}
+
+-- A structure of the rule that a record says.
+unfoldable pub structureIn : List ℕ → ℕ → Structure
+structureIn s k = structureAt (ruleAt s) k
+
+-- The names of a structure by the numbers before each: its V names have one, its I names two.
+abbrev pub namesOf : Structure → ℕ → List Name
+namesOf st count = pick (eqb count 1) (st .variableNames) (st .identifierNames)
+
+-- The fields of a list of names stand from one position to another; each has its numbers, and a name of a permitted length.
+pub record NamesAt (s : List ℕ) (from end count : ℕ) (names : List Name) : Type 0 where
+  pub fields : List Field
+  pub run : Run s from end fields
+  pub same : names ≡ each (nameOf count) fields
+  pub sized : (f : Field) → f ∈ fields → (2 * count ≤ length (f .content)) × (length (f .content) ≤ 2 * count + nameBytes)
+
+-- The index has the elements and the names of structure k.
+pub record Laid (s index : List ℕ) (k : ℕ) : Type 0 where
+  pub few : k < structureLimit
+  pub elements : ElementsAt s index k
+  pub same : structureIn s k .elements ≡ elementsIn s index k
+  pub names : (count : ℕ) → 1 ≤ count → count ≤ 2
+      → NamesAt s (getD index (6 * k + 4 + count) 0) (getD index (6 * k + 4 + count + 1) 0) count (namesOf (structureIn s k) count)
+
+-- The N field stands first: its index, and a name that may be empty.
+pub record Headed (s : List ℕ) : Type 0 where
+  pub inside : 3 + twoAt s 1 ≤ length s
+  pub sized : (2 ≤ twoAt s 1) × (twoAt s 1 ≤ 2 + nameBytes)
+  pub index : ruleAt s .index ≡ twoAt s 3
+  pub name : ruleAt s .name ≡ stretch s 5 (twoAt s 1 - 2)

@@ -1,0 +1,89 @@
+// The variables that the elements of a structure get when a map reaches it.
+ghost use mathlib.Core.List.{[]};
+ghost use mathlib.Core.Path.{_≡_};
+ghost use Prim.Native.Nat.{_+_, _≤_, _<_};
+ghost use lib.ListN.{getD, set, replicate};
+ghost use Rattle.definition.specs.Base.{each};
+ghost use Rattle.definition.specs.Limits.{fieldLimit, structureLimit, variableLimit};
+ghost use Rattle.definition.specs.Names as definition;
+ghost use Rattle.definition.specs.Names.{numbered};
+ghost use Rattle.definition.specs.Walk.{nothingTaken};
+ghost use Rattle.rows.specs.Maps.{MapIn};
+ghost use Rattle.naming.specs.Structures.{structureIn, Laid};
+ghost use Rattle.naming.specs.Variables.{noVar, entryOf, rowOf, GivenOut};
+ghost use Rattle.naming.specs.Maps.{Joins, takenOver};
+use crate::variables::NO_VAR;
+use crate::variables::assign_structure_el_vars;
+use rows::maps::Map;
+use rows::maps::pair_image;
+use rows::maps::pair_key;
+use rule::elements::Found;
+use rule::elements::element_count;
+use rule::elements::find_element;
+use rule::ids::RULE_INDEX;
+
+// What each element of the target takes over: by ascending key, the image takes the key's variable, a later key replacing.
+// The variables are those of the source's elements. Keys and images are elements, so each of them is found.
+pub fn carried(
+    s: &[u8],
+    index: &[u16; RULE_INDEX],
+    vars: [u16; 64],
+    src: usize,
+    tgt: usize,
+    m: Map,
+) -> [u16; 64]
+    requires { ⌜ Laid (now s) (now index) src × Laid (now s) (now index) tgt ⌝ }
+    requires { ⌜ MapIn (now s) m × Joins (now s) src tgt m ⌝ }
+    ensures { λ r. ⌜ r ≡ rowOf (each entryOf (takenOver (now (s .entry)) vars src tgt m)) ⌝ }
+{
+    let mut row = [NO_VAR; 64];
+    let mut p: usize = 0;
+    while p < m.pairs {
+        let from = find_element(s, index, src, pair_key(s, m, p));
+        let Found::At(i) = from else {
+            return row;
+        };
+        let to = find_element(s, index, tgt, pair_image(s, m, p));
+        let Found::At(j) = to else {
+            return row;
+        };
+        row[j] = vars[i];
+        p += 1;
+    }
+    row
+}
+
+// The table with the target's variables: those taken over from the source, and the next numbers for the others.
+pub fn assign_el_vars(
+    table: [[u16; 64]; 32],
+    s: &[u8],
+    index: &[u16; RULE_INDEX],
+    src: usize,
+    tgt: usize,
+    m: Map,
+    next: u16,
+) -> [[u16; 64]; 32]
+    requires { ⌜ Laid (now s) (now index) src × Laid (now s) (now index) tgt ⌝ }
+    requires { ⌜ MapIn (now s) m × Joins (now s) src tgt m ⌝ }
+    requires { ⌜ GivenOut (structureIn (now s) src) (getD table src []) next ⌝ }
+    requires { ⌜ next + fieldLimit ≤ variableLimit ⌝ }
+    ensures { λ r. ⌜ r ≡ set table tgt (rowOf (numbered next (takenOver (now (s .entry)) (getD table src []) src tgt m))) ⌝ }
+{
+    let taken = carried(s, index, table[src], src, tgt, m);
+    let row = assign_structure_el_vars(taken, element_count(index, tgt), next);
+    let mut t = table;
+    t[tgt] = row;
+    t
+}
+
+// The table with the variables of structure 0, whose elements take nothing over.
+pub fn initial_el_vars(s: &[u8], index: &[u16; RULE_INDEX]) -> [[u16; 64]; 32]
+    requires { ⌜ Laid (now s) (now index) 0 ⌝ }
+    ensures { λ r. ⌜ r ≡ set (replicate structureLimit (replicate fieldLimit noVar)) 0 (rowOf (numbered 0 (nothingTaken (structureIn (now (s .entry)) 0)))) ⌝ }
+{
+    let none = [NO_VAR; 64];
+    let row = assign_structure_el_vars(none, element_count(index, 0), 0);
+    let mut t = [[NO_VAR; 64]; 32];
+    t[0] = row;
+    t
+}

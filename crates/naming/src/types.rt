@@ -1,0 +1,42 @@
+// The types of the variables, by their numbers.
+ghost use mathlib.Core.Path.{_≡_};
+ghost use Prim.Native.Nat.{_+_, _≤_, _<_};
+ghost use lib.ListN.{length};
+ghost use lib.Seq.{sets};
+ghost use Rattle.definition.specs.Base.{each};
+ghost use Rattle.definition.specs.Group as definition;
+ghost use Rattle.definition.specs.Limits.{fieldLimit, variableLimit};
+ghost use Rattle.naming.specs.Structures.{structureIn, Laid};
+ghost use Rattle.naming.specs.Variables.{newIn};
+use crate::variables::VARIABLES;
+use records::fields::place;
+use rows::elements::read_element;
+use rule::elements::element_count;
+use rule::ids::RULE_INDEX;
+
+// The new variables of a numbered row, those from `first` on, get the types of their elements.
+pub fn type_variables(
+    types: &mut [u16; VARIABLES],
+    s: &[u8],
+    index: &[u16; RULE_INDEX],
+    k: usize,
+    row: [u16; 64],
+    first: u16,
+)
+    requires { ⌜ Laid (now s) (now index) k ⌝ }
+    requires { ⌜ (first + fieldLimit ≤ variableLimit) × (length (now types) ≡ variableLimit) ⌝ }
+    ensures { λ r. ⌜ now (types .exit) ≡ sets (now (types .entry)) first (each (λ (v : definition.Variable). v .type) (newIn (structureIn (now (s .entry)) k) first row)) ⌝ }
+{
+    let count = element_count(index, k);
+    let mut number = place(first);
+    let mut i: usize = 0;
+    while i < count {
+        if first <= row[i] {
+            let e = read_element(s, index, k, i);
+            let t = e.ty;
+            types[number] = t.0;
+            number += 1;
+        }
+        i += 1;
+    }
+}

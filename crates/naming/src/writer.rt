@@ -1,0 +1,163 @@
+// Names as bytes: the W fields of new variables, the group's name, the rules' names.
+ghost use mathlib.Core.List.{_∷_, _++_};
+ghost use mathlib.Core.Path.{_≡_};
+ghost use Prim.Native.Nat.{_+_, _≤_, _<_};
+ghost use lib.ListN.{length};
+ghost use Rattle.definition.specs.Base.{each};
+ghost use Rattle.definition.specs.Letters.{underscore};
+ghost use Rattle.definition.specs.Limits.{fieldLimit, variableLimit};
+ghost use Rattle.definition.specs.Names.{decimal, newVariable};
+ghost use Rattle.definition.specs.Walk.{groupName};
+ghost use Rattle.definition.specs.Writer.{variableField, fieldBytes, recordBytes};
+ghost use Rattle.records.specs.Buffer.{Put, countLimit};
+ghost use Rattle.rows.specs.Elements.{elementIn};
+ghost use Rattle.rule.specs.Elements.{countAt};
+ghost use Rattle.rule.specs.Lookup.{ruleAt};
+ghost use Rattle.naming.specs.Structures.{structureIn, Laid, Headed};
+ghost use Rattle.naming.specs.Variables.{newIn};
+ghost use Rattle.naming.specs.Bases.{baseBytes, Fits, variableBytes};
+use crate::bases::Base;
+use crate::bases::el_base_name;
+use records::fields::num;
+use records::fields::two;
+use records::write::past;
+use records::write::put_byte;
+use records::write::put_bytes;
+use records::write::put_decimal;
+use records::write::put_field_head;
+use records::write::put_num;
+use records::write::rest_at;
+use rows::elements::read_element;
+use rule::elements::element_count;
+use rule::ids::RULE_INDEX;
+use signature::ids::TypeId;
+
+pub const LETTER_W: u8 = b'W';
+
+// The base of a name.
+fn put_base(out: &mut [u8], from: usize, s: &[u8], base: Base) -> usize
+    requires { ⌜ (from ≤ countLimit) × Fits base (length (now s)) ⌝ }
+    ensures { λ r. ⌜ Put (now (out .entry)) (now (out .exit)) (baseBytes (now (s .entry)) base) from r ⌝ }
+{
+    match base {
+        Base::Name { start, len } => put_bytes(out, from, s, start, len),
+        Base::El => put_bytes(out, from, b"el", 0, 2),
+    }
+}
+
+// The name of a new variable: a base followed by its number.
+fn put_name(out: &mut [u8], from: usize, s: &[u8], base: Base, number: u16) -> usize
+    requires { ⌜ (from ≤ countLimit) × Fits base (length (now s)) ⌝ }
+    ensures { λ r. ⌜ Put (now (out .entry)) (now (out .exit)) (baseBytes (now (s .entry)) base ++ decimal number) from r ⌝ }
+{
+    let at = put_base(out, from, s, base);
+    put_decimal(out, at, number)
+}
+
+fn name_length(s: &[u8], base: Base, number: u16) -> u16
+    requires { ⌜ Fits base (length (now s)) ⌝ }
+    ensures { λ r. ⌜ (r ≡ length (baseBytes (now (s .entry)) base ++ decimal number)) × (r < 256) ⌝ }
+{
+    let mut none = [0u8; 1];
+    put_name(&mut none[..0], 0, s, base, number) as u16
+}
+
+// A W field at the front of a buffer: letter, length, type, name.
+fn put_variable(out: &mut [u8], s: &[u8], t: TypeId, base: Base, number: u16) -> usize
+    requires { ⌜ Fits base (length (now s)) ⌝ }
+    ensures { λ r. ⌜ Put (now (out .entry)) (now (out .exit)) (variableBytes (now (s .entry)) (t .0) base number) 0 r ⌝ }
+{
+    let head = put_field_head(out, 0, LETTER_W, 2 + name_length(s, base, number));
+    let at = put_num(out, head, t.0);
+    put_name(out, at, s, base, number)
+}
+
+// The W field of an element's new variable, written into the rest of the buffer from its own start.
+fn put_new_variable(
+    out: &mut [u8],
+    at: usize,
+    s: &[u8],
+    index: &[u16; RULE_INDEX],
+    k: usize,
+    i: usize,
+    number: u16,
+) -> usize
+    requires { ⌜ (at ≤ countLimit) × (i < countAt (now index) k) ⌝ }
+    requires { ⌜ Laid (now s) (now index) k ⌝ }
+    ensures { λ r. ⌜ Put (now (out .entry)) (now (out .exit)) (fieldBytes (variableField (newVariable (structureIn (now (s .entry)) k) number (elementIn (now (s .entry)) (now (index .entry)) k i)))) at r ⌝ }
+{
+    let e = read_element(s, index, k, i);
+    let base = el_base_name(s, index, k, e.number);
+    let rest = rest_at(at, out.len());
+    let len = put_variable(&mut out[rest..], s, e.ty, base, number);
+    past(at, len)
+}
+
+// The W fields of a structure's new variables, those of its row from `first` on.
+pub fn put_variables(
+    out: &mut [u8],
+    from: usize,
+    s: &[u8],
+    index: &[u16; RULE_INDEX],
+    k: usize,
+    row: [u16; 64],
+    first: u16,
+) -> usize
+    requires { ⌜ from ≤ countLimit ⌝ }
+    requires { ⌜ Laid (now s) (now index) k ⌝ }
+    requires { ⌜ first + fieldLimit ≤ variableLimit ⌝ }
+    ensures { λ r. ⌜ Put (now (out .entry)) (now (out .exit)) (recordBytes (each variableField (newIn (structureIn (now (s .entry)) k) first row))) from r ⌝ }
+{
+    let count = element_count(index, k);
+    let mut at = from;
+    let mut number = first;
+    let mut i: usize = 0;
+    while i < count {
+        if first <= row[i] {
+            at = put_new_variable(out, at, s, index, k, i, number);
+            number += 1;
+        }
+        i += 1;
+    }
+    at
+}
+
+// The group's name: the rule's, or that of an unnamed one, `anonymous_rule_` and its index.
+pub fn put_group_name(out: &mut [u8], from: usize, s: &[u8]) -> usize
+    requires { ⌜ (from ≤ countLimit) × Headed (now s) ⌝ }
+    ensures { λ r. ⌜ Put (now (out .entry)) (now (out .exit)) (groupName (ruleAt (now (s .entry)))) from r ⌝ }
+{
+    let len = two(s, 1) - 2;
+    if len == 0 {
+        let at = put_bytes(out, from, b"anonymous_rule_", 0, 15);
+        return put_decimal(out, at, num(s, 3));
+    }
+    put_bytes(out, from, s, 5, len)
+}
+
+// A rule's name: the group's, `_`, and the count of rules before it.
+pub fn put_rule_name(out: &mut [u8], from: usize, s: &[u8], count: u16) -> usize
+    requires { ⌜ (from ≤ countLimit) × Headed (now s) ⌝ }
+    ensures { λ r. ⌜ Put (now (out .entry)) (now (out .exit)) (groupName (ruleAt (now (s .entry))) ++ (underscore ∷ decimal count)) from r ⌝ }
+{
+    let group = put_group_name(out, from, s);
+    let at = put_byte(out, group, b'_');
+    put_decimal(out, at, count)
+}
+
+// The lengths of the two.
+pub fn group_name_length(s: &[u8]) -> u16
+    requires { ⌜ Headed (now s) ⌝ }
+    ensures { λ r. ⌜ (r ≡ length (groupName (ruleAt (now (s .entry))))) × (r < 256) ⌝ }
+{
+    let mut none = [0u8; 1];
+    put_group_name(&mut none[..0], 0, s) as u16
+}
+
+pub fn rule_name_length(s: &[u8], count: u16) -> u16
+    requires { ⌜ Headed (now s) ⌝ }
+    ensures { λ r. ⌜ (r ≡ length (groupName (ruleAt (now (s .entry))) ++ (underscore ∷ decimal count))) × (r < 256) ⌝ }
+{
+    let mut none = [0u8; 1];
+    put_rule_name(&mut none[..0], 0, s, count) as u16
+}
