@@ -1,0 +1,8 @@
+-- Laws behind the walked kinds.
+pub mod Scanning
+pub mod SourceLaws
+pub mod SoundParts
+pub mod MapLaws
+pub mod TableLaws
+pub mod Storing
+pub mod Walked

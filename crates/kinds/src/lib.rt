@@ -1,0 +1,4 @@
+// Which maps are walked, and of which kinds.
+pub mod maps;
+pub mod sources;
+pub mod table;

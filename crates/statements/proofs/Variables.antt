@@ -1,0 +1,102 @@
+-- The variables of elements, and a statement's bytes.
+use Prim.Native.Nat.{ℕ, suc, _+_, _*_, _≤_, _<_}
+use native.Mathlib.Omega.{arith}
+use mathlib.Core.List.{List, [], _∷_, _++_}
+use mathlib.Core.Path.{_≡_, refl, sym, _∙_}
+use lib.ListN.{length, getD, set, take, drop, length-set, drop-of-length-le}
+use lib.Seq.{getD-take, length-take-le, take-all}
+use Rattle.definition.specs.Base.{each, _∈_}
+use Rattle.definition.specs.Limits.{columnLimit}
+use Rattle.definition.specs.Names.{numbersOf, variableAt}
+use Rattle.definition.specs.Records.{numbers}
+use Rattle.definition.specs.Rule.{Structure}
+use Rattle.definition.specs.Writer.{twoBytes, numberBytes, statementField, fieldBytes}
+use Rattle.theory.proofs.Lists.{never, mem-has, each-append}
+use Rattle.theory.proofs.Numbers.{length-numbers-written}
+use Rattle.records.specs.Places.{twoAt, stretch}
+use Rattle.records.specs.Buffer.{headBytes}
+use Rattle.records.proofs.Link.{one-more}
+use Rattle.rule.specs.Elements.{elementNumbers, Finds}
+use Rattle.rule.specs.declared.elements.Found.the-variants.{At, Nothing}
+use Rattle.rule.proofs.Finding.{numbers-length}
+use Rattle.rows.proofs.Parts.{get-mem, take-more, store-more, count-in, element-in}
+use Rattle.naming.specs.Structures.{structureIn, Laid}
+use Rattle.naming.proofs.Placed.{elements-are, numbers-are}
+use Rattle.statements.specs.Parts.{statementOf, variableBy, NamedIn}
+use Rattle.statements.specs.declared.statement.Statement as put
+
+-- An element that was found: its variable stands in the row at its place. An element is found.
+module _ {s index : List ℕ} {k : ℕ} (l : Laid s index k) where
+  pub variable-found : {i e : ℕ} (row : List ℕ) → Finds (At i) e (elementNumbers s index k) → getD row i 0 ≡ variableBy (structureIn s k) row e
+  unfolding variableAt
+  variable-found {i} {e} row f =
+      let n : i < length (structureIn s k .elements) = omega (arith, f .is .1, numbers-length s index k, elements-are l) in
+      rw (numbers-are l, ← (f .is .0)) (sym (getD-take (length (structureIn s k .elements)) row i 0 n))
+
+  pub not-absent : {A : Type 0} {e : ℕ} → e ∈ numbersOf (structureIn s k) → Finds Nothing e (elementNumbers s index k) → A
+  not-absent {e = e} m f = never (mem-has e (elementNumbers s index k) (rw (numbers-are l) at m)) (f .is)
+
+-- The variables of the first i numbers.
+pub record Taking (st : Structure) (row ns vars : List ℕ) (i : ℕ) : Type 0 where
+  pub long : length vars ≡ columnLimit
+  pub same : take i vars ≡ each (variableBy st row) (take i ns)
+
+pub taking : (st : Structure) (row ns : List ℕ) {vars : List ℕ} → length vars ≡ columnLimit → Taking st row ns vars 0
+unfolding each
+taking st row ns e = record { long = e; same = refl }
+
+module _ {s index : List ℕ} {k : ℕ} (l : Laid s index k) (start count : ℕ) (h : start + 2 * count ≤ length s) (i : ℕ) (b : i < count) where
+  pub named-at : {A : Type 0} → NamedIn (structureIn s k) (numbers (stretch s start (2 * count))) → Finds Nothing (twoAt s (start + 2 * i)) (elementNumbers s index k) → A
+  named-at n f =
+      let c = count-in s start count h in
+      not-absent l (n .named _ (get-mem (numbers (stretch s start (2 * count))) i 0 (omega arith))) (rw (element-in s start count h i b) f)
+
+  pub take-next : {row vars : List ℕ} {j : ℕ} → count ≤ columnLimit → Taking (structureIn s k) row (numbers (stretch s start (2 * count))) vars i
+      → Finds (At j) (twoAt s (start + 2 * i)) (elementNumbers s index k) → Taking (structureIn s k) row (numbers (stretch s start (2 * count))) (set vars i (getD row j 0)) (i + 1)
+  unfolding each
+  take-next {row} {vars} {j} m t f =
+      let c = count-in s start count h in
+      let n = t .long in
+      record {
+        long = rw length-set n;
+        same = rw (
+          store-more vars i (getD row j 0) (omega arith),
+          t .same,
+          take-more (numbers (stretch s start (2 * count))) i 0 (omega arith),
+          element-in s start count h i b,
+          each-append,
+          variable-found l row f,
+        );
+      }
+
+pub took : {st : Structure} (s : List ℕ) {row vars : List ℕ} (start count : ℕ) {i : ℕ} → start + 2 * count ≤ length s → i ≤ count → count ≤ i → Taking st row (numbers (stretch s start (2 * count))) vars i
+    → take count vars ≡ each (variableBy st row) (numbers (stretch s start (2 * count)))
+took s start count {i} h a b t =
+    let e : i ≡ count = omega arith in
+    let c = count-in s start count h in
+    rw e at (t .same) ∙ rw (take-all count (numbers (stretch s start (2 * count))) (omega arith))
+
+-- The bytes of the first `count` variables, from an index on.
+unfoldable pub varsFrom : List ℕ → ℕ → ℕ → List ℕ
+varsFrom vars count i = numberBytes (drop i (take count vars))
+
+module _ (vars : List ℕ) {count : ℕ} (h : count ≤ length vars) (i : ℕ) where
+  pub vars-on : i < count → varsFrom vars count i ≡ twoBytes (getD vars i 0) ++ varsFrom vars count (i + 1)
+  unfolding varsFrom numberBytes
+  vars-on l =
+      let n : i < length (take count vars) = rw (length-take-le count vars h) l in
+      rw (one-more (take count vars) i n, getD-take count vars i 0 l)
+
+  pub vars-end : count ≤ i → varsFrom vars count i ≡ []
+  unfolding varsFrom numberBytes
+  vars-end l = let n : length (take count vars) ≤ i = rw (length-take-le count vars h) l in rw (drop-of-length-le (take count vars) n)
+
+-- A statement: its head, its kind, its symbol, its variables.
+pub statement-parts : (letter : ℕ) (x : put.Statement) → x .count ≤ length (x .vars)
+    → (headBytes letter (3 + 2 * x .count) ++ (x .kind ∷ []) ++ twoBytes (x .symbol)) ++ varsFrom (x .vars) (x .count) 0 ≡ fieldBytes (statementField letter (statementOf x))
+unfolding fieldBytes statementField numberBytes varsFrom
+statement-parts letter x h =
+    let a : length (numberBytes (x .symbol ∷ take (x .count) (x .vars))) ≡ 2 * suc (length (take (x .count) (x .vars))) = length-numbers-written (x .symbol ∷ take (x .count) (x .vars)) in
+    let b = length-take-le (x .count) (x .vars) h in
+    let n : suc (length (numberBytes (x .symbol ∷ take (x .count) (x .vars)))) ≡ 3 + 2 * x .count = omega arith in
+    rw (← n)

@@ -1,0 +1,34 @@
+use Rattle.statements.specs.Equalities.{equalityOf}
+use borrow.Author.Needs.{needs}
+use Rattle.statements.proofs.equalities.put_equality.Statement.{statement}
+use Rattle.statements.proofs.equalities.put_equality.Tie as tie
+
+place-requires : tie.Need-place-requires
+place-requires c κs = search needs
+
+mul-symbol : tie.Need-mul-symbol
+mul-symbol c = search needs
+
+shared-slice-read-symbol : tie.Need-shared-slice-read-symbol
+shared-slice-read-symbol c = search needs
+
+put-statement-requires : tie.Need-put-statement-requires
+put-statement-requires c κs = search needs
+
+same-length : tie.Need-same-length
+same-length c = search needs
+
+returns : tie.Need-returns
+unfolding equalityOf
+returns c = rw (c .before .before .before .before .before .place .ensures .0) at (c .before .before .put-statement .ensures)
+
+pub put-equality-spec : {M : Type 1} → statement M
+put-equality-spec =
+    tie.close
+    (tie.spec
+    place-requires
+    mul-symbol
+    shared-slice-read-symbol
+    put-statement-requires
+    same-length
+    returns)

@@ -1,0 +1,7 @@
+// Statements as bytes.
+pub mod equalities;
+pub mod masks;
+pub mod members;
+pub mod sections;
+pub mod statement;
+pub mod writer;

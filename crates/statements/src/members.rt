@@ -1,0 +1,136 @@
+// The elements of a structure as statements: member rows, and TypeSets.
+ghost use Prim.Native.Nat.{_≤_, _<_};
+ghost use mathlib.Core.List.{_∷_, []};
+ghost use Rattle.definition.specs.Writer.{statementField, fieldBytes};
+ghost use Rattle.theory.proofs.ByteForm.{statementBytes};
+ghost use Rattle.records.specs.Buffer.{Put, countLimit};
+ghost use Rattle.rule.specs.Elements.{countAt};
+ghost use Rattle.rows.specs.Elements.{elementIn};
+ghost use Rattle.naming.specs.Structures.{structureIn};
+ghost use Rattle.statements.specs.Said.{flagged};
+ghost use Rattle.statements.specs.Structures.{Stands};
+ghost use Rattle.statements.specs.Parts.{elementSaid, membersSaid, typesSaid};
+use crate::sections::vars_of;
+use crate::statement::Statement;
+use crate::statement::put_statement;
+use flags::flag;
+use records::fields::wide;
+use rows::elements::read_element;
+use rows::order::sorted_members;
+use rule::elements::element_count;
+use rule::ids::RULE_INDEX;
+use signature::ids::MEMBER;
+use signature::ids::TYPE_SET;
+
+// An element as a statement of a kind: its type, its parents and itself.
+fn put_element(
+    out: &mut [u8],
+    from: usize,
+    letter: u8,
+    kind: u8,
+    s: &[u8],
+    index: &[u16; RULE_INDEX],
+    k: usize,
+    row: &[u16; 64],
+    i: usize,
+) -> usize
+    requires { ⌜ (from ≤ countLimit) × (i < countAt (now index) k) ⌝ }
+    requires { ⌜ Stands (now s) (now index) k ⌝ }
+    ensures { λ r. ⌜ Put (now (out .entry)) (now (out .exit)) (fieldBytes (statementField letter (elementSaid (now (s .entry)) (now (index .entry)) k (now (row .entry)) kind i))) from r ⌝ }
+{
+    let e = read_element(s, index, k, i);
+    let n = e.parents;
+    let ty = e.ty;
+    let parents = vars_of(s, index, k, row, e.start, n);
+    let mut vars = parents;
+    vars[n] = row[i];
+    put_statement(
+        out,
+        from,
+        letter,
+        Statement {
+            kind,
+            symbol: ty.0,
+            vars,
+            count: n + 1,
+        },
+    )
+}
+
+// The flagged member rows, in their order; a row's flag stands at its element's place.
+pub fn put_members(
+    out: &mut [u8],
+    from: usize,
+    letter: u8,
+    s: &[u8],
+    index: &[u16; RULE_INDEX],
+    k: usize,
+    row: &[u16; 64],
+    mask: u64,
+) -> usize
+    requires { ⌜ from ≤ countLimit ⌝ }
+    requires { ⌜ Stands (now s) (now index) k ⌝ }
+    ensures { λ r. ⌜ Put (now (out .entry)) (now (out .exit)) (statementBytes letter (membersSaid (structureIn (now (s .entry)) k) (now (row .entry)) mask)) from r ⌝ }
+{
+    let m = sorted_members(s, index, k);
+    let order = m.order;
+    let mut at = from;
+    let mut n: usize = 0;
+    while n < m.count {
+        let i = wide(order[n]);
+        if flag(mask, i) {
+            at = put_element(out, at, letter, MEMBER, s, index, k, row, i);
+        }
+        n += 1;
+    }
+    at
+}
+
+// The TypeSet of an element, if it has no parents.
+fn put_type_set(
+    out: &mut [u8],
+    from: usize,
+    letter: u8,
+    s: &[u8],
+    index: &[u16; RULE_INDEX],
+    k: usize,
+    row: &[u16; 64],
+    i: usize,
+) -> usize
+    requires { ⌜ (from ≤ countLimit) × (i < countAt (now index) k) ⌝ }
+    requires { ⌜ Stands (now s) (now index) k ⌝ }
+    ensures { λ r. ⌜ Put (now (out .entry)) (now (out .exit)) (statementBytes letter (typesSaid (structureIn (now (s .entry)) k) (now (row .entry)) (elementIn (now (s .entry)) (now (index .entry)) k i ∷ []))) from r ⌝ }
+{
+    let e = read_element(s, index, k, i);
+    if e.parents == 0 {
+        return put_element(out, from, letter, TYPE_SET, s, index, k, row, i);
+    }
+    from
+}
+
+// The TypeSets of the flagged elements without parents.
+pub fn put_type_sets(
+    out: &mut [u8],
+    from: usize,
+    letter: u8,
+    s: &[u8],
+    index: &[u16; RULE_INDEX],
+    k: usize,
+    row: &[u16; 64],
+    mask: u64,
+) -> usize
+    requires { ⌜ from ≤ countLimit ⌝ }
+    requires { ⌜ Stands (now s) (now index) k ⌝ }
+    ensures { λ r. ⌜ Put (now (out .entry)) (now (out .exit)) (statementBytes letter (typesSaid (structureIn (now (s .entry)) k) (now (row .entry)) (flagged mask (structureIn (now (s .entry)) k .elements)))) from r ⌝ }
+{
+    let count = element_count(index, k);
+    let mut at = from;
+    let mut i: usize = 0;
+    while i < count {
+        if flag(mask, i) {
+            at = put_type_set(out, at, letter, s, index, k, row, i);
+        }
+        i += 1;
+    }
+    at
+}

@@ -1,0 +1,47 @@
+// A statement as a field: its kind, its symbol, its variables.
+ghost use Prim.Native.Nat.{_≤_};
+ghost use Rattle.definition.specs.Limits.{columnLimit};
+ghost use Rattle.definition.specs.Writer.{statementField, fieldBytes};
+ghost use Rattle.records.specs.Buffer.{Put, countLimit};
+ghost use Rattle.statements.specs.Parts.{statementOf};
+use records::write::past;
+use records::write::put_byte;
+use records::write::put_field_head;
+use records::write::put_num;
+use records::write::rest_at;
+use signature::ids::COLUMNS;
+
+// A statement before it is written. No statement has more variables than a symbol has columns.
+pub struct Statement {
+    pub kind: u8,
+    pub symbol: u16,
+    pub vars: [u16; COLUMNS],
+    pub count: usize,
+}
+
+// A statement at the front of a buffer.
+fn write_statement(out: &mut [u8], letter: u8, x: Statement) -> usize
+    requires { ⌜ x .count ≤ columnLimit ⌝ }
+    ensures { λ r. ⌜ Put (now (out .entry)) (now (out .exit)) (fieldBytes (statementField letter (statementOf x))) 0 r ⌝ }
+{
+    let vars = x.vars;
+    let head = put_field_head(out, 0, letter, (3 + 2 * x.count) as u16);
+    let behind = put_byte(out, head, x.kind);
+    let mut at = put_num(out, behind, x.symbol);
+    let mut i: usize = 0;
+    while i < x.count {
+        at = put_num(out, at, vars[i]);
+        i += 1;
+    }
+    at
+}
+
+// A statement, written into the rest of the buffer from its own start.
+pub fn put_statement(out: &mut [u8], from: usize, letter: u8, x: Statement) -> usize
+    requires { ⌜ (from ≤ countLimit) × (x .count ≤ columnLimit) ⌝ }
+    ensures { λ r. ⌜ Put (now (out .entry)) (now (out .exit)) (fieldBytes (statementField letter (statementOf x))) from r ⌝ }
+{
+    let rest = rest_at(from, out.len());
+    let len = write_statement(&mut out[rest..], letter, x);
+    past(from, len)
+}

@@ -1,0 +1,76 @@
+// What a structure says, as bytes.
+ghost use Prim.Native.Nat.{_≤_};
+ghost use Rattle.theory.proofs.ByteForm.{statementBytes};
+ghost use Rattle.records.specs.Buffer.{Put, countLimit};
+ghost use Rattle.naming.specs.Structures.{structureIn};
+ghost use Rattle.naming.specs.Variables.{variablesIn};
+ghost use Rattle.statements.specs.Said.{saidBy, domainsBy};
+ghost use Rattle.statements.specs.Structures.{Stands};
+use crate::masks::Masks;
+use crate::members::put_members;
+use crate::members::put_type_sets;
+use crate::sections::Chosen;
+use crate::sections::put_rows;
+use rule::ids::PLACE_A;
+use rule::ids::PLACE_R;
+use rule::ids::RULE_INDEX;
+use signature::ids::FUNC_DOMAIN;
+use signature::ids::FUNCTION;
+use signature::ids::PREDICATE;
+
+// The flagged R rows, A rows and member rows of a structure, then the TypeSets of its flagged elements without parents.
+pub fn put_said(
+    out: &mut [u8],
+    from: usize,
+    letter: u8,
+    s: &[u8],
+    index: &[u16; RULE_INDEX],
+    k: usize,
+    row: [u16; 64],
+    masks: Masks,
+) -> usize
+    requires { ⌜ from ≤ countLimit ⌝ }
+    requires { ⌜ Stands (now s) (now index) k ⌝ }
+    ensures { λ r. ⌜ Put (now (out .entry)) (now (out .exit)) (statementBytes letter (saidBy (structureIn (now (s .entry)) k) (variablesIn (structureIn (now (s .entry)) k) row) masks)) from r ⌝ }
+{
+    let preds = Chosen {
+        place: PLACE_R,
+        mask: masks.preds,
+        kind: PREDICATE,
+        omitted: 0,
+    };
+    let funcs = Chosen {
+        place: PLACE_A,
+        mask: masks.funcs,
+        kind: FUNCTION,
+        omitted: 0,
+    };
+    let behind_preds = put_rows(out, from, letter, s, index, k, &row, preds);
+    let behind_funcs = put_rows(out, behind_preds, letter, s, index, k, &row, funcs);
+    let behind_members = put_members(out, behind_funcs, letter, s, index, k, &row, masks.members);
+    put_type_sets(out, behind_members, letter, s, index, k, &row, masks.free)
+}
+
+// FuncDomain of each flagged A row: the row without its result.
+pub fn put_domains(
+    out: &mut [u8],
+    from: usize,
+    letter: u8,
+    s: &[u8],
+    index: &[u16; RULE_INDEX],
+    k: usize,
+    row: [u16; 64],
+    mask: u64,
+) -> usize
+    requires { ⌜ from ≤ countLimit ⌝ }
+    requires { ⌜ Stands (now s) (now index) k ⌝ }
+    ensures { λ r. ⌜ Put (now (out .entry)) (now (out .exit)) (statementBytes letter (domainsBy (structureIn (now (s .entry)) k) (variablesIn (structureIn (now (s .entry)) k) row) mask)) from r ⌝ }
+{
+    let domains = Chosen {
+        place: PLACE_A,
+        mask,
+        kind: FUNC_DOMAIN,
+        omitted: 1,
+    };
+    put_rows(out, from, letter, s, index, k, &row, domains)
+}

@@ -1,0 +1,188 @@
+-- The new rows of a map's target, by the three sorts.
+use Prim.Native.Nat.{ℕ, _+_, _*_, _≤_, _<_}
+use native.Mathlib.Omega.{arith}
+use mathlib.Core.Bool.{Bool, true, false, not, _&&_}
+use mathlib.Core.List.{List, [], _∷_}
+use mathlib.Core.Path.{_≡_, refl, sym, _∙_, ap}
+use lib.ListN.{length, getD, take}
+use Rattle.definition.specs.Base.{consIf, keep, each, any}
+use Rattle.definition.specs.Letters.{predicate, function, member}
+use Rattle.definition.specs.Limits.{structureLimit, fieldLimit}
+use Rattle.definition.specs.Records.{Field}
+use Rattle.definition.specs.Rule.{Row, Pair, rowOf}
+use Rattle.definition.specs.Rows.{memberRow}
+use Rattle.definition.specs.Signature.{Signature, predOf, funcOf, typeParents, columnCount}
+use Rattle.theory.proofs.Lists.{length-each}
+use Rattle.records.specs.Places.{Run, none, more}
+use Rattle.records.proofs.Link.{got-is}
+use Rattle.records.proofs.Runs.{run-le, run-got, run-end}
+use Rattle.rule.specs.Elements.{countAt}
+use Rattle.rows.specs.Elements.{elementIn, elementsIn}
+use Rattle.rows.specs.Maps.{pairsIn}
+use Rattle.rows.specs.Members.{hasParents, memberRows, newMember}
+use Rattle.rows.specs.Table.{RowsFrom, rowLacks, isNew, Alike, Imaged, Holds}
+use Rattle.rows.specs.declared.maps.Map.{Map}
+use Rattle.rows.specs.declared.table.Images.{Images}
+use Rattle.rows.specs.declared.table.Images.the-variants as images
+use Rattle.rows.proofs.ElementLaws.{noElement, elements-many, elements-get}
+use Rattle.rows.proofs.Kept.{flag-at}
+use Rattle.flags.specs.Flags.{Packed}
+use Rattle.naming.specs.Structures.{structureIn}
+use Rattle.statements.specs.Structures.{SoundAt}
+use Rattle.steps.specs.Added.{Between, SectionRun, SectionRows, Less, NewRows, NewMembers, sourceLacks, AddsRows}
+use Rattle.steps.specs.declared.added.Flagged.{Flagged}
+use Rattle.steps.specs.declared.added.Flagged.the-variants as flagged-as
+use Rattle.steps.specs.declared.step.Step.the-variants.{Adds, Refused}
+use Rattle.steps.proofs.Masks.{packed-keep}
+
+-- The same fields stand between two positions, however they were told.
+pub run-same : {s : List ℕ} {at end : ℕ} {fs gs : List Field} → Run s at end fs → Run s at end gs → fs ≡ gs
+run-same none q = sym (run-end q (omega arith))
+run-same {s} (more {at} e r) q =
+    let g = got-is s at e in let l = run-le r in
+    let b = run-got q (omega arith) e in
+    rw (run-same r (b .run)) (sym (b .same))
+
+keep-few : {A : Type 0} (p : A → Bool) (xs : List A) → length (keep p xs) ≤ length xs
+unfolding keep
+keep-few p [] = omega arith
+keep-few p (x ∷ xs) = go (p x) (keep-few p xs)
+  where
+    go : (b : Bool) → length (keep p xs) ≤ length xs → length (consIf b x (keep p xs)) ≤ length (x ∷ xs)
+    go true h = omega arith
+    go false h = omega arith
+
+-- Images, or that there are none.
+lacking : {pairs : List Pair} {rows : List Row} {symbols els : List ℕ} {r : Images} → Imaged r pairs rows symbols els → r ≡ images.Unmapped → any (rowLacks pairs) rows ≡ true
+lacking w e = let v = rw e at w in v .is
+
+pub few-images : {pairs : List Pair} {rows : List Row} {symbols els : List ℕ} {r : Images} {n : ℕ} → Imaged r pairs rows symbols els → r ≡ images.Count n → n ≡ length rows
+few-images w e = let v = rw e at w in v .is .1
+
+-- The rows of a section.
+pub rows-lack : {pairs : List Pair} {sources targets : List Row} {symbols els : List ℕ} {r : Images} → Imaged r pairs sources symbols els → r ≡ images.Unmapped
+    → NewRows flagged-as.Unmapped pairs sources targets
+rows-lack w e = record { is = lacking w e }
+
+-- They are few.
+pub section-few : {s : List ℕ} {from end : ℕ} {fs : List Field} → RowsFrom s from end → Run s from end fs → length fs ≤ fieldLimit
+section-few w r = rw (run-same r (w .run)) (w .few)
+
+pub images-few : {s : List ℕ} {from end : ℕ} {pairs : List Pair} {symbols els : List ℕ} {r : Images} {n : ℕ} (w : RowsFrom s from end)
+    → Imaged r pairs (each (rowOf 0) (w .fields)) symbols els → r ≡ images.Count n → n ≤ fieldLimit
+images-few w i e = let a = few-images i e in let b = length-each (rowOf 0) (w .fields) in omega (arith, w .few)
+
+pub rows-new : {kind n mask : ℕ} {columns : ℕ → ℕ} {pairs : List Pair} {sources : List Row} {symbols els : List ℕ} {flags : List Bool} {r : Images} (gs : List Field)
+    → Imaged r pairs sources symbols els → r ≡ images.Count n → Alike kind columns sources → length gs ≤ fieldLimit
+    → (Holds kind columns pairs sources symbols els n → take (length gs) flags ≡ each (isNew pairs sources) (each (rowOf kind) gs))
+    → Packed mask flags fieldLimit → NewRows (flagged-as.Of mask) pairs sources (each (rowOf kind) gs)
+rows-new {kind} {mask = mask} {pairs = pairs} {sources} gs w e a l h p =
+    let v = rw e at w in
+    let t = h (record { held = v .is .2; count = v .is .1; alike = a }) in
+    let n = length-each (rowOf kind) gs in
+    record { is = (v .is .0, packed-keep mask (isNew pairs sources) (each (rowOf kind) gs) p (omega arith) (rw n t)) }
+
+-- The sections of a structure: the third are its R rows, the fourth its A rows.
+module _ {sig : Signature} {s index : List ℕ} {k : ℕ} (w : SoundAt sig s index k) where
+  pub pred-run : SectionRun s index k 3 (w .predFields)
+  pred-run = let e : 6 * k + 3 + 1 ≡ 6 * k + 4 = omega arith in rw e (w .preds-run)
+
+  pub pred-rows : SectionRows s index k 3
+  pred-rows = let e : 6 * k + 3 + 1 ≡ 6 * k + 4 = omega arith in rw e (w .preds-known .rows)
+
+  pub func-run : SectionRun s index k 4 (w .funcFields)
+  func-run = let e : 6 * k + 4 + 1 ≡ 6 * k + 5 = omega arith in rw e (w .funcs-run)
+
+  pub func-rows : SectionRows s index k 4
+  func-rows = let e : 6 * k + 4 + 1 ≡ 6 * k + 5 = omega arith in rw e (w .funcs-known .rows)
+
+-- What a map between two structures gives.
+module _ {s index : List ℕ} {src tgt : ℕ} {m : Map} (w : Between s index src tgt m) where
+  pub source-few : src < structureLimit
+  source-few = w .source-at .laid .few
+
+  pub target-few : tgt < structureLimit
+  target-few = w .target-at .laid .few
+
+  pub members-few : countAt index tgt ≤ fieldLimit
+  members-few = w .target-at .laid .elements .elements .few
+
+  -- Members.
+  abbrev olds : List Row
+  olds = memberRows (structureIn s src .elements)
+
+  old-rows : memberRows (elementsIn s index src) ≡ olds
+  old-rows = ap memberRows (sym (w .source-at .laid .same))
+
+  pub members-lack : {symbols els : List ℕ} {r : Images} → Imaged r (pairsIn s m) (memberRows (elementsIn s index src)) symbols els → r ≡ images.Unmapped → (marks : List Bool)
+      → NewMembers flagged-as.Unmapped s index src tgt m marks
+  members-lack i e marks = record { is = rw old-rows at (lacking i e) }
+
+  pub olds-few : {symbols els : List ℕ} {r : Images} {n : ℕ} → Imaged r (pairsIn s m) (memberRows (elementsIn s index src)) symbols els → r ≡ images.Count n → n ≤ fieldLimit
+  unfolding memberRows
+  olds-few i e =
+      let a = few-images i e in
+      let b = length-each memberRow (keep hasParents (elementsIn s index src)) in
+      let c = keep-few hasParents (elementsIn s index src) in
+      let d = elements-many s index src in
+      let f = w .source-at .laid .elements .elements .few in omega arith
+
+  pub members-new : {symbols els : List ℕ} {r : Images} {n mask : ℕ} {flags rest marks : List Bool}
+      → Imaged r (pairsIn s m) (memberRows (elementsIn s index src)) symbols els → r ≡ images.Count n
+      → (Holds member (λ (t : ℕ). length (typeParents (w .sig) t) + 1) (pairsIn s m) (memberRows (elementsIn s index src)) symbols els n
+      → Alike member (λ (t : ℕ). length (typeParents (w .sig) t) + 1) (memberRows (elementsIn s index tgt))
+      → take (countAt index tgt) flags ≡ each (newMember (pairsIn s m) (memberRows (elementsIn s index src))) (elementsIn s index tgt))
+      → Less rest flags marks → Packed mask rest fieldLimit → NewMembers (flagged-as.Of mask) s index src tgt m marks
+  members-new {n = n} {mask} {flags} {rest} {marks} i e h l p =
+      let v = rw e at i in
+      let t = h (record { held = v .is .2; count = v .is .1; alike = rw (w .source-at .laid .same) at (w .source-at .members-alike) }) (rw (w .target-at .laid .same) at (w .target-at .members-alike)) in
+      let u : take (countAt index tgt) flags ≡ each (newMember (pairsIn s m) olds) (elementsIn s index tgt) = rw (← old-rows) t in
+      record { is = (rw old-rows at (v .is .0), λ j q. p .same j (few j q) ∙ l .at j (few j q) ∙ ap (λ (b : Bool). b && not (getD marks j false)) (at u j q)) }
+    where
+      few : (j : ℕ) → j < countAt index tgt → j < fieldLimit
+      few j q = let f = members-few in omega arith
+
+      at : take (countAt index tgt) flags ≡ each (newMember (pairsIn s m) olds) (elementsIn s index tgt) → (j : ℕ) → j < countAt index tgt
+          → getD flags j false ≡ newMember (pairsIn s m) olds (elementIn s index tgt j)
+      at u j q =
+          let k = elements-many s index tgt in
+          flag-at (newMember (pairsIn s m) olds) (elementsIn s index tgt) flags (rw k u) j noElement (rw k q) ∙ ap (newMember (pairsIn s m) olds) (elements-get s index tgt j q)
+
+  -- The sections of R and A rows.
+  abbrev SectionNew : Flagged → ℕ → Type 0
+  SectionNew r section = (kind : ℕ) (columns : ℕ → ℕ) (fs gs : List Field) → SectionRun s index src section fs → SectionRun s index tgt section gs
+      → Alike kind columns (each (rowOf kind) fs) → Alike kind columns (each (rowOf kind) gs) → NewRows r (pairsIn s m) (each (rowOf kind) fs) (each (rowOf kind) gs)
+
+  pub preds-new : {r : Flagged} → SectionNew r 3 → NewRows r (pairsIn s m) (structureIn s src .predRows) (structureIn s tgt .predRows)
+  preds-new h =
+      let x = w .source-at in let y = w .target-at in
+      rw (x .preds-are, y .preds-are) (h predicate (λ (p : ℕ). columnCount (predOf (w .sig) p)) (x .predFields) (y .predFields) (pred-run x) (pred-run y)
+      (rw (x .preds-are) at (x .preds-alike)) (rw (y .preds-are) at (y .preds-alike)))
+
+  pub funcs-new : {r : Flagged} → SectionNew r 4 → NewRows r (pairsIn s m) (structureIn s src .funcRows) (structureIn s tgt .funcRows)
+  funcs-new h =
+      let x = w .source-at in let y = w .target-at in
+      rw (x .funcs-are, y .funcs-are) (h function (λ (f : ℕ). columnCount (funcOf (w .sig) f)) (x .funcFields) (y .funcFields) (func-run x) (func-run y)
+      (rw (x .funcs-are) at (x .funcs-alike)) (rw (y .funcs-are) at (y .funcs-alike)))
+
+  -- The three together.
+  module _ {p : Flagged} (np : NewRows p (pairsIn s m) (structureIn s src .predRows) (structureIn s tgt .predRows)) (marks : List Bool) where
+    pub adds-preds : p ≡ flagged-as.Unmapped → AddsRows (Refused 26) s index src tgt m marks
+    unfolding sourceLacks
+    adds-preds e = let v = rw e at np in record { is = (refl, rw (v .is)) }
+
+    module _ {f : Flagged} (nf : NewRows f (pairsIn s m) (structureIn s src .funcRows) (structureIn s tgt .funcRows)) {a : ℕ} (e : p ≡ flagged-as.Of a) where
+      pub adds-funcs : f ≡ flagged-as.Unmapped → AddsRows (Refused 26) s index src tgt m marks
+      unfolding sourceLacks
+      adds-funcs d = let v = rw e at np in let u = rw d at nf in record { is = (refl, rw (v .is .0, u .is)) }
+
+      module _ {g : Flagged} (ng : NewMembers g s index src tgt m marks) {b : ℕ} (d : f ≡ flagged-as.Of b) where
+        pub adds-members : g ≡ flagged-as.Unmapped → AddsRows (Refused 26) s index src tgt m marks
+        unfolding sourceLacks
+        adds-members q = let v = rw e at np in let u = rw d at nf in let t = rw q at ng in record { is = (refl, rw (v .is .0, u .is .0, t .is)) }
+
+        pub adds-all : {c : ℕ} → g ≡ flagged-as.Of c → AddsRows (Adds (record { preds = a; funcs = b; members = c; free = 0 })) s index src tgt m marks
+        unfolding sourceLacks
+        adds-all q =
+            let v = rw e at np in let u = rw d at nf in let t = rw q at ng in
+            record { is = (rw (v .is .0, u .is .0, t .is .0), record { preds = v .is .1; funcs = u .is .1; members = t .is .1; free = refl }) }

@@ -1,0 +1,54 @@
+// Elements of a map's target: new ones, and those that nothing constrains.
+ghost use mathlib.Core.Bool.{Bool};
+ghost use mathlib.Core.List.{List};
+ghost use mathlib.Core.Path.{_≡_};
+ghost use Prim.Native.Nat.{ℕ, _≤_};
+ghost use lib.ListN.{length, take};
+ghost use Rattle.definition.specs.Base.{each};
+ghost use Rattle.definition.specs.Limits.{fieldLimit};
+ghost use Rattle.definition.specs.Rows.{given};
+ghost use Rattle.naming.specs.Variables.{keptIn};
+ghost use Rattle.steps.specs.Elements.{FreeOf, News};
+use crate::added::less;
+use flags::packed;
+use naming::variables::image_els;
+use rows::table::ROWS;
+
+// The new elements of a target: none, one at a place, or more.
+pub enum New {
+    Nothing,
+    One(usize),
+    More,
+}
+
+// The elements of a numbered row that are no images and have no mark.
+pub fn free_els(target: [u16; 64], count: usize, first: u16, marks: [bool; ROWS]) -> u64
+    requires { ⌜ count ≤ fieldLimit ⌝ }
+    ensures { λ r. ⌜ ((p q : ℕ → Bool) (els : List ℕ) → count ≡ length els → each given (keptIn first count target) ≡ each p els → take count marks ≡ each q els → FreeOf r p q els) ⌝ }
+{
+    let images = image_els(target, count, first);
+    let new = less([true; ROWS], images);
+    packed(less(new, marks), ROWS)
+}
+
+// Which elements of a numbered row are new.
+pub fn new_elements(target: [u16; 64], count: usize, first: u16) -> New
+    requires { ⌜ count ≤ fieldLimit ⌝ }
+    ensures { λ r. ⌜ ((p : ℕ → Bool) (els : List ℕ) → count ≡ length els → each given (keptIn first count target) ≡ each p els → News r p els) ⌝ }
+{
+    let mut found = count;
+    let mut i: usize = 0;
+    while i < count {
+        if first <= target[i] {
+            if found < count {
+                return New::More;
+            }
+            found = i;
+        }
+        i += 1;
+    }
+    if found < count {
+        return New::One(found);
+    }
+    New::Nothing
+}
