@@ -1,0 +1,82 @@
+-- What an accepted rule gives the walk.
+use Prim.Native.Nat.{ℕ, zero, suc, _≤_, _<_}
+use native.Mathlib.Omega.{arith}
+use mathlib.Core.Bool.{Bool, true, false}
+use mathlib.Core.Path.{_≡_, refl, ap, sym, _∙_}
+use mathlib.Core.List.{List, [], List·Memᴰ·not-nil}
+use mathlib.Core.Option.{Option, none, some}
+use lib.ListN.{length, getD}
+use Rattle.definition.specs.Base.{orDefault, each, _∈_}
+use Rattle.definition.specs.Limits.{fieldLimit}
+use Rattle.definition.specs.Rule.{Rule, Pair, rowOf}
+use Rattle.definition.specs.Letters.{predicate, function}
+use Rattle.definition.specs.Records.{Field}
+use Rattle.definition.specs.Signature.{Signature}
+use Rattle.definition.specs.Names.{numbersOf}
+use Rattle.definition.specs.Walk.{pairsBetween, found, unmappedAuxiliary, unmappedKind, structureAt}
+use Rattle.theory.proofs.Lists.{length-each}
+use Rattle.signature.specs.Index.{signatureAt}
+use Rattle.signature.specs.declared.ids.Counts.{Counts}
+use Rattle.rule.specs.Lookup.{Ready, ruleAt}
+use Rattle.rule.proofs.Saying.{structures-are}
+use Rattle.records.specs.Places.{Run}
+use Rattle.rows.proofs.Accepted.{SmallArities, small-arities}
+use Rattle.naming.specs.Structures.{structureIn}
+use Rattle.naming.proofs.Opening.{headed}
+use Rattle.statements.specs.Structures.{SoundAt}
+use Rattle.statements.proofs.Structures.{sound-at}
+use Rattle.kinds.proofs.SoundParts.{between, sound-map, structures-few, kinds-once}
+use Rattle.kinds.proofs.Walked.{kind-mapped}
+use Rattle.steps.proofs.New.{run-same}
+use Rattle.flatten.specs.Tables.{Keyed, kindOn, pairsOn}
+use Rattle.flatten.specs.Ended.{Ground}
+use Rattle.flatten.specs.Answers.{Readable}
+use Rattle.flatten.proofs.Starting.{FewRows}
+
+module _ {sig arities s index : List ℕ} {counts : Counts} {n : ℕ} (w : Readable sig arities counts s index n) where
+  pub ready : Ready s index
+  ready = record { sig = signatureAt sig arities counts; count = n; indexed = w .rule-indexed }
+
+  pub counted : n ≡ length (ruleAt s .structures)
+  unfolding ready
+  counted = sym (structures-are ready)
+
+  keyed : Keyed s
+  unfolding pairsOn structureIn
+  keyed u t p m = go (pairsBetween (ruleAt s .maps) u t) refl m
+    where
+      go : (o : Option (List Pair)) → pairsBetween (ruleAt s .maps) u t ≡ o → p ∈ orDefault o [] → p .key ∈ numbersOf (structureAt (ruleAt s) u)
+      go none e i = absurd (List·Memᴰ·not-nil i)
+      go (some ps) e i = let b = between (ruleAt s .maps) u t e in
+          let q = sound-map ready (b .map) (b .in-maps) in
+          let k : p .key ∈ numbersOf (structureAt (ruleAt s) (b .map .source)) = q .keys-in p (rw (b .pairs-are) i) in rw (b .source-is) at k
+
+  pub sound-one : (k : ℕ) → k < length (ruleAt s .structures) → SoundAt (signatureAt sig arities counts) s index k
+  sound-one k h = let c = counted in sound-at (w .rule-indexed) (small-arities sig (w .signature-read)) k (omega arith)
+
+  pub ground : unmappedAuxiliary (ruleAt s) ≡ false → unmappedKind (ruleAt s) ≡ false → Ground (signatureAt sig arities counts) s index
+  unfolding kindOn
+  ground a b = record {
+    ready = ready;
+    sounds = sound-one;
+    few = structures-few ready;
+    some-one = let c = counted in let o = w .rule-indexed .some in omega arith;
+    mapped = λ u t kind e. kind-mapped ready a b u t e .has-map;
+    keyed = keyed;
+    once = kinds-once ready;
+    headed = headed (signatureAt sig arities counts) s (w .rule-read);
+  }
+
+-- The rows of a sound structure are few.
+rows-few : {s : List ℕ} {from end : ℕ} {fs gs : List Field} → Run s from end fs → Run s from end gs → length gs ≤ fieldLimit → length fs ≤ fieldLimit
+rows-few r q h = rw (run-same r q) h
+
+pub few-rows : {sig : Signature} {s index : List ℕ} {k : ℕ} → SoundAt sig s index k → FewRows (structureIn s k)
+few-rows w =
+    let p = length-each (rowOf predicate) (w .predFields) in
+    let f = length-each (rowOf function) (w .funcFields) in
+    record {
+      preds = rw (w .preds-are, p) (rows-few (w .preds-run) (w .preds-known .rows .run) (w .preds-known .rows .few));
+      funcs = rw (w .funcs-are, f) (rows-few (w .funcs-run) (w .funcs-known .rows .run) (w .funcs-known .rows .few));
+      elements = w .sound .elements-few;
+    }

@@ -1,0 +1,15 @@
+pub mod Growing
+pub mod Reaching
+pub mod Stepping
+pub mod Mapping
+pub mod Folding
+pub mod Starting
+pub mod Numbers
+pub mod Going
+pub mod Doing
+pub mod Premises
+pub mod Ending
+pub mod Rules
+pub mod Groups
+pub mod Grounds
+pub mod Writing

@@ -1,0 +1,119 @@
+-- The W fields, structure by structure.
+use Prim.Native.Nat.{ℕ, zero, suc, _+_, _*_, _≤_, _<_}
+use native.Mathlib.Omega.{arith}
+use mathlib.Core.Path.{_≡_, refl, ap, sym, _∙_}
+use mathlib.Core.Bool.{Bool, true, false}
+use mathlib.Core.List.{List, [], _∷_, _++_, append-nil}
+use lib.Dec.{ltb}
+use lib.ListN.{length, getD, take, length-append, length-take}
+use lib.Seq.{length-take-le}
+use borrow.Author.Tests.{lt-ltb, le-ltb}
+use Rattle.definition.specs.Base.{pick, each, joined}
+use Rattle.definition.specs.Limits.{structureLimit, fieldLimit, variableLimit}
+use Rattle.definition.specs.Rule.{Structure}
+use Rattle.definition.specs.Group.{Variable}
+use Rattle.definition.specs.Names.{newVariables}
+use Rattle.definition.specs.Writer.{recordBytes, variableField}
+use Rattle.theory.proofs.Lists.{each-append, length-each}
+use Rattle.theory.proofs.Numbering.{fresh, fresh-few, new-length}
+use Rattle.theory.proofs.ByteForm.{record-append}
+use Rattle.records.specs.Buffer.{Put, countLimit}
+use Rattle.records.proofs.Tail.{nothing, then}
+use Rattle.rule.specs.Elements.{countAt}
+use Rattle.rule.specs.Lookup.{ruleAt}
+use Rattle.naming.specs.Structures.{structureIn, Laid}
+use Rattle.naming.specs.Variables.{keptBy, keptIn, newIn}
+use Rattle.naming.proofs.Placed.{elements-are, element-few}
+use Rattle.flatten.specs.Tables.{Tables, tables, unreached, sourceAt, rowAt, newsTo}
+use Rattle.flatten.specs.Ended.{Numbered}
+
+kept-length : (first count : ℕ) (row : List ℕ) → count ≤ length row → length (keptIn first count row) ≡ count
+unfolding keptIn
+kept-length first count row h = length-each (keptBy first) (take count row) ∙ length-take-le count row h
+
+no-bytes : recordBytes [] ≡ []
+unfolding recordBytes joined
+no-bytes = refl
+
+take-few : (count : ℕ) (row : List ℕ) → length (take count row) ≤ count
+take-few count row = rw (length-take count row) (omega arith)
+
+pub fresh-room : (first : ℕ) (row : List ℕ) {more count : ℕ} → more ≡ fresh (keptIn first count row) → count ≤ fieldLimit → first + fieldLimit ≤ variableLimit → first + more < 65536
+unfolding keptIn
+fresh-room first row {more} {count} e c h =
+    let k = fresh-few (keptIn first count row) in
+    let l : length (keptIn first count row) ≡ length (take count row) = length-each (keptBy first) (take count row) in
+    let t = take-few count row in omega arith
+
+-- How many are new in a structure.
+pub new-count : (st : Structure) (first : ℕ) (row : List ℕ) → length (st .elements) ≤ length row → length (newIn st first row) ≡ fresh (keptIn first (length (st .elements)) row)
+unfolding newIn
+new-count st first row h = new-length st first (st .elements) (keptIn first (length (st .elements)) row) (sym (kept-length first (length (st .elements)) row h))
+
+-- The W fields of the first structures were put, and their variables are so many.
+pub record Naming (out₀ out s : List ℕ) (tb : Tables) (from at number t : ℕ) : Type 0 where
+  pub put : Put out₀ out (recordBytes (each variableField (newsTo s tb t))) from at
+  pub count : number ≡ length (newsTo s tb t)
+  pub few : number ≤ fieldLimit * t
+
+pub naming-start : (out s : List ℕ) (tb : Tables) (from : ℕ) → from ≤ countLimit → Naming out out s tb from from 0 0
+unfolding newsTo each
+naming-start out s tb from h = record { put = rw no-bytes (nothing out from h); count = refl; few = omega arith }
+
+-- A source as the code reads it.
+pub getD-any : {A : Type 0} (xs : List A) (i : ℕ) (a b : A) → i < length xs → getD xs i a ≡ getD xs i b
+getD-any [] i a b h = absurd (omega arith)
+getD-any (x ∷ xs) zero a b h = refl
+getD-any (x ∷ xs) (suc i) a b h = getD-any xs i a b (omega arith)
+
+pub source-read : (tb : Tables) (t : ℕ) → length (tb .sources) ≡ structureLimit → t < structureLimit → getD (tb .sources) t 0 ≡ sourceAt tb t
+unfolding sourceAt
+source-read tb t l h = getD-any (tb .sources) t 0 unreached (omega arith)
+
+module _ {out₀ out s index : List ℕ} {tb : Tables} {from at number t n : ℕ} (g : Numbered s index tb) (e : n ≡ length (ruleAt s .structures)) (h : t < n) (w : Naming out₀ out s tb from at number t) where
+  inside : t < length (ruleAt s .structures)
+  inside = omega arith
+
+  pub naming-at : at ≤ countLimit
+  naming-at = omega (arith, w .put .size)
+
+  pub naming-laid : Laid s index t
+  naming-laid = g .laid t inside
+
+  pub naming-room : number + fieldLimit ≤ variableLimit
+  naming-room = let f = w .few in let k = g .few in let i = inside in omega arith
+
+  pub count-few : {count : ℕ} → count ≡ countAt index t → count ≤ fieldLimit
+  count-few c = let a = elements-are naming-laid in let b = element-few naming-laid in omega arith
+
+  read : getD (tb .sources) t 0 ≡ sourceAt tb t
+  read = let k = g .few in let i = inside in source-read tb t (g .long) (omega arith)
+
+  pub naming-pass : unreached ≤ getD (tb .sources) t 0 → Naming out₀ out s tb from at number (t + 1)
+  unfolding newsTo
+  naming-pass d =
+      let f = w .few in let q : t + 1 ≡ suc t = omega arith in let r = read in
+      let u : ltb (sourceAt tb t) unreached ≡ false = le-ltb (sourceAt tb t) unreached (omega arith) in
+      record { put = rw (q, u, append-nil) (w .put); count = rw (q, u, append-nil) (w .count); few = omega arith }
+
+  pub naming-next : {out′ row : List ℕ} {r more count : ℕ} → getD (tb .sources) t 0 < unreached → row ≡ getD (tb .vars) t [] → count ≡ countAt index t
+      → Put out out′ (recordBytes (each variableField (newIn (structureIn s t) number row))) at r
+      → more ≡ fresh (keptIn number count row) → Naming out₀ out′ s tb from r (number + more) (t + 1)
+  unfolding newsTo rowAt
+  naming-next {row = row} {more = more} {count = count} b x′ c p y =
+      let x : row ≡ rowAt tb t = x′ in
+      let f = w .few in
+      let q : t + 1 ≡ suc t = omega arith in
+      let z : sourceAt tb t < unreached = rw read at b in
+      let j = g .rows t inside z in
+      let a : count ≡ length (structureIn s t .elements) = c ∙ sym (elements-are naming-laid) in
+      let m : more ≡ fresh (keptIn number (length (structureIn s t .elements)) (rowAt tb t)) = y ∙ rw (x, a) in
+      let v = new-count (structureIn s t) number (rowAt tb t) j in
+      let k = fresh-few (keptIn number (length (structureIn s t .elements)) (rowAt tb t)) in
+      let i = kept-length number (length (structureIn s t .elements)) (rowAt tb t) j in
+      let o = element-few naming-laid in
+      record {
+        put = rw (q, lt-ltb (sourceAt tb t) unreached z, ← (w .count), each-append, record-append) (then (w .put) (rw x at p));
+        count = rw (q, lt-ltb (sourceAt tb t) unreached z, ← (w .count), length-append, v, ← (w .count), m);
+        few = omega arith;
+      }

@@ -1,0 +1,223 @@
+-- The premise of a structure, written from the tables.
+use Prim.Native.Nat.{ℕ, zero, suc, _≤_, _<_}
+use native.Mathlib.Omega.{arith}
+use native.Mathlib.Decide.{decLt}
+use mathlib.Core.Path.{_≡_, refl, ap, sym, _∙_}
+use mathlib.Core.Bool.{Bool, true, false}
+use mathlib.Core.Option.{Option, none, some}
+use mathlib.Core.List.{List, [], _++_}
+use lib.Dec.{eqb}
+use lib.ListN.{length, getD}
+use borrow.Author.Tests.{eq-eqb, ne-eqb}
+use Rattle.definition.specs.Base.{pick, orDefault, each, joined}
+use Rattle.definition.specs.Limits.{structureLimit}
+use Rattle.definition.specs.Letters.{letterB}
+use Rattle.definition.specs.Rule.{Pair, MorphismKind, If, Noop}
+use Rattle.definition.specs.Group.{Variable, Statement}
+use Rattle.definition.specs.Signature.{Signature}
+use Rattle.definition.specs.Kinds.{Side, equalities}
+use Rattle.definition.specs.Walk.{Reached, pairsBetween, found, completed}
+use Rattle.definition.specs.Writer.{recordBytes}
+use Rattle.theory.proofs.ByteForm.{statementBytes, statements-append}
+use Rattle.records.specs.Buffer.{Put, countLimit}
+use Rattle.records.proofs.Tail.{nothing, then}
+use Rattle.rule.specs.Lookup.{ruleAt}
+use Rattle.rows.specs.Kernel.{TypesOf}
+use Rattle.naming.specs.Structures.{structureIn}
+use Rattle.naming.specs.Variables.{variablesIn, GivenOut}
+use Rattle.statements.specs.Said.{saidBy}
+use Rattle.statements.specs.Structures.{Stands, sideIn}
+use Rattle.statements.specs.declared.masks.Masks.{Masks}
+use Rattle.kinds.specs.Table.{kindIn, entryAt, Tabled}
+use Rattle.flatten.specs.Tables.{Tables, unreached, sourceAt, rowAt, masksOf, masksAt, kindOn, pairsOn, ownBy, reachedBy, equalitiesAt, saidAt, ownAt, statementsOf, statementsAt, before}
+use Rattle.flatten.specs.Walks.{ReachedAt}
+use Rattle.flatten.specs.Ended.{Ended, Reaching, ReachedBy}
+use Rattle.flatten.proofs.Numbers.{source-read}
+use Rattle.flatten.proofs.Reaching.{given-more, is-reached}
+
+-- The number of the kind by which a structure was reached.
+pub reached-first : {r : ℕ} {kinds : List (List ℕ)} {sources : List ℕ} {t : ℕ} → r ≡ 4 → t ≡ 0 → ReachedBy r kinds sources t
+unfolding kindIn reachedBy
+reached-first {r} {kinds} {sources} {t} e q = record { is = go }
+  where
+    go : (s : List ℕ) (tb : Tables) → tb .sources ≡ sources → Tabled kinds (completed (ruleAt s .maps) (ruleAt s .kinds) (ruleAt s .auxiliaries)) → length sources ≡ structureLimit
+        → sourceAt tb t < unreached → t < structureLimit → kindIn r ≡ reachedBy s tb t
+    go s tb _ _ _ _ _ = rw (e, eq-eqb t 0 q)
+
+pub reached-later : {r u : ℕ} {kinds : List (List ℕ)} {sources : List ℕ} {t : ℕ} → (t ≡ 0 → ⊥) → u ≡ getD sources t 0 → r ≡ entryAt kinds u t → ReachedBy r kinds sources t
+unfolding reachedBy kindOn
+reached-later {r} {u} {kinds} {sources} {t} d q e = record { is = go }
+  where
+    go : (s : List ℕ) (tb : Tables) → tb .sources ≡ sources → Tabled kinds (completed (ruleAt s .maps) (ruleAt s .kinds) (ruleAt s .auxiliaries)) → length sources ≡ structureLimit
+        → sourceAt tb t < unreached → t < structureLimit → kindIn r ≡ reachedBy s tb t
+    go s tb x k l h i =
+        let y : length (tb .sources) ≡ structureLimit = ap length x ∙ l in
+        let z : u ≡ sourceAt tb t = q ∙ ap (λ (l : List ℕ). getD l t 0) (sym x) ∙ source-read tb t y i in
+        rw (ne-eqb t 0 d, e, ← z) (k .same u t (omega arith) i)
+
+-- The kind says what a structure adds.
+own-surj : (k : ℕ) (o : Option MorphismKind) (eqs said : List Statement) → k ≡ 1 → kindIn k ≡ o → ownBy o eqs said ≡ []
+unfolding kindIn ownBy
+own-surj k o eqs said e q = rw (← q, e)
+
+own-if : (k : ℕ) (o : Option MorphismKind) (eqs said : List Statement) → k ≡ 0 → kindIn k ≡ o → ownBy o eqs said ≡ eqs ++ said
+unfolding kindIn ownBy
+own-if k o eqs said e q = rw (← q, e)
+
+own-noop : (k : ℕ) (o : Option MorphismKind) (eqs said : List Statement) → k ≡ 3 → kindIn k ≡ o → ownBy o eqs said ≡ eqs ++ said
+unfolding kindIn ownBy
+own-noop k o eqs said e q = rw (← q, e)
+
+own-said : (k : ℕ) (o : Option MorphismKind) (eqs said : List Statement) → (k ≡ 1 → ⊥) → (k ≡ 0 → ⊥) → (k ≡ 3 → ⊥) → kindIn k ≡ o → ownBy o eqs said ≡ said
+unfolding kindIn ownBy
+own-said zero o eqs said a b c q = absurd (b refl)
+own-said (suc zero) o eqs said a b c q = absurd (a refl)
+own-said (suc (suc zero)) o eqs said a b c q = rw (← q)
+own-said (suc (suc (suc zero))) o eqs said a b c q = absurd (c refl)
+own-said (suc (suc (suc (suc k)))) o eqs said a b c q = rw (← q)
+
+kind-if : (k : ℕ) → k ≡ 0 → kindIn k ≡ some If
+unfolding kindIn
+kind-if k e = rw e
+
+kind-noop : (k : ℕ) → k ≡ 3 → kindIn k ≡ some Noop
+unfolding kindIn
+kind-noop k e = rw e
+
+reached-kind : (s : List ℕ) (tb : Tables) (t : ℕ) (kind : MorphismKind) → some kind ≡ reachedBy s tb t → kindOn s (sourceAt tb t) t ≡ some kind
+unfolding reachedBy
+reached-kind s tb t kind q = go (eqb t 0) q
+  where
+    go : (b : Bool) → some kind ≡ pick b none (kindOn s (sourceAt tb t) t) → kindOn s (sourceAt tb t) t ≡ some kind
+    go true q = let z : _≡_ {A = ℕ} 0 1 = cc in absurd (omega arith)
+    go false q = sym q
+
+-- A structure that was reached, and its source.
+module _ {s index types : List ℕ} {kinds : List (List ℕ)} {tb : Tables} {t : ℕ} (e : Ended s index types kinds tb) (h : Reaching s tb t) where
+  pub place-small : t < structureLimit
+  place-small = let f = e .ground .few in let i = h .inside in omega arith
+
+  at-slot : (r : Reached) × (getD (e .state .slots) t none ≡ some r) × ReachedAt (e .sig) (e .state .variables) s tb (e .state .slots) t r
+  at-slot = is-reached (e .finished .ties) t (h .reached)
+
+  source-is : getD (tb .sources) t 0 ≡ sourceAt tb t
+  source-is = source-read tb t (e .finished .ties .sources-long) place-small
+
+  pub source-small : getD (tb .sources) t 0 < structureLimit
+  source-small = let r = h .reached in let q = source-is in omega arith
+
+  pub stands-at : Stands s index t
+  stands-at = record { sig = e .sig; at = e .ground .sounds t (h .inside) }
+
+  reached-inside : (u : ℕ) → sourceAt tb u < unreached → Dec (u < length (ruleAt s .structures)) → u < length (ruleAt s .structures)
+  reached-inside u i (yes l) = l
+  reached-inside u i (no l) = let q = e .finished .ties .others u (omega arith) in absurd (omega arith)
+
+  pub source-reaching : {u : ℕ} → u ≡ getD (tb .sources) t 0 → Reaching s tb u
+  source-reaching {u} q =
+      let x : u ≡ sourceAt tb t = q ∙ source-is in
+      let y : sourceAt tb u < unreached = rw x (at-slot .2 .source-reached) in
+      record { inside = reached-inside u y (decLt u (length (ruleAt s .structures))); reached = y }
+
+  pub source-below : {u : ℕ} → u ≡ getD (tb .sources) t 0 → (t ≡ 0 → ⊥) → u < t
+  source-below {u} q d =
+      let x : u ≡ sourceAt tb t = q ∙ source-is in
+      let y = at-slot .2 .source-down (omega arith) in omega arith
+
+  pub row-given : {row : List ℕ} → row ≡ getD (tb .vars) t [] → GivenOut (structureIn s t) row (length types)
+  unfolding rowAt
+  row-given {row} q =
+      let l = e .finished .types-long in let f = e .finished .few in
+      rw q (given-more {st = structureIn s t} {row = rowAt tb t} {n = length (e .state .variables)} {m = length types} (omega arith) (at-slot .2 .given))
+
+  -- The kind by which it was reached, and the map.
+  kind-is : {kind : ℕ} → ReachedBy kind kinds (tb .sources) t → kindIn kind ≡ reachedBy s tb t
+  kind-is b = b .is s tb refl (e .tabled) (e .finished .ties .sources-long) (h .reached) place-small
+
+  kind-mapped : {kind : ℕ} (k : MorphismKind) → ReachedBy kind kinds (tb .sources) t → kindIn kind ≡ some k
+      → found (pairsBetween (ruleAt s .maps) (getD (tb .sources) t 0) t) ≡ true
+  kind-mapped k b q = rw source-is (e .ground .mapped (sourceAt tb t) t k (reached-kind s tb t k (sym q ∙ kind-is b)))
+
+  pub if-mapped : {kind : ℕ} → ReachedBy kind kinds (tb .sources) t → kind ≡ 0 → found (pairsBetween (ruleAt s .maps) (getD (tb .sources) t 0) t) ≡ true
+  if-mapped {kind} b q = kind-mapped If b (kind-if kind q)
+
+  pub noop-mapped : {kind : ℕ} → ReachedBy kind kinds (tb .sources) t → kind ≡ 3 → found (pairsBetween (ruleAt s .maps) (getD (tb .sources) t 0) t) ≡ true
+  noop-mapped {kind} b q = kind-mapped Noop b (kind-noop kind q)
+
+  -- What its masks mean.
+  pub said-put : (letter : ℕ) {from r : ℕ} {out₀ out row : List ℕ} {ms : Masks} → row ≡ getD (tb .vars) t [] → ms ≡ masksOf (getD (tb .masks) t [])
+      → Put out₀ out (statementBytes letter (saidBy (structureIn s t) (variablesIn (structureIn s t) row) ms)) from r
+      → Put out₀ out (statementBytes letter (saidAt s tb t)) from r
+  unfolding saidAt rowAt masksAt
+  said-put letter x y p = rw (x, y) at p
+
+  -- The Equalities of the map that reached it, and what its masks mean.
+  pub both-put : (letter : ℕ) {from at r u : ℕ} {out₀ out₁ out₂ row row′ : List ℕ} {ps : List Pair} {ms : Masks} → u ≡ getD (tb .sources) t 0 → row ≡ getD (tb .vars) u []
+      → orDefault (pairsBetween (ruleAt s .maps) u t) [] ≡ ps
+      → ((sig : Signature) (table : List Variable) (target : Side) → TypesOf table types → target .structure ≡ structureIn s t
+          → Put out₀ out₁ (statementBytes letter (equalities sig table (sideIn s u row) target ps)) from at)
+      → row′ ≡ getD (tb .vars) t [] → ms ≡ masksOf (getD (tb .masks) t [])
+      → Put out₁ out₂ (statementBytes letter (saidBy (structureIn s t) (variablesIn (structureIn s t) row′) ms)) at r
+      → Put out₀ out₂ (statementBytes letter (equalitiesAt (e .sig) (e .state .variables) s tb t ++ saidAt s tb t)) from r
+  unfolding equalitiesAt rowAt pairsOn
+  both-put letter {from} {at} {r} {u} {out₀} {out₁} {out₂} {row} {row′} {ps} {ms} q x o p y z w =
+      rw statements-append (then (eqs (p (e .sig) (e .state .variables) (sideIn s t (rowAt tb t)) (e .finished .types-are) refl)) (said-put letter y z w))
+    where
+      eqs : Put out₀ out₁ (statementBytes letter (equalities (e .sig) (e .state .variables) (sideIn s u row) (sideIn s t (rowAt tb t)) ps)) from at
+          → Put out₀ out₁ (statementBytes letter (equalitiesAt (e .sig) (e .state .variables) s tb t)) from at
+      eqs p = rw (← source-is, ← q, o, ← x) p
+
+  -- What it adds, by its kind.
+  pub own-nothing : {kind from : ℕ} (out : List ℕ) → from ≤ countLimit → ReachedBy kind kinds (tb .sources) t → kind ≡ 1
+      → Put out out (statementBytes letterB (ownAt (e .sig) (e .state .variables) s tb t)) from from
+  unfolding ownAt statementBytes recordBytes joined each
+  own-nothing {kind} {from} out l b q =
+      rw (own-surj kind (reachedBy s tb t) (equalitiesAt (e .sig) (e .state .variables) s tb t) (saidAt s tb t) q (kind-is b)) (nothing out from l)
+
+  pub own-both-if : {kind from r : ℕ} {out₀ out : List ℕ} → ReachedBy kind kinds (tb .sources) t → kind ≡ 0
+      → Put out₀ out (statementBytes letterB (equalitiesAt (e .sig) (e .state .variables) s tb t ++ saidAt s tb t)) from r
+      → Put out₀ out (statementBytes letterB (ownAt (e .sig) (e .state .variables) s tb t)) from r
+  unfolding ownAt
+  own-both-if {kind} b q p = rw (own-if kind (reachedBy s tb t) (equalitiesAt (e .sig) (e .state .variables) s tb t) (saidAt s tb t) q (kind-is b)) p
+
+  pub own-both-noop : {kind from r : ℕ} {out₀ out : List ℕ} → ReachedBy kind kinds (tb .sources) t → kind ≡ 3
+      → Put out₀ out (statementBytes letterB (equalitiesAt (e .sig) (e .state .variables) s tb t ++ saidAt s tb t)) from r
+      → Put out₀ out (statementBytes letterB (ownAt (e .sig) (e .state .variables) s tb t)) from r
+  unfolding ownAt
+  own-both-noop {kind} b q p = rw (own-noop kind (reachedBy s tb t) (equalitiesAt (e .sig) (e .state .variables) s tb t) (saidAt s tb t) q (kind-is b)) p
+
+  pub own-only : {kind from r : ℕ} {out₀ out row : List ℕ} {ms : Masks} → ReachedBy kind kinds (tb .sources) t → (kind ≡ 1 → ⊥) → (kind ≡ 0 → ⊥) → (kind ≡ 3 → ⊥)
+      → row ≡ getD (tb .vars) t [] → ms ≡ masksOf (getD (tb .masks) t [])
+      → Put out₀ out (statementBytes letterB (saidBy (structureIn s t) (variablesIn (structureIn s t) row) ms)) from r
+      → Put out₀ out (statementBytes letterB (ownAt (e .sig) (e .state .variables) s tb t)) from r
+  unfolding ownAt
+  own-only {kind} b i j k x y p =
+      rw (own-said kind (reachedBy s tb t) (equalitiesAt (e .sig) (e .state .variables) s tb t) (saidAt s tb t) i j k (kind-is b)) (said-put letterB x y p)
+
+  -- Its statements are those of its source and its own.
+  statements-are : statementsAt (e .state .slots) t ≡ before (e .state .slots) tb t ++ ownAt (e .sig) (e .state .variables) s tb t
+  unfolding statementsAt
+  statements-are = ap statementsOf (at-slot .1) ∙ at-slot .2 .statements
+
+  pub premise-first : {from r : ℕ} {out₀ out : List ℕ} → t ≡ 0
+      → Put out₀ out (statementBytes letterB (ownAt (e .sig) (e .state .variables) s tb t)) from r
+      → Put out₀ out (statementBytes letterB (statementsAt (e .state .slots) t)) from r
+  unfolding before
+  premise-first {from} {r} {out₀} {out} q p =
+      let b : before (e .state .slots) tb t ≡ [] = none-before in
+      rw (statements-are, b) p
+    where
+      none-before : before (e .state .slots) tb t ≡ []
+      none-before = rw (eq-eqb t 0 q)
+
+  pub premise-later : {u from at r : ℕ} {out₀ out₁ out₂ : List ℕ} → (t ≡ 0 → ⊥) → u ≡ getD (tb .sources) t 0
+      → Put out₀ out₁ (statementBytes letterB (statementsAt (e .state .slots) u)) from at
+      → Put out₁ out₂ (statementBytes letterB (ownAt (e .sig) (e .state .variables) s tb t)) at r
+      → Put out₀ out₂ (statementBytes letterB (statementsAt (e .state .slots) t)) from r
+  unfolding before
+  premise-later {u} {from} {at} {r} {out₀} {out₁} {out₂} d q p w =
+      let b : before (e .state .slots) tb t ≡ statementsAt (e .state .slots) u = those-before in
+      rw (statements-are, b, statements-append) (then p w)
+    where
+      those-before : before (e .state .slots) tb t ≡ statementsAt (e .state .slots) u
+      those-before = let x : u ≡ sourceAt tb t = q ∙ source-is in rw (ne-eqb t 0 d, x)

@@ -1,0 +1,111 @@
+use mathlib.Core.Path.{refl, sym, _∙_}
+use Rattle.flatten.proofs.Grounds.{ready, counted, ground, few-rows}
+use Rattle.flatten.proofs.Writing.{begin-going, ended, ended-writes, refused-at-once, refused-21, refused-22, stopped-walk}
+use borrow.Author.Needs.{needs}
+use native.Mathlib.Omega.{arith}
+use Rattle.flatten.proofs.entry.flatten_rule.Statement.{statement}
+use Rattle.flatten.proofs.entry.flatten_rule.Tie as tie
+use Rattle.flatten.proofs.entry.flatten_rule.Reads as reads
+use Rattle.flatten.proofs.entry.flatten_rule.Lts as lts
+use Rattle.flatten.proofs.entry.stopped.Reads as stopped-reads
+use Rattle.flatten.proofs.entry.write_group.Reads as write-group-reads
+use Rattle.flatten.proofs.walk.flatten_morphisms.Reads as flatten-morphisms-reads
+use Rattle.kinds.proofs.sources.unmapped_auxiliary.Reads as unmapped-auxiliary-reads
+use Rattle.kinds.proofs.sources.unmapped_kind.Reads as unmapped-kind-reads
+use Rattle.kinds.proofs.table.kind_table.Reads as kind-table-reads
+use Rattle.naming.proofs.assign.initial_el_vars.Reads as initial-el-vars-reads
+use Rattle.naming.proofs.types.type_variables.Reads as type-variables-reads
+
+-- src/entry.rt:89:8
+unmapped-auxiliary-requires : tie.Need-unmapped-auxiliary-requires
+unmapped-auxiliary-requires c κs = ready (c .before .before .before .pre)
+
+-- src/entry.rt:90:9
+returns : tie.Need-returns
+returns c = refused-at-once _ (refused-21 _ _ _ (sym (c .before .unmapped-auxiliary .ensures) ∙ c .if1 .taken))
+
+-- src/entry.rt:92:8
+unmapped-kind-requires : tie.Need-unmapped-kind-requires
+unmapped-kind-requires c κs = ready (c .before .before .before .before .before .pre)
+
+-- src/entry.rt:93:9
+returns-2 : tie.Need-returns-2
+returns-2 c = refused-at-once _ (refused-22 _ _ _ (sym (c .before .before .before .unmapped-auxiliary .ensures) ∙ c .before .before .if1 .left) (sym (c .before .unmapped-kind .ensures) ∙ c .if2 .taken))
+
+-- src/entry.rt:95:17
+kind-table-requires : tie.Need-kind-table-requires
+kind-table-requires c κs = ready (c .before .before .before .before .before .before .before .pre)
+
+-- src/entry.rt:96:20
+initial-el-vars-requires : tie.Need-initial-el-vars-requires
+initial-el-vars-requires c κs = (ground (c .before .before .before .before .before .before .before .before .pre) (sym (c .before .before .before .before .unmapped-auxiliary .ensures) ∙ c .before .before .before .if1 .left) (sym (c .before .before .unmapped-kind .ensures) ∙ c .before .if2 .left)) .sounds 0 ((ground (c .before .before .before .before .before .before .before .before .pre) (sym (c .before .before .before .before .unmapped-auxiliary .ensures) ∙ c .before .before .before .if1 .left) (sym (c .before .before .unmapped-kind .ensures) ∙ c .before .if2 .left)) .some-one) .laid
+
+-- src/entry.rt:98:5
+array-write-sources : tie.Need-array-write-sources
+array-write-sources c = search needs
+
+-- src/entry.rt:100:5
+array-set-from-masks : tie.Need-array-set-from-masks
+array-set-from-masks c = search needs
+
+-- src/entry.rt:102:45
+array-copy-out-type-variables : tie.Need-array-copy-out-type-variables
+array-copy-out-type-variables c = search needs
+
+-- src/entry.rt:102:5
+type-variables-requires : tie.Need-type-variables-requires
+type-variables-requires c κs = ((ground (c .before .before .before .before .before .before .before .before .before .before .before .pre) (sym (c .before .before .before .before .before .before .before .unmapped-auxiliary .ensures) ∙ c .before .before .before .before .before .before .if1 .left) (sym (c .before .before .before .before .before .unmapped-kind .ensures) ∙ c .before .before .before .before .if2 .left)) .sounds 0 ((ground (c .before .before .before .before .before .before .before .before .before .before .before .pre) (sym (c .before .before .before .before .before .before .before .unmapped-auxiliary .ensures) ∙ c .before .before .before .before .before .before .if1 .left) (sym (c .before .before .before .before .before .unmapped-kind .ensures) ∙ c .before .before .before .before .if2 .left)) .some-one) .laid, (search needs, search needs))
+
+-- src/entry.rt:103:9
+flatten-morphisms-requires : tie.Need-flatten-morphisms-requires
+flatten-morphisms-requires c κs = ((c .before .before .before .before .before .before .before .before .before .before .before .before .before .before .before .before .pre .signature-indexed, (ground (c .before .before .before .before .before .before .before .before .before .before .before .before .before .before .before .before .pre) (sym (c .before .before .before .before .before .before .before .before .before .before .before .before .unmapped-auxiliary .ensures) ∙ c .before .before .before .before .before .before .before .before .before .before .before .if1 .left) (sym (c .before .before .before .before .before .before .before .before .before .before .unmapped-kind .ensures) ∙ c .before .before .before .before .before .before .before .before .before .if2 .left))), ((counted (c .before .before .before .before .before .before .before .before .before .before .before .before .before .before .before .before .pre), c .before .before .before .before .before .before .before .before .kind-table .ensures), begin-going (ground (c .before .before .before .before .before .before .before .before .before .before .before .before .before .before .before .before .pre) (sym (c .before .before .before .before .before .before .before .before .before .before .before .before .unmapped-auxiliary .ensures) ∙ c .before .before .before .before .before .before .before .before .before .before .before .if1 .left) (sym (c .before .before .before .before .before .before .before .before .before .before .unmapped-kind .ensures) ∙ c .before .before .before .before .before .before .before .before .before .if2 .left)) (few-rows ((ground (c .before .before .before .before .before .before .before .before .before .before .before .before .before .before .before .before .pre) (sym (c .before .before .before .before .before .before .before .before .before .before .before .before .unmapped-auxiliary .ensures) ∙ c .before .before .before .before .before .before .before .before .before .before .before .if1 .left) (sym (c .before .before .before .before .before .before .before .before .before .before .unmapped-kind .ensures) ∙ c .before .before .before .before .before .before .before .before .before .if2 .left)) .sounds 0 ((ground (c .before .before .before .before .before .before .before .before .before .before .before .before .before .before .before .before .pre) (sym (c .before .before .before .before .before .before .before .before .before .before .before .before .unmapped-auxiliary .ensures) ∙ c .before .before .before .before .before .before .before .before .before .before .before .if1 .left) (sym (c .before .before .before .before .before .before .before .before .before .before .unmapped-kind .ensures) ∙ c .before .before .before .before .before .before .before .before .before .if2 .left)) .some-one))) (c .before .before .before .before .before .before .before .initial-el-vars .ensures) (c .before .before .before .before .type-variables .ensures)))
+
+enum-told : tie.Need-enum-told
+enum-told c = search needs
+
+-- src/entry.rt:107:35
+enum-told-2 : tie.Need-enum-told-2
+enum-told-2 c = search needs
+
+-- src/entry.rt:107:35
+stopped-requires : tie.Need-stopped-requires
+stopped-requires c κs = search needs
+
+-- src/entry.rt:107:9
+returns-3 : tie.Need-returns-3
+returns-3 c = refused-at-once _ (stopped-walk _ _ _ (sym (c .before .before .before .before .before .before .before .before .before .before .before .before .before .before .before .before .unmapped-auxiliary .ensures) ∙ c .before .before .before .before .before .before .before .before .before .before .before .before .before .before .before .if1 .left) (sym (c .before .before .before .before .before .before .before .before .before .before .before .before .before .before .unmapped-kind .ensures) ∙ c .before .before .before .before .before .before .before .before .before .before .before .before .before .if2 .left) _ (c .before .before .before .flatten-morphisms .ensures) (c .before .enum-told2 .given .1) (c .stopped .ensures))
+
+-- src/entry.rt:109:5
+write-group-requires : tie.Need-write-group-requires
+write-group-requires c κs = (counted (c .before .before .before .before .before .before .before .before .before .before .before .before .before .before .before .before .before .before .before .before .before .before .before .before .before .pre), ended (ground (c .before .before .before .before .before .before .before .before .before .before .before .before .before .before .before .before .before .before .before .before .before .before .before .before .before .pre) (sym (c .before .before .before .before .before .before .before .before .before .before .before .before .before .before .before .before .before .before .before .before .before .unmapped-auxiliary .ensures) ∙ c .before .before .before .before .before .before .before .before .before .before .before .before .before .before .before .before .before .before .before .before .if1 .left) (sym (c .before .before .before .before .before .before .before .before .before .before .before .before .before .before .before .before .before .before .before .unmapped-kind .ensures) ∙ c .before .before .before .before .before .before .before .before .before .before .before .before .before .before .before .before .before .before .if2 .left)) (c .before .before .before .before .before .before .before .before .before .before .before .before .before .before .before .before .before .kind-table .ensures) _ (c .before .before .before .before .before .before .before .before .flatten-morphisms .ensures) (c .before .before .before .before .before .before .enum-told .given .1))
+
+-- src/entry.rt:77:1
+same-length : tie.Need-same-length
+same-length c = search needs
+
+-- src/entry.rt:77:1
+returns-4 : tie.Need-returns-4
+returns-4 c = ended-writes _ _ _ (sym (c .before .before .before .before .before .before .before .before .before .before .before .before .before .before .before .before .before .before .before .before .before .before .before .before .unmapped-auxiliary .ensures) ∙ c .before .before .before .before .before .before .before .before .before .before .before .before .before .before .before .before .before .before .before .before .before .before .before .if1 .left) (sym (c .before .before .before .before .before .before .before .before .before .before .before .before .before .before .before .before .before .before .before .before .before .before .unmapped-kind .ensures) ∙ c .before .before .before .before .before .before .before .before .before .before .before .before .before .before .before .before .before .before .before .before .before .if2 .left) (ground (c .before .before .before .before .before .before .before .before .before .before .before .before .before .before .before .before .before .before .before .before .before .before .before .before .before .before .before .before .pre) (sym (c .before .before .before .before .before .before .before .before .before .before .before .before .before .before .before .before .before .before .before .before .before .before .before .before .unmapped-auxiliary .ensures) ∙ c .before .before .before .before .before .before .before .before .before .before .before .before .before .before .before .before .before .before .before .before .before .before .before .if1 .left) (sym (c .before .before .before .before .before .before .before .before .before .before .before .before .before .before .before .before .before .before .before .before .before .before .unmapped-kind .ensures) ∙ c .before .before .before .before .before .before .before .before .before .before .before .before .before .before .before .before .before .before .before .before .before .if2 .left)) (c .before .before .before .before .before .before .before .before .before .before .before .before .before .before .before .before .before .before .before .before .kind-table .ensures) _ (c .before .before .before .before .before .before .before .before .before .before .before .flatten-morphisms .ensures) (c .before .before .before .before .before .before .before .before .before .enum-told .given .1) (c .before .before .write-group .ensures (ended (ground (c .before .before .before .before .before .before .before .before .before .before .before .before .before .before .before .before .before .before .before .before .before .before .before .before .before .before .before .before .pre) (sym (c .before .before .before .before .before .before .before .before .before .before .before .before .before .before .before .before .before .before .before .before .before .before .before .before .unmapped-auxiliary .ensures) ∙ c .before .before .before .before .before .before .before .before .before .before .before .before .before .before .before .before .before .before .before .before .before .before .before .if1 .left) (sym (c .before .before .before .before .before .before .before .before .before .before .before .before .before .before .before .before .before .before .before .before .before .before .unmapped-kind .ensures) ∙ c .before .before .before .before .before .before .before .before .before .before .before .before .before .before .before .before .before .before .before .before .before .if2 .left)) (c .before .before .before .before .before .before .before .before .before .before .before .before .before .before .before .before .before .before .before .before .kind-table .ensures) _ (c .before .before .before .before .before .before .before .before .before .before .before .flatten-morphisms .ensures) (c .before .before .before .before .before .before .before .before .before .enum-told .given .1)))
+
+pub flatten-rule-spec : {M : Type 1} → statement M
+flatten-rule-spec =
+    tie.close
+    (tie.spec
+    unmapped-auxiliary-requires
+    returns
+    unmapped-kind-requires
+    returns-2
+    kind-table-requires
+    initial-el-vars-requires
+    array-write-sources
+    array-set-from-masks
+    array-copy-out-type-variables
+    type-variables-requires
+    flatten-morphisms-requires
+    enum-told
+    enum-told-2
+    stopped-requires
+    returns-3
+    write-group-requires
+    same-length
+    returns-4)

@@ -1,0 +1,75 @@
+use Rattle.flatten.proofs.Rules.{ended-in, ended-low, ended-stands, surj-found, surj-put, rows-put}
+use borrow.Author.Needs.{needs}
+use native.Mathlib.Omega.{arith}
+use Rattle.flatten.proofs.output.put_conclusion.Statement.{statement}
+use Rattle.flatten.proofs.output.put_conclusion.Tie as tie
+use Rattle.flatten.proofs.output.put_conclusion.Reads as reads
+use Rattle.flatten.proofs.output.put_conclusion.Lts as lts
+use Rattle.flatten.proofs.premise.put_both.Reads as put-both-reads
+use Rattle.flatten.proofs.premise.reached_by.Reads as reached-by-reads
+use Rattle.statements.proofs.writer.put_domains.Reads as put-domains-reads
+
+-- src/group.rt:75:9
+reached-by-requires : tie.Need-reached-by-requires
+reached-by-requires c κs = (ended-in (c .before .before .pre .1 .0) (c .before .before .pre .1 .1), ended-low (c .before .before .pre .1 .0) (c .before .before .pre .1 .1))
+
+-- src/group.rt:77:9
+put-both-requires : tie.Need-put-both-requires
+put-both-requires c κs = ((c .before .before .before .before .before .pre .0, surj-found (c .before .before .before .before .before .pre .1 .0) (c .before .before .before .before .before .pre .1 .1) (c .before .before .reached-by .ensures) (c .before .if1 .taken)), (c .before .before .before .before .before .pre .1 .0, c .before .before .before .before .before .pre .1 .1))
+
+-- src/group.rt:77:9
+same-length : tie.Need-same-length
+same-length c = search needs
+
+-- src/group.rt:77:9
+returns : tie.Need-returns
+returns c = (λ e x q. surj-put e (c .before .before .before .before .before .before .before .before .pre .1 .1) (c .before .before .before .before .before .reached-by .ensures) (c .before .before .before .before .if1 .taken) q (c .before .before .put-both .ensures .0 e), c .before .before .put-both .ensures .1)
+
+-- src/group.rt:91:15
+mul-row : tie.Need-mul-row
+mul-row c = search needs
+
+-- src/group.rt:91:15
+element-copy-out-row : tie.Need-element-copy-out-row
+element-copy-out-row c = search needs
+
+-- src/group.rt:92:47
+mul-put-domains : tie.Need-mul-put-domains
+mul-put-domains c = search needs
+
+-- src/group.rt:92:47
+element-copy-out-put-domains : tie.Need-element-copy-out-put-domains
+element-copy-out-put-domains c = search needs
+
+-- src/group.rt:92:56
+array-read-put-domains : tie.Need-array-read-put-domains
+array-read-put-domains c = search needs
+
+-- src/group.rt:92:5
+put-domains-requires : tie.Need-put-domains-requires
+put-domains-requires c κs = (c .before .before .before .before .before .before .before .pre .0, ended-stands (c .before .before .before .before .before .before .before .pre .1 .0) (c .before .before .before .before .before .before .before .pre .1 .1))
+
+-- src/group.rt:54:1
+same-length-2 : tie.Need-same-length-2
+same-length-2 c = search needs
+
+-- src/group.rt:54:1
+returns-2 : tie.Need-returns-2
+returns-2 c = (λ e x q. rows-put e (c .before .before .before .before .before .before .before .before .before .before .pre .1 .1) (c .before .before .before .before .before .before .before .reached-by .ensures) (c .before .before .before .before .before .before .if1 .left) q (c .before .before .put-domains .ensures), omega (arith, c .before .before .put-domains .ensures .size))
+
+pub put-conclusion-spec : {M : Type 1} → statement M
+put-conclusion-spec =
+    tie.close
+    (tie.spec
+    reached-by-requires
+    put-both-requires
+    same-length
+    returns
+    mul-row
+    element-copy-out-row
+    mul-put-domains
+    element-copy-out-put-domains
+    array-read-put-domains
+    put-domains-requires
+    same-length-2
+    returns-2)

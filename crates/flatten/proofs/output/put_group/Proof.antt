@@ -1,0 +1,52 @@
+use Rattle.flatten.proofs.Groups.{ended-numbered, group-put}
+use borrow.Author.Needs.{needs}
+use native.Mathlib.Omega.{arith}
+use Rattle.flatten.proofs.output.put_group.Statement.{statement}
+use Rattle.flatten.proofs.output.put_group.Tie as tie
+use Rattle.flatten.proofs.output.put_group.Reads as reads
+use Rattle.flatten.proofs.output.put_group.Lts as lts
+use Rattle.flatten.proofs.output.put_rules.Reads as put-rules-reads
+use Rattle.flatten.proofs.variables.put_all_variables.Reads as put-all-variables-reads
+use Rattle.naming.proofs.writer.group_name_length.Reads as group-name-length-reads
+use Rattle.naming.proofs.writer.put_group_name.Reads as put-group-name-reads
+use Rattle.records.proofs.write.put_field_head.Reads as put-field-head-reads
+
+-- src/group.rt:177:49
+group-name-length-requires : tie.Need-group-name-length-requires
+group-name-length-requires c κs = search needs
+
+-- src/group.rt:177:9
+put-field-head-requires : tie.Need-put-field-head-requires
+put-field-head-requires c κs = search needs
+
+-- src/group.rt:178:9
+put-group-name-requires : tie.Need-put-group-name-requires
+put-group-name-requires c κs = search needs
+
+-- src/group.rt:179:9
+put-all-variables-requires : tie.Need-put-all-variables-requires
+put-all-variables-requires c κs = ((omega (arith, c .before .before .before .put-group-name .ensures .size), c .before .before .before .before .before .before .before .before .before .before .before .before .pre .0), ended-numbered (c .before .before .before .before .before .before .before .before .before .before .before .before .pre .1))
+
+-- src/group.rt:180:5
+put-rules-requires : tie.Need-put-rules-requires
+put-rules-requires c κs = search needs
+
+-- src/group.rt:160:1
+same-length : tie.Need-same-length
+same-length c = search needs
+
+-- src/group.rt:160:1
+returns : tie.Need-returns
+returns c = (λ e. group-put e (c .before .before .before .before .before .before .before .before .before .before .before .before .before .before .before .before .before .before .before .pre .0) (c .before .before .before .before .before .before .before .before .before .before .before .before .before .before .before .group-name-length .ensures .0) (c .before .before .before .before .before .before .before .before .before .before .before .before .before .before .put-field-head .ensures) (c .before .before .before .before .before .before .before .before .before .before .put-group-name .ensures) (c .before .before .before .before .before .before .put-all-variables .ensures) (c .before .before .put-rules .ensures .0 e), c .before .before .put-rules .ensures .1)
+
+pub put-group-spec : {M : Type 1} → statement M
+put-group-spec =
+    tie.close
+    (tie.spec
+    group-name-length-requires
+    put-field-head-requires
+    put-group-name-requires
+    put-all-variables-requires
+    put-rules-requires
+    same-length
+    returns)

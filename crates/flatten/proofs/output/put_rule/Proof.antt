@@ -1,0 +1,63 @@
+use Rattle.flatten.proofs.Rules.{source-reaching, rule-put}
+use borrow.Author.Needs.{needs}
+use native.Mathlib.Omega.{arith}
+use Rattle.flatten.proofs.output.put_rule.Statement.{statement}
+use Rattle.flatten.proofs.output.put_rule.Tie as tie
+use Rattle.flatten.proofs.output.put_rule.Reads as reads
+use Rattle.flatten.proofs.output.put_rule.Lts as lts
+use Rattle.flatten.proofs.output.put_conclusion.Reads as put-conclusion-reads
+use Rattle.flatten.proofs.premise.put_premise.Reads as put-premise-reads
+use Rattle.flatten.proofs.tables.place.Reads as place-reads
+use Rattle.naming.proofs.writer.put_rule_name.Reads as put-rule-name-reads
+use Rattle.naming.proofs.writer.rule_name_length.Reads as rule-name-length-reads
+use Rattle.records.proofs.write.put_field_head.Reads as put-field-head-reads
+
+-- src/group.rt:118:52
+rule-name-length-requires : tie.Need-rule-name-length-requires
+rule-name-length-requires c κs = search needs
+
+-- src/group.rt:118:9
+put-field-head-requires : tie.Need-put-field-head-requires
+put-field-head-requires c κs = search needs
+
+-- src/group.rt:119:9
+put-rule-name-requires : tie.Need-put-rule-name-requires
+put-rule-name-requires c κs = search needs
+
+-- src/group.rt:120:19
+element-copy-out-place : tie.Need-element-copy-out-place
+element-copy-out-place c = search needs
+
+-- src/group.rt:120:9
+place-requires : tie.Need-place-requires
+place-requires c κs = search needs
+
+-- src/group.rt:121:9
+put-premise-requires : tie.Need-put-premise-requires
+put-premise-requires c κs = (omega (arith, c .before .before .before .before .before .put-rule-name .ensures .size), (c .before .before .before .before .before .before .before .before .before .before .before .before .before .before .pre .1 .0, source-reaching (c .before .before .before .before .before .before .before .before .before .before .before .before .before .before .pre .1 .0) (c .before .before .before .before .before .before .before .before .before .before .before .before .before .before .pre .1 .1) (c .before .place .ensures .0) (c .before .before .before .before .before .before .before .before .before .before .before .before .before .before .pre .0 .1)))
+
+-- src/group.rt:122:5
+put-conclusion-requires : tie.Need-put-conclusion-requires
+put-conclusion-requires c κs = search needs
+
+-- src/group.rt:96:1
+same-length : tie.Need-same-length
+same-length c = search needs
+
+-- src/group.rt:96:1
+returns : tie.Need-returns
+returns c = (λ e x q. rule-put e (c .before .before .before .before .before .before .before .before .before .before .before .before .before .before .before .before .before .before .before .before .before .pre .1 .1) _ x (c .before .before .before .before .before .before .before .before .before .before .before .before .before .before .before .before .before .before .before .before .before .pre .0 .1) (c .before .before .before .before .before .before .before .before .before .before .before .before .before .before .before .before .before .rule-name-length .ensures .0) (c .before .before .before .before .before .before .before .before .before .before .before .before .before .before .before .before .put-field-head .ensures) (c .before .before .before .before .before .before .before .before .before .before .before .before .put-rule-name .ensures) (c .before .before .before .before .before .before .before .before .place .ensures .0) (c .before .before .before .before .before .before .put-premise .ensures .0 e) (c .before .before .put-conclusion .ensures .0 e x q), c .before .before .put-conclusion .ensures .1)
+
+pub put-rule-spec : {M : Type 1} → statement M
+put-rule-spec =
+    tie.close
+    (tie.spec
+    rule-name-length-requires
+    put-field-head-requires
+    put-rule-name-requires
+    element-copy-out-place
+    place-requires
+    put-premise-requires
+    put-conclusion-requires
+    same-length
+    returns)

@@ -1,0 +1,75 @@
+use Rattle.flatten.proofs.Rules.{ended-in, ended-low, Ruling, ruling-start, ruling-pass, ruling-reaching, ruling-silent, ruling-next, ruling-all}
+use Rattle.flatten.specs.Tables.{tables}
+use Prim.Native.Nat.{_≤_, _-_}
+use mathlib.Core.Logic.{⊎-elim}
+use borrow.Author.Needs.{needs}
+use native.Mathlib.Omega.{arith}
+use Rattle.flatten.proofs.output.put_rules.Statement.{statement}
+use Rattle.flatten.proofs.output.put_rules.Tie as tie
+use Rattle.flatten.proofs.output.put_rules.Reads as reads
+use Rattle.flatten.proofs.output.put_rules.Lts as lts
+use Rattle.flatten.proofs.output.emits.Reads as emits-reads
+use Rattle.flatten.proofs.output.put_rule.Reads as put-rule-reads
+
+abbrev Inv-loop : tie.InvT-loop
+Inv-loop out₀ from s index n kinds sources masks vars types at₀ k₀ t₀ out at k t = (t ≤ n) × Ruling out₀ out s index types kinds (tables sources masks vars) from at k t
+
+abbrev μ-loop : tie.MeasureT-loop
+μ-loop out₀ from s index n kinds sources masks vars types at₀ k₀ t₀ out at k t = n - t
+
+-- src/group.rt:147:5
+loop-holds : tie.Need-loop-holds Inv-loop μ-loop
+loop-holds c = (omega (arith, c .before .before .pre .1 .ground .some-one), ruling-start _ _ _ _ _ _ _ (c .before .before .pre .0 .0))
+
+-- src/group.rt:148:12
+element-copy-out-if1 : tie.Need-element-copy-out-if1 Inv-loop μ-loop
+element-copy-out-if1 c = let k = c .before .before .before .before .pre .1 .ground .few in search needs
+
+-- src/group.rt:149:16
+emits-requires : tie.Need-emits-requires Inv-loop μ-loop
+emits-requires c κs = let x = ruling-reaching (c .before .before .before .loop .inv .1) (c .before .before .before .before .before .before .pre .1) (c .before .before .before .before .before .before .pre .0 .1) (c .before .before .loop-test .taken) (c .if1 .taken) in (ended-in (c .before .before .before .before .before .before .pre .1) x, ended-low (c .before .before .before .before .before .before .pre .1) x)
+
+-- src/group.rt:150:17
+put-rule-requires : tie.Need-put-rule-requires Inv-loop μ-loop
+put-rule-requires c κs = ((c .before .before .before .before .before .before .loop .inv .1 .small, omega (arith, c .before .before .before .before .before .before .loop .inv .1 .few)), (c .before .before .before .before .before .before .before .before .before .pre .1, ruling-reaching (c .before .before .before .before .before .before .loop .inv .1) (c .before .before .before .before .before .before .before .before .before .pre .1) (c .before .before .before .before .before .before .before .before .before .pre .0 .1) (c .before .before .before .before .before .loop-test .taken) (c .before .before .before .if1 .taken)))
+
+-- src/group.rt:151:17
+add-k : tie.Need-add-k Inv-loop μ-loop
+add-k c = let f = c .before .before .before .before .before .before .before .before .before .loop .inv .1 .few in let n = c .before .before .before .before .before .before .before .before .before .before .before .before .pre .1 .ground .few in search needs
+
+-- src/group.rt:154:9
+add-t : tie.Need-add-t Inv-loop μ-loop
+add-t c = search needs
+
+-- src/group.rt:147:5
+loop-less : tie.Need-loop-less Inv-loop μ-loop
+loop-less c = search needs
+
+-- src/group.rt:147:5
+loop-again : tie.Need-loop-again Inv-loop μ-loop
+loop-again c = (search needs, ⊎-elim (λ w. rw (w .7, w .8, w .9) (ruling-next (c .before .before .before .loop .inv .1) (c .before .before .before .before .before .before .pre .1) (c .before .before .before .before .before .before .pre .0 .1) (c .before .before .loop-test .taken) (w .0 .taken) (w .1 .ensures) (w .2 .taken) (w .4 .ensures .0) (w .4 .ensures .1))) (λ v. ⊎-elim (λ w. rw (w .3, w .4, w .5) (ruling-silent (c .before .before .before .loop .inv .1) (c .before .before .before .before .before .before .pre .1) (c .before .before .before .before .before .before .pre .0 .1) (c .before .before .loop-test .taken) (w .0 .taken) (w .1 .ensures) (w .2 .left))) (λ w. rw (w .1, w .2, w .3) (ruling-pass (c .before .before .before .loop .inv .1) (c .before .before .before .before .before .before .pre .1) (c .before .before .before .before .before .before .pre .0 .1) (c .before .before .loop-test .taken) (w .0 .left))) v) (c .if1 .came))
+
+-- src/group.rt:126:1
+same-length : tie.Need-same-length Inv-loop μ-loop
+same-length c = c .before .loop .inv .1 .put (c .before .before .before .before .pre .1) .long
+
+-- src/group.rt:126:1
+returns : tie.Need-returns Inv-loop μ-loop
+returns c = (ruling-all (c .before .loop .inv .1) (c .before .before .before .before .pre .0 .1) (c .before .loop .inv .0) (c .loop-test .left), c .before .loop .inv .1 .small)
+
+pub put-rules-spec : {M : Type 1} → statement M
+put-rules-spec =
+    tie.close
+    (tie.spec
+    Inv-loop
+    μ-loop
+    loop-holds
+    element-copy-out-if1
+    emits-requires
+    put-rule-requires
+    add-k
+    add-t
+    loop-less
+    loop-again
+    same-length
+    returns)

@@ -1,0 +1,144 @@
+use borrow.Author.Needs.{needs}
+use native.Mathlib.Omega.{arith}
+use Rattle.flatten.proofs.Premises.{place-small, source-reaching, source-below, premise-first, premise-later}
+use Prim.Native.Nat.{ℕ, _<_}
+use borrow.Fn.Kinds.{In}
+use borrow.Fn.PlainCycle.{Measures, is, falls, and}
+use Rattle.flatten.proofs.premise.put_premise.Reads as put-premise
+use Rattle.flatten.proofs.premise.put_premise.Kinds as put-premise-kinds
+use Rattle.flatten.proofs.premise.+put_premise.Lts-put_premise as put-premise-lts
+use Rattle.flatten.proofs.premise.put_own.Reads as put-own-reads
+use Rattle.flatten.proofs.tables.place.Reads as place-reads
+use Rattle.flatten.proofs.premise.+put_premise.{statement}
+use Rattle.flatten.proofs.premise.+put_premise.Tie.{close}
+
+abbrev μ-put-premise : Measures 8 put-premise-kinds.ps ℕ
+μ-put-premise κs a = a .1 .1 .1 .1 .1 .1 .1 .1 .1 .0
+
+abbrev put-premise-at : ℕ → In 8 put-premise-kinds.ps
+put-premise-at t =
+    and 8 put-premise-kinds.ps (is 8 put-premise-kinds.ps μ-put-premise t) put-premise.Pre
+
+abbrev put-premise-below : ℕ → In 8 put-premise-kinds.ps
+put-premise-below t =
+    and 8 put-premise-kinds.ps (falls 8 put-premise-kinds.ps _<_ μ-put-premise t) put-premise.Pre
+
+-- src/premise.rt:117:9
+put-premise-put-own-requires : (t : ℕ) → put-premise-lts.Need-put-own-requires (
+  put-own-reads.Asked,
+  put-own-reads.Learnt,
+  place-reads.Asked,
+  place-reads.Learnt,
+  put-premise-below t,
+  put-premise.Post,
+) (put-premise-at t) put-premise.Post
+put-premise-put-own-requires t c κs = let z = c .before .if1 .taken in (c .before .before .before .before .pre .1 .0, (c .before .before .before .before .pre .1 .1 .0, rw (← z) (c .before .before .before .before .pre .1 .1 .1)))
+
+-- src/premise.rt:117:9
+put-premise-same-length : (t : ℕ) → put-premise-lts.Need-same-length (
+  put-own-reads.Asked,
+  put-own-reads.Learnt,
+  place-reads.Asked,
+  place-reads.Learnt,
+  put-premise-below t,
+  put-premise.Post,
+) (put-premise-at t) put-premise.Post
+put-premise-same-length t c = search needs
+
+-- src/premise.rt:117:9
+put-premise-returns : (t : ℕ) → put-premise-lts.Need-returns (
+  put-own-reads.Asked,
+  put-own-reads.Learnt,
+  place-reads.Asked,
+  place-reads.Learnt,
+  put-premise-below t,
+  put-premise.Post,
+) (put-premise-at t) put-premise.Post
+put-premise-returns t c = let z = c .before .before .before .before .if1 .taken in (λ e. premise-first e (c .before .before .before .before .before .before .before .pre .1 .1 .1) z (rw z (c .before .before .put-own .ensures .0 e)), c .before .before .put-own .ensures .1)
+
+-- src/premise.rt:119:19
+put-premise-element-copy-out-place : (t : ℕ) → put-premise-lts.Need-element-copy-out-place (
+  put-own-reads.Asked,
+  put-own-reads.Learnt,
+  place-reads.Asked,
+  place-reads.Learnt,
+  put-premise-below t,
+  put-premise.Post,
+) (put-premise-at t) put-premise.Post
+put-premise-element-copy-out-place t c = let p = place-small (c .before .before .before .pre .1 .1 .0) (c .before .before .before .pre .1 .1 .1) in search needs
+
+-- src/premise.rt:119:9
+put-premise-place-requires : (t : ℕ) → put-premise-lts.Need-place-requires (
+  put-own-reads.Asked,
+  put-own-reads.Learnt,
+  place-reads.Asked,
+  place-reads.Learnt,
+  put-premise-below t,
+  put-premise.Post,
+) (put-premise-at t) put-premise.Post
+put-premise-place-requires t c κs = search needs
+
+-- src/premise.rt:120:9
+put-premise-put-premise-requires : (t : ℕ) → put-premise-lts.Need-put-premise-requires (
+  put-own-reads.Asked,
+  put-own-reads.Learnt,
+  place-reads.Asked,
+  place-reads.Learnt,
+  put-premise-below t,
+  put-premise.Post,
+) (put-premise-at t) put-premise.Post
+put-premise-put-premise-requires t c κs = let l = source-below (c .before .before .before .before .before .before .pre .1 .1 .0) (c .before .before .before .before .before .before .pre .1 .1 .1) (c .before .place .ensures .0) (c .before .before .before .if1 .left) in (omega (arith, c .before .before .before .before .before .before .pre .0), (c .before .before .before .before .before .before .pre .1 .0, (c .before .before .before .before .before .before .pre .1 .1 .0, source-reaching (c .before .before .before .before .before .before .pre .1 .1 .0) (c .before .before .before .before .before .before .pre .1 .1 .1) (c .before .place .ensures .0))))
+
+-- src/premise.rt:121:5
+put-premise-put-own-requires-2 : (t : ℕ) → put-premise-lts.Need-put-own-requires-2 (
+  put-own-reads.Asked,
+  put-own-reads.Learnt,
+  place-reads.Asked,
+  place-reads.Learnt,
+  put-premise-below t,
+  put-premise.Post,
+) (put-premise-at t) put-premise.Post
+put-premise-put-own-requires-2 t c κs = (c .before .before .before .put-premise .ensures .1, c .before .before .before .before .before .before .before .before .before .before .pre .1 .1)
+
+-- src/premise.rt:97:1
+put-premise-same-length-2 : (t : ℕ) → put-premise-lts.Need-same-length-2 (
+  put-own-reads.Asked,
+  put-own-reads.Learnt,
+  place-reads.Asked,
+  place-reads.Learnt,
+  put-premise-below t,
+  put-premise.Post,
+) (put-premise-at t) put-premise.Post
+put-premise-same-length-2 t c = search needs
+
+-- src/premise.rt:97:1
+put-premise-returns-2 : (t : ℕ) → put-premise-lts.Need-returns-2 (
+  put-own-reads.Asked,
+  put-own-reads.Learnt,
+  place-reads.Asked,
+  place-reads.Learnt,
+  put-premise-below t,
+  put-premise.Post,
+) (put-premise-at t) put-premise.Post
+put-premise-returns-2 t c = (λ e. premise-later e (c .before .before .before .before .before .before .before .before .before .before .before .before .before .pre .1 .1 .1) (c .before .before .before .before .before .before .before .before .before .before .if1 .left) (c .before .before .before .before .before .before .before .before .place .ensures .0) (c .before .before .before .before .before .before .put-premise .ensures .0 e) (c .before .before .put-own2 .ensures .0 e), c .before .before .put-own2 .ensures .1)
+
+pub +put-premise-spec : {M : Type 1} → statement M
++put-premise-spec = close μ-put-premise λ t. put-premise-lts.spec (
+  put-own-reads.Asked,
+  put-own-reads.Learnt,
+  place-reads.Asked,
+  place-reads.Learnt,
+  put-premise-below t,
+  put-premise.Post,
+)
+    (put-premise-at t)
+    put-premise.Post
+    (put-premise-put-own-requires t)
+    (put-premise-same-length t)
+    (put-premise-returns t)
+    (put-premise-element-copy-out-place t)
+    (put-premise-place-requires t)
+    (put-premise-put-premise-requires t)
+    (put-premise-put-own-requires-2 t)
+    (put-premise-same-length-2 t)
+    (put-premise-returns-2 t)

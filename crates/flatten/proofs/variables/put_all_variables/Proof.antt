@@ -1,0 +1,93 @@
+use mathlib.Core.Logic.{⊎-elim}
+use mathlib.Core.List.{[]}
+use mathlib.Core.Path.{_≡_, refl}
+use Prim.Native.Nat.{_≤_, _-_}
+use Rattle.flatten.specs.Tables.{tables}
+use Rattle.flatten.proofs.Numbers.{Naming, naming-start, naming-at, naming-laid, naming-room, count-few, fresh-room, naming-pass, naming-next}
+use borrow.Author.Needs.{needs}
+use native.Mathlib.Omega.{arith}
+use Rattle.flatten.proofs.variables.put_all_variables.Statement.{statement}
+use Rattle.flatten.proofs.variables.put_all_variables.Tie as tie
+use Rattle.flatten.proofs.variables.put_all_variables.Reads as reads
+use Rattle.flatten.proofs.variables.put_all_variables.Lts as lts
+use Rattle.naming.proofs.variables.fresh.Reads as fresh-reads
+use Rattle.naming.proofs.writer.put_variables.Reads as put-variables-reads
+use Rattle.rule.proofs.elements.element_count.Reads as element-count-reads
+
+abbrev Inv-loop : tie.InvT-loop
+Inv-loop out₀ from s index n sources vars at₀ number₀ t₀ out at number t = (t ≤ n) × Naming out₀ out s (tables sources [] vars) from at number t
+
+abbrev μ-loop : tie.MeasureT-loop
+μ-loop out₀ from s index n sources vars at₀ number₀ t₀ out at number t = n - t
+
+-- src/variables.rt:35:5
+loop-holds : tie.Need-loop-holds Inv-loop μ-loop
+loop-holds c = (search needs, naming-start _ _ _ _ (search needs))
+
+-- src/variables.rt:36:12
+element-copy-out-if1 : tie.Need-element-copy-out-if1 Inv-loop μ-loop
+element-copy-out-if1 c = search needs
+
+-- src/variables.rt:37:23
+mul-row : tie.Need-mul-row Inv-loop μ-loop
+mul-row c = search needs
+
+-- src/variables.rt:37:23
+element-copy-out-row : tie.Need-element-copy-out-row Inv-loop μ-loop
+element-copy-out-row c = search needs
+
+-- src/variables.rt:38:13
+put-variables-requires : tie.Need-put-variables-requires Inv-loop μ-loop
+put-variables-requires c κs = (naming-at (c .before .before .before .before .before .before .before .before .pre .1) (c .before .before .before .before .before .before .before .before .pre .0 .1) (c .before .before .before .before .loop-test .taken) (c .before .before .before .before .before .loop .inv .1), (naming-laid (c .before .before .before .before .before .before .before .before .pre .1) (c .before .before .before .before .before .before .before .before .pre .0 .1) (c .before .before .before .before .loop-test .taken) (c .before .before .before .before .before .loop .inv .1), naming-room (c .before .before .before .before .before .before .before .before .pre .1) (c .before .before .before .before .before .before .before .before .pre .0 .1) (c .before .before .before .before .loop-test .taken) (c .before .before .before .before .before .loop .inv .1)))
+
+-- src/variables.rt:39:34
+element-count-requires : tie.Need-element-count-requires Inv-loop μ-loop
+element-count-requires c κs = search needs
+
+-- src/variables.rt:39:23
+fresh-requires : tie.Need-fresh-requires Inv-loop μ-loop
+fresh-requires c κs = count-few (c .before .before .before .before .before .before .before .before .before .before .before .before .pre .1) (c .before .before .before .before .before .before .before .before .before .before .before .before .pre .0 .1) (c .before .before .before .before .before .before .before .before .loop-test .taken) (c .before .before .before .before .before .before .before .before .before .loop .inv .1) (c .element-count .ensures)
+
+-- src/variables.rt:39:13
+add-number : tie.Need-add-number Inv-loop μ-loop
+add-number c = let h = fresh-room _ _ (c .fresh .ensures) (count-few (c .before .before .before .before .before .before .before .before .before .before .before .before .before .pre .1) (c .before .before .before .before .before .before .before .before .before .before .before .before .before .pre .0 .1) (c .before .before .before .before .before .before .before .before .before .loop-test .taken) (c .before .before .before .before .before .before .before .before .before .before .loop .inv .1) (c .before .element-count .ensures)) (naming-room (c .before .before .before .before .before .before .before .before .before .before .before .before .before .pre .1) (c .before .before .before .before .before .before .before .before .before .before .before .before .before .pre .0 .1) (c .before .before .before .before .before .before .before .before .before .loop-test .taken) (c .before .before .before .before .before .before .before .before .before .before .loop .inv .1)) in search needs
+
+-- src/variables.rt:41:9
+add-t : tie.Need-add-t Inv-loop μ-loop
+add-t c = search needs
+
+-- src/variables.rt:35:5
+loop-less : tie.Need-loop-less Inv-loop μ-loop
+loop-less c = search needs
+
+-- src/variables.rt:35:5
+loop-again : tie.Need-loop-again Inv-loop μ-loop
+loop-again c = (search needs, ⊎-elim (λ w. rw (w .8, w .9, w .10) (naming-next (c .before .before .before .before .before .before .pre .1) (c .before .before .before .before .before .before .pre .0 .1) (c .before .before .loop-test .taken) (c .before .before .before .loop .inv .1) (w .0 .taken) refl (w .6 .ensures) (w .3 .ensures) (w .7 .ensures))) (λ w. rw (w .1, w .2, w .3) (naming-pass (c .before .before .before .before .before .before .pre .1) (c .before .before .before .before .before .before .pre .0 .1) (c .before .before .loop-test .taken) (c .before .before .before .loop .inv .1) (w .0 .left))) (c .if1 .came))
+
+-- src/variables.rt:19:1
+same-length : tie.Need-same-length Inv-loop μ-loop
+same-length c = search needs
+
+-- src/variables.rt:19:1
+returns : tie.Need-returns Inv-loop μ-loop
+returns c = let e = c .before .loop .inv .0 in let f = c .loop-test .left in let q : c .before .before .before .before .args .n ≡ c .before .loop .t = omega arith in rw q (c .before .loop .inv .1 .put)
+
+pub put-all-variables-spec : {M : Type 1} → statement M
+put-all-variables-spec =
+    tie.close
+    (tie.spec
+    Inv-loop
+    μ-loop
+    loop-holds
+    element-copy-out-if1
+    mul-row
+    element-copy-out-row
+    put-variables-requires
+    element-count-requires
+    fresh-requires
+    add-number
+    add-t
+    loop-less
+    loop-again
+    same-length
+    returns)

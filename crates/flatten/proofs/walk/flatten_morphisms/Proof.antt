@@ -1,0 +1,114 @@
+use mathlib.Core.Logic.{⊎-elim}
+use Prim.Native.Nat.{_-_, _*_, _≤_, _<_}
+use Rattle.signature.specs.Index.{signatureAt}
+use Rattle.flatten.specs.Tables.{tables}
+use Rattle.flatten.specs.Left.{Going}
+use Rattle.flatten.proofs.Going.{count-small}
+use Rattle.flatten.proofs.Ending.{within, met, skip, went-going, stopped, next-target, walked-all, begin-walk, left-turn, left-step}
+use borrow.Author.Needs.{needs}
+use native.Mathlib.Omega.{arith}
+use Rattle.flatten.proofs.walk.flatten_morphisms.Statement.{statement}
+use Rattle.flatten.proofs.walk.flatten_morphisms.Tie as tie
+use Rattle.flatten.proofs.walk.flatten_morphisms.Reads as reads
+use Rattle.flatten.proofs.walk.flatten_morphisms.Lts as lts
+use Rattle.flatten.proofs.walk.walk_map.Reads as walk-map-reads
+use Rattle.rule.proofs.elements.element_count.Reads as element-count-reads
+
+abbrev Inv-loop : tie.InvT-loop
+Inv-loop sig arities counts s index n vars₀ sources₀ masks₀ types₀ kinds next₀ t₀ u₀ vars sources masks types next t u =
+    (t ≤ n) × (u < n) × Going (signatureAt sig arities counts) s (tables sources masks vars) types next t u
+
+abbrev μ-loop : tie.MeasureT-loop
+μ-loop sig arities counts s index n vars₀ sources₀ masks₀ types₀ kinds next₀ t₀ u₀ vars sources masks types next t u =
+    (n - t) * n - u
+
+-- src/walk.rt:162:20
+element-count-requires : tie.Need-element-count-requires Inv-loop μ-loop
+element-count-requires c κs = search needs
+
+-- src/walk.rt:162:20
+cast-next : tie.Need-cast-next Inv-loop μ-loop
+cast-next c = let h = count-small (c .before .before .before .pre .0 .1 .sounds _ (c .before .before .before .pre .0 .1 .some-one) .laid) (c .element-count .ensures) in search needs
+
+-- src/walk.rt:165:5
+loop-holds : tie.Need-loop-holds Inv-loop μ-loop
+loop-holds c = let e = c .before .before .before .pre .1 .0 .0 in let h = c .before .before .before .pre .0 .1 .some-one in (search needs, omega arith, begin-walk (c .before .before .before .pre .0 .1) (c .element-count .ensures) (c .before .before .before .pre .1 .1))
+
+-- src/walk.rt:166:20
+mul-kind : tie.Need-mul-kind Inv-loop μ-loop
+mul-kind c = let h = within (c .before .before .before .before .before .pre .0 .1) (c .before .before .before .before .before .pre .1 .0 .0) (c .before .before .before .before .before .pre .1 .0 .1) (c .loop-test .taken) (c .before .loop .inv .1) .0 in let k = within (c .before .before .before .before .before .pre .0 .1) (c .before .before .before .before .before .pre .1 .0 .0) (c .before .before .before .before .before .pre .1 .0 .1) (c .loop-test .taken) (c .before .loop .inv .1) .1 in search needs
+
+-- src/walk.rt:166:20
+index-1-kind : tie.Need-index-1-kind Inv-loop μ-loop
+index-1-kind c = let h = within (c .before .before .before .before .before .pre .0 .1) (c .before .before .before .before .before .pre .1 .0 .0) (c .before .before .before .before .before .pre .1 .0 .1) (c .loop-test .taken) (c .before .loop .inv .1) .0 in let k = within (c .before .before .before .before .before .pre .0 .1) (c .before .before .before .before .before .pre .1 .0 .0) (c .before .before .before .before .before .pre .1 .0 .1) (c .loop-test .taken) (c .before .loop .inv .1) .1 in search needs
+
+-- src/walk.rt:166:20
+index-2-kind : tie.Need-index-2-kind Inv-loop μ-loop
+index-2-kind c = let h = within (c .before .before .before .before .before .pre .0 .1) (c .before .before .before .before .before .pre .1 .0 .0) (c .before .before .before .before .before .pre .1 .0 .1) (c .loop-test .taken) (c .before .loop .inv .1) .0 in let k = within (c .before .before .before .before .before .pre .0 .1) (c .before .before .before .before .before .pre .1 .0 .0) (c .before .before .before .before .before .pre .1 .0 .1) (c .loop-test .taken) (c .before .loop .inv .1) .1 in search needs
+
+-- src/walk.rt:168:17
+walk-map-requires : tie.Need-walk-map-requires Inv-loop μ-loop
+walk-map-requires c κs = (within (c .before .before .before .before .before .before .before .before .before .before .before .before .pre .0 .1) (c .before .before .before .before .before .before .before .before .before .before .before .before .pre .1 .0 .0) (c .before .before .before .before .before .before .before .before .before .before .before .before .pre .1 .0 .1) (c .before .before .before .before .before .before .before .loop-test .taken) (c .before .before .before .before .before .before .before .before .loop .inv .1), (c .before .before .before .before .before .before .before .before .before .before .before .before .pre .0, (met (c .before .before .before .before .before .before .before .before .before .before .before .before .pre .0 .1) (c .before .before .before .before .before .before .before .before .before .before .before .before .pre .1 .0 .0) (c .before .before .before .before .before .before .before .before .before .before .before .before .pre .1 .0 .1) (c .before .before .before .before .before .before .before .loop-test .taken) (c .before .before .before .before .before .before .before .before .loop .inv .1) (c .before .before .before .before .before .if1 .taken), c .before .before .before .before .before .before .before .before .loop .inv .2)))
+
+enum-told : tie.Need-enum-told Inv-loop μ-loop
+enum-told c = search needs
+
+-- src/walk.rt:172:17
+enum-told-2 : tie.Need-enum-told-2 Inv-loop μ-loop
+enum-told-2 c = search needs
+
+-- src/walk.rt:172:17
+returns : tie.Need-returns Inv-loop μ-loop
+returns c = stopped _ (c .before .before .walk-map .ensures) (c .enum-told2 .given .1)
+
+-- src/walk.rt:175:9
+add-u : tie.Need-add-u Inv-loop μ-loop
+add-u c = let h = within (c .before .before .before .before .before .before .before .pre .0 .1) (c .before .before .before .before .before .before .before .pre .1 .0 .0) (c .before .before .before .before .before .before .before .pre .1 .0 .1) (c .before .before .loop-test .taken) (c .before .before .before .loop .inv .1) .0 in search needs
+
+-- src/walk.rt:178:13
+add-t : tie.Need-add-t Inv-loop μ-loop
+add-t c = let h = within (c .before .before .before .before .before .before .before .before .pre .0 .1) (c .before .before .before .before .before .before .before .before .pre .1 .0 .0) (c .before .before .before .before .before .before .before .before .pre .1 .0 .1) (c .before .before .before .loop-test .taken) (c .before .before .before .before .loop .inv .1) .1 in search needs
+
+-- src/walk.rt:165:5
+loop-less : tie.Need-loop-less Inv-loop μ-loop
+loop-less c = left-turn _ _ _ (c .before .before .before .loop-test .taken) (c .before .before .before .before .loop .inv .1)
+
+-- src/walk.rt:165:5
+loop-again : tie.Need-loop-again Inv-loop μ-loop
+loop-again c = let h = c .before .before .before .loop-test .taken in let l = c .before .before .before .before .loop .inv .1 in (omega arith, omega arith, next-target (c .before .before .before .before .before .before .before .before .pre .1 .0 .0) (c .before .before .before .loop-test .taken) (c .if2 .taken) (⊎-elim (λ w. rw (w .9, w .10, w .11, w .12, w .13) (went-going _ (w .6 .ensures) (w .8 .given .1))) (λ w. rw (w .1, w .2, w .3, w .4, w .5) (skip (c .before .before .before .before .before .before .before .before .pre .0 .1) (c .before .before .before .before .before .before .before .before .pre .1 .0 .0) (c .before .before .before .before .before .before .before .before .pre .1 .0 .1) (c .before .before .before .loop-test .taken) (c .before .before .before .before .loop .inv .1) (w .0 .left) (c .before .before .before .before .loop .inv .2))) (c .before .if1 .came)))
+
+-- src/walk.rt:165:5
+loop-less-2 : tie.Need-loop-less-2 Inv-loop μ-loop
+loop-less-2 c = left-step _ _ _ (c .before .before .before .loop-test .taken) (c .before .before .before .before .loop .inv .1)
+
+-- src/walk.rt:165:5
+loop-again-2 : tie.Need-loop-again-2 Inv-loop μ-loop
+loop-again-2 c = let h = c .before .before .before .loop-test .taken in let l = c .before .before .before .before .loop .inv .1 in let d = c .if2 .left in (omega arith, omega arith, (⊎-elim (λ w. rw (w .9, w .10, w .11, w .12, w .13) (went-going _ (w .6 .ensures) (w .8 .given .1))) (λ w. rw (w .1, w .2, w .3, w .4, w .5) (skip (c .before .before .before .before .before .before .before .before .pre .0 .1) (c .before .before .before .before .before .before .before .before .pre .1 .0 .0) (c .before .before .before .before .before .before .before .before .pre .1 .0 .1) (c .before .before .before .loop-test .taken) (c .before .before .before .before .loop .inv .1) (w .0 .left) (c .before .before .before .before .loop .inv .2))) (c .before .if1 .came)))
+
+-- src/walk.rt:143:1
+returns-2 : tie.Need-returns-2 Inv-loop μ-loop
+returns-2 c = walked-all (c .before .before .before .before .before .pre .0 .1) (c .before .before .before .before .before .pre .1 .0 .0) (c .before .loop .inv .0) (c .loop-test .left) (c .before .loop .inv .2)
+
+pub flatten-morphisms-spec : {M : Type 1} → statement M
+flatten-morphisms-spec =
+    tie.close
+    (tie.spec
+    Inv-loop
+    μ-loop
+    element-count-requires
+    cast-next
+    loop-holds
+    mul-kind
+    index-1-kind
+    index-2-kind
+    walk-map-requires
+    enum-told
+    enum-told-2
+    returns
+    add-u
+    add-t
+    loop-less
+    loop-again
+    loop-less-2
+    loop-again-2
+    returns-2)

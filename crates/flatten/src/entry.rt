@@ -1,0 +1,135 @@
+// The entry: a signature and a rule as bytes, flattened into a lent buffer.
+ghost use mathlib.Core.Path.{_≡_};
+ghost use Prim.Native.Nat.{_≤_};
+ghost use lib.ListN.{length, drop};
+ghost use Rattle.definition.specs.Flatten.{groupLeft, fitted, flattenOf};
+ghost use Rattle.definition.specs.Writer.{groupBytesOf};
+ghost use Rattle.rule.specs.Lookup.{ruleAt};
+ghost use Rattle.signature.specs.Index.{signatureAt};
+ghost use Rattle.flatten.specs.Tables.{tables};
+ghost use Rattle.flatten.specs.Ended.{Ended};
+ghost use Rattle.flatten.specs.Answers.{Readable, Writes, outcomeOf, sizeOf, Demanded, ruleOutcome, numberIn, stopIn};
+use crate::output::put_group;
+use crate::tables::ALL;
+use crate::tables::UNREACHED;
+use crate::walk::Walked;
+use crate::walk::flatten_morphisms;
+use kinds::sources::unmapped_auxiliary;
+use kinds::sources::unmapped_kind;
+use kinds::table::kind_table;
+use naming::assign::initial_el_vars;
+use naming::types::type_variables;
+use naming::variables::VARIABLES;
+use reading::RuleReading;
+use reading::read_rule;
+use rule::ids::RULE_INDEX;
+use signature::ids::Counts;
+use signature::ids::INDEX;
+
+// At most so many bytes of a buffer are used.
+pub const ANSWER: usize = 65535;
+
+// So many bytes were written, or document 01's number.
+pub enum Flattened {
+    Written(usize),
+    Refused(u8),
+}
+
+// The group, measured first, then written where it fits.
+fn write_group(
+    out: &mut [u8],
+    s: &[u8],
+    index: &[u16; RULE_INDEX],
+    n: usize,
+    kinds: &[[u8; 32]; 32],
+    sources: &[u8; 32],
+    masks: &[[u64; 4]; 32],
+    vars: &[[u16; 64]; 32],
+    types: &[u16; VARIABLES],
+) -> Flattened
+    requires { ⌜ n ≡ length (ruleAt (now s) .structures) ⌝ }
+    requires { ⌜ Ended (now s) (now index) (now types) (now kinds) (tables (now sources) (now masks) (now vars)) ⌝ }
+    ensures { λ r. ⌜ ((e : Ended (now (s .entry)) (now (index .entry)) (now (types .entry)) (now (kinds .entry)) (tables (now (sources .entry)) (now (masks .entry)) (now (vars .entry))))
+        → Writes r (now (out .entry)) (now (out .exit)) (fitted (length (now (out .entry))) (groupBytesOf (groupLeft (ruleAt (now (s .entry))) (e .state))))) ⌝ }
+{
+    let size = put_group(&mut out[..0], s, index, n, kinds, sources, masks, vars, types);
+    if ANSWER < size {
+        return Flattened::Refused(31);
+    }
+    if out.len() < size {
+        return Flattened::Refused(31);
+    }
+    put_group(out, s, index, n, kinds, sources, masks, vars, types);
+    Flattened::Written(size)
+}
+
+// The number of a refused walk.
+fn stopped(w: Walked) -> u8
+    ensures { λ r. ⌜ r ≡ stopIn w ⌝ }
+{
+    match w {
+        Walked::On => 0,
+        Walked::Refused(n) => n,
+    }
+}
+
+// An accepted rule, with its index and that of its signature.
+pub fn flatten_rule(
+    sig: &[u8],
+    arities: &[u16; INDEX],
+    counts: Counts,
+    s: &[u8],
+    index: &[u16; RULE_INDEX],
+    n: usize,
+    out: &mut [u8],
+) -> Flattened
+    requires { ⌜ Readable (now sig) (now arities) counts (now s) (now index) n ⌝ }
+    ensures { λ r. ⌜ Writes r (now (out .entry)) (now (out .exit)) (ruleOutcome (signatureAt (now (sig .entry)) (now (arities .entry)) counts) (now (s .entry)) (length (now (out .entry)))) ⌝ }
+{
+    if unmapped_auxiliary(s, index) {
+        return Flattened::Refused(21);
+    }
+    if unmapped_kind(s, index) {
+        return Flattened::Refused(22);
+    }
+    let kinds = kind_table(s, index);
+    let mut vars = initial_el_vars(s, index);
+    let mut sources = [UNREACHED; 32];
+    sources[0] = 0;
+    let mut masks = [[0u64; 4]; 32];
+    masks[0] = [ALL, ALL, ALL, ALL];
+    let mut types = [0u16; VARIABLES];
+    type_variables(&mut types, s, index, 0, vars[0], 0);
+    let w = flatten_morphisms(
+        sig, arities, counts, s, index, n, kinds, &mut vars, &mut sources, &mut masks, &mut types,
+    );
+    let Walked::On = w else {
+        return Flattened::Refused(stopped(w));
+    };
+    write_group(out, s, index, n, &kinds, &sources, &masks, &vars, &types)
+}
+
+// The number of a refused reading.
+fn number(r: RuleReading) -> u8
+    ensures { λ n. ⌜ n ≡ numberIn r ⌝ }
+{
+    match r {
+        RuleReading::Sound { .. } => 0,
+        RuleReading::Refused(n) => n,
+    }
+}
+
+// Flatten: the group at the front of the buffer, whose rest is as it was; or a number, and the buffer as it was.
+pub fn flatten(sig: &[u8], rule: &[u8], out: &mut [u8]) -> Flattened
+    ensures { λ r. ⌜ outcomeOf r (now (out .exit)) ≡ flattenOf (now (sig .entry)) (now (rule .entry)) (length (now (out .entry))) ⌝ }
+    ensures { λ r. ⌜ (sizeOf r ≤ length (now (out .exit))) × (drop (sizeOf r) (now (out .exit)) ≡ drop (sizeOf r) (now (out .entry))) ⌝ }
+    ensures { λ r. ⌜ Demanded r (now (sig .entry)) (now (rule .entry)) (now (out .exit)) ⌝ }
+{
+    let mut symbols = [0u16; INDEX];
+    let mut index = [0u16; RULE_INDEX];
+    let r = read_rule(sig, rule, &mut symbols, &mut index);
+    let RuleReading::Sound { counts, structures } = r else {
+        return Flattened::Refused(number(r));
+    };
+    flatten_rule(sig, &symbols, counts, rule, &index, structures, out)
+}

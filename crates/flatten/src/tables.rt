@@ -1,0 +1,34 @@
+// The tables of the walk: for each structure the source that it was reached from, its masks, and the variables of its elements.
+ghost use mathlib.Core.List.{[]};
+ghost use mathlib.Core.Path.{_≡_};
+ghost use Prim.Native.Nat.{_<_};
+ghost use lib.ListN.{getD};
+ghost use Rattle.flatten.specs.Tables.{masksOf};
+use statements::masks::Masks;
+
+// The source of a structure that no map has reached yet.
+pub const UNREACHED: u8 = 32;
+
+// Every flag is set.
+pub const ALL: u64 = 18446744073709551615;
+
+// A structure's number as an index.
+pub fn place(k: u8) -> usize
+    ensures { λ r. ⌜ (r ≡ k) × (r < 256) ⌝ }
+{
+    k as usize
+}
+
+// The masks of a structure.
+pub fn masks_at(masks: &[[u64; 4]; 32], t: usize) -> Masks
+    requires { ⌜ t < 32 ⌝ }
+    ensures { λ r. ⌜ r ≡ masksOf (getD (now (masks .entry)) t []) ⌝ }
+{
+    let row = masks[t];
+    Masks {
+        preds: row[0],
+        funcs: row[1],
+        members: row[2],
+        free: row[3],
+    }
+}

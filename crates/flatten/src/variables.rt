@@ -1,0 +1,44 @@
+// The W fields of a group.
+ghost use mathlib.Core.List.{[]};
+ghost use mathlib.Core.Path.{_≡_};
+ghost use Prim.Native.Nat.{_≤_};
+ghost use lib.ListN.{length};
+ghost use Rattle.definition.specs.Base.{each};
+ghost use Rattle.definition.specs.Writer.{recordBytes, variableField};
+ghost use Rattle.records.specs.Buffer.{Put, countLimit};
+ghost use Rattle.rule.specs.Lookup.{ruleAt};
+ghost use Rattle.flatten.specs.Tables.{tables, newsTo};
+ghost use Rattle.flatten.specs.Ended.{Numbered};
+use crate::tables::UNREACHED;
+use naming::variables::fresh;
+use naming::writer::put_variables;
+use rule::elements::element_count;
+use rule::ids::RULE_INDEX;
+
+// Structures are reached in their order, so their new variables stand in the order of their numbers.
+pub fn put_all_variables(
+    out: &mut [u8],
+    from: usize,
+    s: &[u8],
+    index: &[u16; RULE_INDEX],
+    n: usize,
+    sources: &[u8; 32],
+    vars: &[[u16; 64]; 32],
+) -> usize
+    requires { ⌜ (from ≤ countLimit) × (n ≡ length (ruleAt (now s) .structures)) ⌝ }
+    requires { ⌜ Numbered (now s) (now index) (tables (now sources) [] (now vars)) ⌝ }
+    ensures { λ r. ⌜ Put (now (out .entry)) (now (out .exit)) (recordBytes (each variableField (newsTo (now (s .entry)) (tables (now (sources .entry)) [] (now (vars .entry))) n))) from r ⌝ }
+{
+    let mut at = from;
+    let mut number: u16 = 0;
+    let mut t: usize = 0;
+    while t < n {
+        if sources[t] < UNREACHED {
+            let row = vars[t];
+            at = put_variables(out, at, s, index, t, row, number);
+            number += fresh(row, element_count(index, t), number);
+        }
+        t += 1;
+    }
+    at
+}

@@ -1,0 +1,186 @@
+// The walk over the maps, by target, then source.
+ghost use mathlib.Core.List.{List};
+ghost use mathlib.Core.Option.{some};
+ghost use mathlib.Core.Path.{_≡_};
+ghost use Prim.Native.Nat.{_<_, _≤_};
+ghost use lib.ListN.{length};
+ghost use Rattle.definition.specs.Group as definition;
+ghost use Rattle.definition.specs.Rule as rules;
+ghost use Rattle.definition.specs.Walk.{completed};
+ghost use Rattle.signature.specs.Index.{signatureAt, Indexed};
+ghost use Rattle.rule.specs.Lookup.{ruleAt};
+ghost use Rattle.rows.specs.Kernel.{TypesOf};
+ghost use Rattle.naming.specs.Structures.{structureIn};
+ghost use Rattle.naming.specs.Variables.{GivenOut};
+ghost use Rattle.kinds.specs.Table.{kindIn, Tabled};
+ghost use Rattle.steps.specs.Steps.{Reaches};
+ghost use Rattle.flatten.specs.Tables.{tables, kindOn};
+ghost use Rattle.flatten.specs.Left.{Going};
+ghost use Rattle.flatten.specs.Ended.{Ground};
+ghost use Rattle.flatten.specs.Went.{Ends, Does, Met, numberOf, Went, Walks};
+use crate::tables::UNREACHED;
+use kinds::maps::map_between;
+use kinds::table::NO_KIND;
+use kinds::table::NON_SURJ_THEN;
+use kinds::table::SURJ_THEN;
+use naming::assign::assign_el_vars;
+use naming::types::type_variables;
+use naming::variables::VARIABLES;
+use naming::variables::fresh;
+use rows::maps::Map;
+use rule::elements::element_count;
+use rule::ids::RULE_INDEX;
+use signature::ids::Counts;
+use signature::ids::INDEX;
+use steps::step::Step;
+use steps::kinds::flatten_if_arbitrary;
+use steps::kinds::flatten_non_surj_then;
+use steps::kinds::flatten_surj_then;
+
+// The walk goes on, or is refused.
+pub enum Walked {
+    On,
+    Refused(u8),
+}
+
+// 23: the source has no statements yet; 24: the target already has statements.
+fn ends(sources: &[u8; 32], u: usize, t: usize) -> Walked
+    requires { ⌜ (u < 32) × (t < 32) ⌝ }
+    ensures { λ r. ⌜ Ends r (now (sources .entry)) u t ⌝ }
+{
+    if sources[u] >= UNREACHED {
+        return Walked::Refused(23);
+    }
+    if sources[t] < UNREACHED {
+        return Walked::Refused(24);
+    }
+    Walked::On
+}
+
+// A map of a kind: what it asks, and the masks of what it adds.
+fn flatten_map(
+    sig: &[u8],
+    arities: &[u16; INDEX],
+    counts: Counts,
+    s: &[u8],
+    index: &[u16; RULE_INDEX],
+    kind: u8,
+    u: usize,
+    t: usize,
+    m: Map,
+    source: [u16; 64],
+    target: [u16; 64],
+    first: u16,
+    types: &[u16; VARIABLES],
+) -> Step
+    requires { ⌜ Indexed (now sig) (now arities) counts ⌝ }
+    requires { ⌜ Reaches (signatureAt (now sig) (now arities) counts) (now s) (now index) u t m source target first ⌝ }
+    requires { ⌜ GivenOut (structureIn (now s) u) source (length (now types)) ⌝ }
+    ensures { λ r. ⌜ ((table : List definition.Variable) (k : rules.MorphismKind) → TypesOf table (now (types .entry)) → kindIn kind ≡ some k
+        → Does (signatureAt (now (sig .entry)) (now (arities .entry)) counts) table (now (s .entry)) u t m source target k r) ⌝ }
+{
+    if kind == SURJ_THEN {
+        return flatten_surj_then(
+            sig, arities, counts, s, index, u, t, m, source, target, first, types,
+        );
+    }
+    if kind == NON_SURJ_THEN {
+        return flatten_non_surj_then(
+            sig, arities, counts, s, index, u, t, m, source, target, first,
+        );
+    }
+    flatten_if_arbitrary(
+        sig, arities, counts, s, index, u, t, m, source, target, first, types,
+    )
+}
+
+// The number of a refused step.
+fn number(r: Step) -> u8
+    ensures { λ n. ⌜ n ≡ numberOf r ⌝ }
+{
+    match r {
+        Step::Adds(_) => 0,
+        Step::Refused(n) => n,
+    }
+}
+
+// A map walked: the target gets its variables, its source and its masks.
+fn walk_map(
+    sig: &[u8], arities: &[u16; INDEX], counts: Counts,
+    s: &[u8], index: &[u16; RULE_INDEX],
+    kind: u8, u: usize, t: usize,
+    vars: &mut [[u16; 64]; 32],
+    sources: &mut [u8; 32],
+    masks: &mut [[u64; 4]; 32],
+    types: &mut [u16; VARIABLES],
+    next: &mut u16,
+) -> Walked
+    requires { ⌜ (u < 32) × (t < 32) ⌝ }
+    requires { ⌜ Indexed (now sig) (now arities) counts × Ground (signatureAt (now sig) (now arities) counts) (now s) (now index) ⌝ }
+    requires { ⌜ Met (now s) u t kind ⌝ }
+    requires { ⌜ Going (signatureAt (now sig) (now arities) counts) (now s) (tables (now sources) (now masks) (now vars)) (now types) (now next) t u ⌝ }
+    ensures { λ r. ⌜ Went r (signatureAt (now (sig .entry)) (now (arities .entry)) counts) (now (s .entry))
+        (tables (now (sources .exit)) (now (masks .exit)) (now (vars .exit))) (now (types .exit)) (now (next .exit)) t u ⌝ }
+{
+    let e = ends(sources, u, t);
+    let Walked::On = e else {
+        return e;
+    };
+    let m = map_between(s, index, u, t);
+    let first = *next;
+    let table = *vars;
+    let grown = assign_el_vars(table, s, index, u, t, m, first);
+    let target = grown[t];
+    let r = flatten_map(sig, arities, counts, s, index, kind, u, t, m, table[u], target, first, types);
+    let Step::Adds(added) = r else {
+        return Walked::Refused(number(r));
+    };
+    *vars = grown;
+    type_variables(types, s, index, t, target, first);
+    sources[t] = u as u8;
+    masks[t] = [added.preds, added.funcs, added.members, added.free];
+    *next = first + fresh(target, element_count(index, t), first);
+    Walked::On
+}
+
+// The walk over all pairs that have a kind.
+pub fn flatten_morphisms(
+    sig: &[u8],
+    arities: &[u16; INDEX],
+    counts: Counts,
+    s: &[u8],
+    index: &[u16; RULE_INDEX],
+    n: usize,
+    kinds: [[u8; 32]; 32],
+    vars: &mut [[u16; 64]; 32],
+    sources: &mut [u8; 32],
+    masks: &mut [[u64; 4]; 32],
+    types: &mut [u16; VARIABLES],
+) -> Walked
+    requires { ⌜ Indexed (now sig) (now arities) counts × Ground (signatureAt (now sig) (now arities) counts) (now s) (now index) ⌝ }
+    requires { ⌜ (n ≡ length (ruleAt (now s) .structures)) × Tabled kinds (completed (ruleAt (now s) .maps) (ruleAt (now s) .kinds) (ruleAt (now s) .auxiliaries)) ⌝ }
+    requires { ⌜ Going (signatureAt (now sig) (now arities) counts) (now s) (tables (now sources) (now masks) (now vars)) (now types) (length (structureIn (now s) 0 .elements)) 0 0 ⌝ }
+    ensures { λ r. ⌜ Walks r (signatureAt (now (sig .entry)) (now (arities .entry)) counts) (now (s .entry))
+        (tables (now (sources .exit)) (now (masks .exit)) (now (vars .exit))) (now (types .exit)) ⌝ }
+{
+    let mut next = element_count(index, 0) as u16;
+    let mut t: usize = 0;
+    let mut u: usize = 0;
+    while t < n {
+        let kind = kinds[u][t];
+        if kind < NO_KIND {
+            let w = walk_map(
+                sig, arities, counts, s, index, kind, u, t, vars, sources, masks, types, &mut next,
+            );
+            let Walked::On = w else {
+                return w;
+            };
+        }
+        u += 1;
+        if u == n {
+            u = 0;
+            t += 1;
+        }
+    }
+    Walked::On
+}
