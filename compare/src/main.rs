@@ -1,97 +1,121 @@
 //! `compare run SEED COUNT`: every answer of the static library on generated cases against the oracle's.
-//! `compare bench`: nanoseconds per byte of reading.
+//! `compare bench`: how long reading, scope and flatten take, beside the published `infer_scope` and `flatten_rule`.
 
+mod bench;
+mod flattening;
 mod library;
 mod records;
 
 use std::collections::BTreeMap;
 use std::env;
 use std::process::ExitCode;
-use std::time::Instant;
 
+use library::ScopeAnswer;
 use oracle::answer::{answer, Answer};
 use oracle::case::{Case, CaseKind};
-use oracle::generate::Generator;
+use oracle::generate::{Aim, Generator};
 
-/// The library's answer as the oracle's line, for the cases that it answers.
-fn ours(case: &Case) -> Option<String> {
-    let code = match case.kind {
-        CaseKind::ReadRule => library::check_rule(&case.signature, &case.record),
-        CaseKind::ReadGroup => library::check_group(&case.signature, &case.record),
-        CaseKind::Flatten | CaseKind::Scope => return None,
-    };
-    let said = match u8::try_from(code) {
-        Ok(0) => Answer::Sound,
-        Ok(number) => Answer::Refused(number),
-        Err(_) => return Some(format!("code {code}")),
-    };
-    Some(said.line(case.kind))
+/// The library's answer.
+fn ours(case: &Case) -> Answer {
+    match case.kind {
+        CaseKind::ReadRule => verdict(library::check_rule(&case.signature, &case.record)),
+        CaseKind::ReadGroup => verdict(library::check_group(&case.signature, &case.record)),
+        CaseKind::Scope => scope(case),
+        CaseKind::Flatten => flattening::answer(case, case.number as usize),
+    }
 }
 
-/// Compares `count` generated cases and says how often each line occurred.
+fn verdict(code: u32) -> Answer {
+    match code {
+        0 => Answer::Sound,
+        number => refused(number),
+    }
+}
+
+pub fn refused(number: u32) -> Answer {
+    Answer::Refused(u8::try_from(number).expect("a refusal's number is small"))
+}
+
+/// What does not apply has to be 0.
+fn scope(case: &Case) -> Answer {
+    let position = usize::try_from(case.number).expect("a position is a size");
+    let said = library::scope(&case.signature, &case.record, position);
+    let nothing = ScopeAnswer::default();
+    match said {
+        ScopeAnswer {
+            refused: 0,
+            kind: 1,
+            model,
+            offset,
+            count,
+        } => Answer::Model {
+            model: u16::try_from(model).expect("a type's number has two bytes"),
+            owners: case.record[offset..offset + 2 * count].to_vec(),
+        },
+        said if said == nothing => Answer::Global,
+        ScopeAnswer {
+            refused: number, ..
+        } => {
+            assert_eq!(
+                said,
+                ScopeAnswer {
+                    refused: number,
+                    ..nothing
+                }
+            );
+            refused(number)
+        }
+    }
+}
+
+/// Whose group a scope's case asks about.
+fn source(case: &Case, aim: Aim) -> &'static str {
+    match (case.kind, aim) {
+        (CaseKind::Scope, Aim::WrittenGroup) => ", a group that flatten_rule wrote",
+        (CaseKind::Scope, Aim::MadeUpGroup) => ", a group made up",
+        (CaseKind::Scope, _) => ", a group damaged or at a limit",
+        _ => "",
+    }
+}
+
+/// The case, and where `flatten` answers it with other rooms, the outcomes there; or what differs. A model's owners are compared by
+/// their bytes: the oracle's are the first conclusion's leading variables, of which it asserts that `infer_scope` returned their
+/// names and types.
+fn compared(case: &Case, aim: Aim) -> Result<Vec<String>, String> {
+    let said = ours(case);
+    let expected = answer(case);
+    if said != expected {
+        return Err(format!("{said}, and the oracle: {expected}"));
+    }
+    let letter = case.kind.letter();
+    let mut outcomes = vec![format!("{letter} {}{}", said.outcome(), source(case, aim))];
+    if case.kind == CaseKind::Flatten {
+        outcomes.extend(flattening::in_other_rooms(case, &said)?);
+    }
+    Ok(outcomes)
+}
+
+/// Compares `count` generated cases and says how often each outcome occurred.
 fn run(seed: u64, count: usize) -> Result<String, String> {
     let mut generator = Generator::new(seed);
-    let mut lines: BTreeMap<String, usize> = BTreeMap::new();
-    let mut compared = 0;
+    let mut outcomes: BTreeMap<String, usize> = BTreeMap::new();
     for number in 0..count {
-        let case = generator.case();
-        let Some(said) = ours(&case) else { continue };
-        let expected = answer(&case).line(case.kind);
-        if said != expected {
-            return Err(format!(
-                "case {number} of seed {seed}: {case:?}: {said}, and the oracle: {expected}"
-            ));
+        let aim = generator.aim();
+        let case = generator.aimed(aim);
+        let occurred = compared(&case, aim)
+            .map_err(|fault| format!("case {number} of seed {seed}: {case:?}: {fault}"))?;
+        for outcome in occurred {
+            *outcomes.entry(outcome).or_default() += 1;
         }
-        compared += 1;
-        *lines
-            .entry(format!("{} {said}", case.kind.letter()))
-            .or_default() += 1;
     }
-    let counts: Vec<String> = lines
+    let counts: Vec<String> = outcomes
         .iter()
-        .map(|(line, count)| format!("{line}: {count}"))
+        .map(|(outcome, count)| format!("{outcome}: {count}"))
         .collect();
     Ok(format!(
-        "{compared} of {count} cases of seed {seed} compared, no difference\n{}\n",
+        "{count} cases of seed {seed} compared, no difference\n{}\n",
         counts.join("\n")
     ))
-}
-
-/// Nanoseconds per call, the least of some rounds.
-fn time(mut call: impl FnMut() -> u32) -> f64 {
-    let rounds = (0..7).map(|_| {
-        let calls = 200;
-        let start = Instant::now();
-        for _ in 0..calls {
-            assert_eq!(std::hint::black_box(call()), 0, "the record is sound");
-        }
-        start.elapsed().as_nanos() as f64 / f64::from(calls)
-    });
-    rounds.fold(f64::INFINITY, f64::min)
-}
-
-fn bench() -> String {
-    let signature = records::signature();
-    let mut report = String::new();
-    for structures in [1, 8, 31] {
-        let rule = records::rule(structures);
-        let ns = time(|| library::check_rule(&signature, &rule));
-        report += &format!(
-            "rule of {} bytes: {:.2} ns per byte\n",
-            rule.len(),
-            ns / rule.len() as f64
-        );
-    }
-    for size in [1024, 8192, 61_440] {
-        let group = records::group(size);
-        let ns = time(|| library::check_group(&signature, &group));
-        report += &format!(
-            "group of {} bytes: {:.2} ns per byte\n",
-            group.len(),
-            ns / group.len() as f64
-        );
-    }
-    report
 }
 
 fn parsed<T: std::str::FromStr>(text: &str) -> Result<T, String> {
@@ -103,7 +127,7 @@ fn main() -> ExitCode {
     let args: Vec<&str> = args.iter().map(String::as_str).collect();
     let result = match args[..] {
         ["run", seed, count] => parsed(seed).and_then(|seed| run(seed, parsed(count)?)),
-        ["bench"] => Ok(bench()),
+        ["bench"] => bench::report(),
         _ => Err("usage: compare run SEED COUNT | compare bench".into()),
     };
     match result {

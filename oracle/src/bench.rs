@@ -1,13 +1,15 @@
-//! How long the published `flatten_rule` takes.
+//! How long the published `flatten_rule` takes, and it and `infer_scope` ready
+//! to be measured beside another.
 
 use std::hint::black_box;
 use std::time::{Duration, Instant};
 
 use crate::answer::{answer, Answer};
 use crate::case::{Case, CaseKind};
+use crate::flat_eqlog::scope::harness::Input as ScopeInput;
 use crate::flatten::harness::Input;
 use crate::generate::{Aim, Generator};
-use crate::records::{RuleRecord, SignatureRecord};
+use crate::records::{GroupRecord, RuleRecord, SignatureRecord};
 use crate::text;
 
 const STORED: &str = include_str!("../cases/flatten.txt");
@@ -65,5 +67,25 @@ fn nanos_per_round(inputs: &[Input]) -> f64 {
 fn round(inputs: &[Input]) {
     for input in inputs {
         black_box(black_box(input).run());
+    }
+}
+
+/// A run of the published `infer_scope` on a rule of a sound group, if there is
+/// a rule at the position. What it takes is made beforehand.
+pub fn infer_scope(signature: &[u8], group: &[u8], position: usize) -> Option<impl Fn()> {
+    let signature = SignatureRecord::read(signature);
+    let input = ScopeInput::at(&signature, &GroupRecord::read(group), position)?;
+    Some(move || {
+        black_box(black_box(&input).run());
+    })
+}
+
+/// A run of the published `flatten_rule` on an accepted rule. What it takes is
+/// made beforehand.
+pub fn flatten_rule(signature: &[u8], rule: &[u8]) -> impl Fn() {
+    let signature = SignatureRecord::read(signature);
+    let input = Input::new(&signature, &RuleRecord::read(rule));
+    move || {
+        black_box(black_box(&input).run());
     }
 }

@@ -23,6 +23,7 @@ pub mod answer;
 pub mod bench;
 pub mod case;
 pub mod claims;
+pub mod desk;
 pub mod generate;
 pub mod notation;
 pub mod outcomes;

@@ -10,14 +10,15 @@ use oracle::case::Cases;
 use oracle::generate::Generator;
 use oracle::outcomes::Outcomes;
 use oracle::text::{self, Titled};
-use oracle::{stored, LEFT_OUT};
+use oracle::{desk, stored, LEFT_OUT};
 
 const USAGE: &str = "\
 usage: oracle answer                               answers to the cases on standard input
        oracle generate SEED COUNT [--outcomes]     cases, and how often each outcome occurs
-       oracle stored flatten|scope|reading         a stored list, made anew
+       oracle stored flatten|scope|reading|desk    a stored list, made anew
        oracle unpack                               cases as text, with answers
        oracle pack                                 text as cases
+       oracle desk PROGRAM                         runs a program on a list of desk's cases
        oracle claims                               stored cases as claims about the definition
        oracle bench                                time of flatten_rule alone
        oracle left-out                             published lines that are not compiled";
@@ -73,6 +74,7 @@ fn stored_list(name: &str) -> io::Result<()> {
         "flatten" => stored::text(stored::FLATTEN_HEAD, &stored::flatten_cases()),
         "scope" => stored::text(stored::SCOPE_HEAD, &stored::scope_cases()),
         "reading" => stored::text(stored::READING_HEAD, &stored::reading_cases()),
+        "desk" => desk::text(&desk::cases()),
         _ => return Err(io::Error::other(USAGE)),
     };
     io::stdout().write_all(text.as_bytes())
@@ -100,6 +102,21 @@ fn pack() -> io::Result<()> {
     io::stdout().write_all(&bytes)
 }
 
+/// Runs a program on each case of a list, and says how many it answered.
+fn run_desk(program: &str) -> io::Result<()> {
+    let text = String::from_utf8(read_input()?).map_err(io::Error::other)?;
+    let cases = desk::read(&text).map_err(io::Error::other)?;
+    for case in &cases {
+        let printed = desk::run(program, &case.input)?;
+        if printed != case.output {
+            let fault = format!("{:?}: printed {}", case.title, desk::shown(&printed));
+            return Err(io::Error::other(fault));
+        }
+    }
+    println!("{} inputs answered as stored", cases.len());
+    Ok(())
+}
+
 fn bench() -> io::Result<()> {
     let report = oracle::bench::report().map_err(io::Error::other)?;
     io::stdout().write_all(report.as_bytes())
@@ -120,6 +137,7 @@ fn main() -> ExitCode {
         ["stored", name] => stored_list(name),
         ["unpack"] => unpack(),
         ["pack"] => pack(),
+        ["desk", program] => run_desk(program),
         ["claims"] => io::stdout().write_all(oracle::claims::text().as_bytes()),
         ["bench"] => bench(),
         ["left-out"] => io::stdout().write_all(LEFT_OUT.as_bytes()),

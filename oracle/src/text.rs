@@ -56,7 +56,7 @@ pub fn block(titled: &Titled) -> String {
 }
 
 /// Fields one by one, equal neighbours counted, then what is no field.
-fn part(bytes: &[u8]) -> String {
+pub(crate) fn part(bytes: &[u8]) -> String {
     let (fields, rest) = cut(bytes);
     let mut words: Vec<Vec<u8>> = fields
         .iter()
@@ -130,7 +130,8 @@ fn new_case(value: &str) -> Result<Answered, String> {
     })
 }
 
-fn bytes(text: &str) -> Result<Vec<u8>, String> {
+/// The bytes that words in hexadecimal stand for.
+pub(crate) fn bytes(text: &str) -> Result<Vec<u8>, String> {
     let mut bytes = Vec::new();
     for word in text.split_whitespace() {
         let (digits, count) = word.split_once('*').unwrap_or((word, "1"));

@@ -6,11 +6,12 @@ use oracle::generate::{Aim, Generator};
 use oracle::outcomes::Outcomes;
 use oracle::reading;
 use oracle::records::{GroupRecord, RuleRecord, SignatureRecord};
-use oracle::{stored, text};
+use oracle::{desk, stored, text};
 
 const FLATTEN: &str = include_str!("../cases/flatten.txt");
 const SCOPE: &str = include_str!("../cases/scope.txt");
 const READING: &str = include_str!("../cases/reading.txt");
+const DESK: &str = include_str!("../cases/desk.txt");
 
 #[test]
 fn stored_lists_are_what_the_program_makes() {
@@ -22,6 +23,7 @@ fn stored_lists_are_what_the_program_makes() {
     for (text, head, cases) in lists {
         assert!(text == stored::text(head, &cases), "{head}");
     }
+    assert!(DESK == desk::text(&desk::cases()), "desk");
 }
 
 #[test]

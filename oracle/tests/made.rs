@@ -52,12 +52,7 @@ fn flattened_rules() {
 
 #[test]
 fn scopes() {
-    let lists = [
-        (scope_list::SIGNATURE, scope_list::MADE),
-        (scope_list::CHAIN, scope_list::CHAIN_MADE),
-        (scope_list::SELF_PARENT, scope_list::SELF_PARENT_MADE),
-    ];
-    for (signature, made) in lists {
+    for &(signature, made) in scope_list::LISTS {
         for &(title, group, position, expected) in made {
             let answer = answer(&Case {
                 kind: CaseKind::Scope,

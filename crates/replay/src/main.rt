@@ -1,15 +1,20 @@
 // Answers cases from standard input, a line for each.
 //
 // A case is a letter and parts, each part a four-byte length (high byte first) and its bytes. R: signature, rule. G: signature,
-// group.
-// A part keeps its first 65,536 bytes; the others are read and dropped. Input that ends inside a case, or an unknown letter, ends
-// the run with the line `bad case`.
+// group. F: signature, rule, then four bytes of room. S: signature, group, then four bytes of position.
+// A part keeps its first 65,536 bytes; the others are read and dropped. A room above that is taken as 65,536. Input that ends
+// inside a case, or an unknown letter, ends the run with the line `bad case`.
 ghost use Prim.Native.Nat.{_≤_, _<_};
 ghost use lib.ListN.{length};
 ghost use Rattle.replay.specs.Parts.{Within};
+use flatten::entry::Flattened;
+use flatten::entry::flatten;
 use reading::Verdict;
 use reading::check_group;
 use reading::check_rule;
+use scope::answers::Scope;
+use scope::infer::owners;
+use scope::infer::scope;
 
 const PART: usize = 65536;
 
@@ -103,17 +108,120 @@ fn read_part(buf: &mut [u8]) -> Four
     Four::Number(size)
 }
 
+fn print_number(n: u8) {
+    io::write_all(1, b"refused ");
+    io::print_decimal(1, n as u64);
+}
+
+fn print_refused(n: u8) {
+    print_number(n);
+    io::write_all(1, b"\n");
+}
+
 fn print_verdict(v: Verdict) {
     match v {
         Verdict::Sound => {
             io::write_all(1, b"ok\n");
         }
-        Verdict::Refused(n) => {
-            io::write_all(1, b"refused ");
-            io::print_decimal(1, n as u64);
+        Verdict::Refused(n) => print_refused(n),
+    }
+}
+
+// The last hexadecimal digit, lower-case.
+fn digit(x: u8) -> u8 {
+    let d = x % 16;
+    if d < 10 {
+        return b'0' + d;
+    }
+    b'a' - 10 + d
+}
+
+fn print_hex(s: &[u8]) {
+    let mut i: usize = 0;
+    while i < s.len() {
+        let pair = [digit(s[i] / 16), digit(s[i])];
+        io::write_all(1, &pair);
+        i += 1;
+    }
+}
+
+fn print_scope(sig: &[u8], group: &[u8], position: usize) {
+    let r = scope(sig, group, position);
+    match r {
+        Scope::Global => {
+            io::write_all(1, b"global\n");
+        }
+        Scope::Model {
+            model,
+            start: _,
+            count: _,
+        } => {
+            io::write_all(1, b"model ");
+            io::print_decimal(1, model.0 as u64);
+            io::write_all(1, b" owners ");
+            print_hex(owners(sig, group, position));
             io::write_all(1, b"\n");
         }
+        Scope::Refused(n) => print_refused(n),
     }
+}
+
+// What a buffer is filled with.
+fn pattern(i: usize) -> u8 {
+    (i % 251) as u8
+}
+
+fn fill(out: &mut [u8]) {
+    let mut i: usize = 0;
+    while i < out.len() {
+        out[i] = pattern(i);
+        i += 1;
+    }
+}
+
+// Whether a filled buffer is as it was from a place on.
+fn kept(out: &[u8], from: usize) -> bool {
+    let mut i = from;
+    while i < out.len() {
+        if out[i] != pattern(i) {
+            return false;
+        }
+        i += 1;
+    }
+    true
+}
+
+fn print_kept(out: &[u8], from: usize) {
+    if kept(out, from) {
+        io::write_all(1, b" kept\n");
+        return;
+    }
+    io::write_all(1, b" changed\n");
+}
+
+fn print_group(sig: &[u8], rule: &[u8], out: &mut [u8]) {
+    fill(out);
+    let r = flatten(sig, rule, out);
+    match r {
+        Flattened::Written(n) => {
+            io::write_all(1, b"ok ");
+            print_hex(&out[..n]);
+            print_kept(out, n);
+        }
+        Flattened::Refused(n) => {
+            print_number(n);
+            print_kept(out, 0);
+        }
+    }
+}
+
+// The front of a buffer, as much as is asked for and there.
+fn print_flattened(sig: &[u8], rule: &[u8], out: &mut [u8], room: usize) {
+    if out.len() <= room {
+        print_group(sig, rule, out);
+        return;
+    }
+    print_group(sig, rule, &mut out[..room]);
 }
 
 enum Case {
@@ -121,23 +229,37 @@ enum Case {
     Bad,
 }
 
-// What is asked of a record, by the case's letter.
-fn judge(letter: u8, sig: &[u8], s: &[u8]) -> Verdict {
+// What is asked of a signature and a record, by the case's letter.
+fn respond(letter: u8, sig: &[u8], s: &[u8], out: &mut [u8]) -> Case {
     if letter == b'R' {
-        return check_rule(sig, s);
+        print_verdict(check_rule(sig, s));
+        return Case::Answered;
     }
-    check_group(sig, s)
+    if letter == b'G' {
+        print_verdict(check_group(sig, s));
+        return Case::Answered;
+    }
+    let f = read_four();
+    let Four::Number(number) = f else {
+        return Case::Bad;
+    };
+    if letter == b'F' {
+        print_flattened(sig, s, out, number);
+        return Case::Answered;
+    }
+    print_scope(sig, s, number);
+    Case::Answered
 }
 
 fn known(letter: u8) -> bool {
     match letter {
-        b'R' | b'G' => true,
+        b'R' | b'G' | b'F' | b'S' => true,
         _ => false,
     }
 }
 
 // One case behind its letter.
-fn answer(letter: u8, first: &mut [u8], second: &mut [u8]) -> Case {
+fn answer(letter: u8, first: &mut [u8], second: &mut [u8], out: &mut [u8]) -> Case {
     if !known(letter) {
         return Case::Bad;
     }
@@ -149,13 +271,13 @@ fn answer(letter: u8, first: &mut [u8], second: &mut [u8]) -> Case {
     let Four::Number(n) = b else {
         return Case::Bad;
     };
-    print_verdict(judge(letter, &first[..m], &second[..n]));
-    Case::Answered
+    respond(letter, &first[..m], &second[..n], out)
 }
 
 fn main() {
     let mut first = [0u8; PART];
     let mut second = [0u8; PART];
+    let mut out = [0u8; PART];
     let mut left: u64 = CASES;
     while 0 < left {
         left -= 1;
@@ -163,7 +285,7 @@ fn main() {
         let Byte::Got(letter) = b else {
             return;
         };
-        let c = answer(letter, &mut first, &mut second);
+        let c = answer(letter, &mut first, &mut second, &mut out);
         let Case::Answered = c else {
             io::write_all(1, b"bad case\n");
             return;

@@ -56,7 +56,12 @@ impl Generator {
     }
 
     pub fn case(&mut self) -> Case {
-        let aim = match self.random.below(100) {
+        let aim = self.aim();
+        self.aimed(aim)
+    }
+
+    pub fn aim(&mut self) -> Aim {
+        match self.random.below(100) {
             0..=20 => Aim::Accepted,
             21..=39 => Aim::Refusal(*self.random.pick(&faults::AIMS)),
             40..=44 => Aim::Room,
@@ -65,8 +70,7 @@ impl Generator {
             74..=79 => Aim::WrittenGroup,
             80..=96 => Aim::MadeUpGroup,
             _ => Aim::Limit,
-        };
-        self.aimed(aim)
+        }
     }
 
     pub fn aimed(&mut self, aim: Aim) -> Case {

@@ -117,13 +117,8 @@ fn statement_kinds(group: &[u8]) -> String {
 // -------------------------------------------------------------------- scope
 
 pub fn scope_cases() -> Vec<Titled> {
-    let lists = [
-        (scope::SIGNATURE, scope::MADE),
-        (scope::CHAIN, scope::CHAIN_MADE),
-        (scope::SELF_PARENT, scope::SELF_PARENT_MADE),
-    ];
     let mut cases = Vec::new();
-    for (signature, made) in lists {
+    for &(signature, made) in scope::LISTS {
         cases.extend(made.iter().map(|&(title, group, position, _)| {
             titled(title, CaseKind::Scope, signature, group, position)
         }));

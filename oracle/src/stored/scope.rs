@@ -92,3 +92,45 @@ pub const SELF_PARENT_MADE: &[(&str, &str, u32, &str)] = &[
     ("a model that is its own parent", "G 'g'; W 0 'a'; U 'u'; B #0 0 0 0; H #0 0 0 0", 0, "model 0 owners 00000000"),
     ("a member of itself", "G 'g'; W 0 'a'; W 0 'b'; U 'u'; H #2 0 0 1", 0, "model 0 owners 00000001"),
 ];
+
+/// Type 1 lives in 0; function 0's one parent is of type 1, its result of type
+/// 0. Model 1 asks for two owners: a row of the function has two arguments, its
+/// FuncDomain one.
+pub const RESULT: &str = "T; T 0; F #1 1 0";
+
+/// Over `RESULT`.
+#[rustfmt::skip]
+pub const RESULT_MADE: &[(&str, &str, u32, &str)] = &[
+    ("a function's result is an argument", "G 'g'; W 1 'a'; W 0 'b'; U 'u'; H #1 0 0 1", 0, "model 1 owners 00000001"),
+    ("a FuncDomain's result is none: 43", "G 'g'; W 1 'a'; W 0 'b'; U 'u'; H #5 0 0", 0, "refused 43"),
+];
+
+/// Bases `a1` at 2 and `a` at 12 both print `a12`; 13 has that name and another
+/// type.
+macro_rules! printed {
+    ($rest:literal) => {
+        concat!(
+            "G 'g'; W 0 'el0'; W 0 'el1'; W 0 'a12'; W 0 'el3'; W 0 'el4'; W 0 'el5'; W 0 'el6'; W 0 'el7'; ",
+            "W 0 'el8'; W 0 'el9'; W 0 'el10'; W 0 'el11'; W 0 'a12'; W 1 'a12'; U 'u'; ",
+            $rest
+        )
+    };
+}
+
+/// Over `SIGNATURE`: variables compared by name and type, never by number.
+#[rustfmt::skip]
+pub const PRINTED_MADE: &[(&str, &str, u32, &str)] = &[
+    ("a1 at 2 and a at 12 both print a12: conclusions", printed!("H #0 1 2 0; H #0 1 12 0"), 0, "model 0 owners 0002"),
+    ("a1 at 2 and a at 12 both print a12: a premise", printed!("B #0 1 12 0; H #0 1 2 0"), 0, "model 0 owners 0002"),
+    ("a1 at 2 and a at 12 both print a12: among two owners", printed!("B #0 1 12 0; B #2 2 2 13 0; H #0 2 12 13 0; H #5 1 2 13 0"), 0, "model 1 owners 000c000d"),
+    ("a12 of another type", printed!("B #0 1 13 0; H #0 1 2 0"), 0, "global"),
+];
+
+/// Every list with its signature.
+pub const LISTS: &[(&str, &[(&str, &str, u32, &str)])] = &[
+    (SIGNATURE, MADE),
+    (CHAIN, CHAIN_MADE),
+    (SELF_PARENT, SELF_PARENT_MADE),
+    (RESULT, RESULT_MADE),
+    (SIGNATURE, PRINTED_MADE),
+];

@@ -1,85 +1,66 @@
 use mathlib.Core.Path.{_≡_}
 use lib.ListN.{length}
 use borrow.Author.Needs.{needs}
-use native.Mathlib.Omega.{arith}
 use Rattle.replay.proofs.main.Statement.{statement}
 use Rattle.replay.proofs.main.Tie as tie
-use Rattle.replay.proofs.main.Reads as reads
-use Rattle.replay.proofs.main.Lts as lts
-use Rattle.io.proofs.write_all.Reads as write-all-reads
-use Rattle.replay.proofs.answer.Reads as answer-reads
-use Rattle.replay.proofs.read_byte.Reads as read-byte-reads
 
 abbrev Inv-loop : tie.InvT-loop
-Inv-loop first₀ second₀ left₀ t7 first second left = (length first ≡ 65536) × (length second ≡ 65536)
+Inv-loop first₀ second₀ out₀ left₀ t8 first second out left = (length first ≡ 65536) × (length second ≡ 65536) × (length out ≡ 65536)
 
 abbrev μ-loop : tie.MeasureT-loop
-μ-loop first₀ second₀ left₀ t7 first second left = left
+μ-loop first₀ second₀ out₀ left₀ t8 first second out left = left
 
--- src/main.rt:143:5
 loop-holds : tie.Need-loop-holds Inv-loop μ-loop
 loop-holds c = search needs
 
--- src/main.rt:144:9
 sub-left : tie.Need-sub-left Inv-loop μ-loop
 sub-left c = search needs
 
--- src/main.rt:145:13
 read-byte-requires : tie.Need-read-byte-requires Inv-loop μ-loop
 read-byte-requires c κs = search needs
 
--- src/main.rt:146:23
 enum-known-b : tie.Need-enum-known-b Inv-loop μ-loop
 enum-known-b c = search needs
 
--- src/main.rt:147:13
 enum-told : tie.Need-enum-told Inv-loop μ-loop
 enum-told c = search needs
 
--- src/main.rt:147:13
 returns : tie.Need-returns Inv-loop μ-loop
 returns c = search needs
 
--- src/main.rt:149:32
 slice-aggregate-answer : tie.Need-slice-aggregate-answer Inv-loop μ-loop
 slice-aggregate-answer c = search needs
 
--- src/main.rt:149:44
 slice-aggregate-answer-2 : tie.Need-slice-aggregate-answer-2 Inv-loop μ-loop
 slice-aggregate-answer-2 c = search needs
 
--- src/main.rt:149:13
+slice-aggregate-answer-3 : tie.Need-slice-aggregate-answer-3 Inv-loop μ-loop
+slice-aggregate-answer-3 c = search needs
+
 answer-requires : tie.Need-answer-requires Inv-loop μ-loop
 answer-requires c κs = search needs
 
 enum-told-2 : tie.Need-enum-told-2 Inv-loop μ-loop
 enum-told-2 c = search needs
 
--- src/main.rt:143:5
 loop-less : tie.Need-loop-less Inv-loop μ-loop
 loop-less c = search needs
 
--- src/main.rt:143:5
 loop-again : tie.Need-loop-again Inv-loop μ-loop
 loop-again c = search needs
 
--- src/main.rt:151:30
 enum-told-3 : tie.Need-enum-told-3 Inv-loop μ-loop
 enum-told-3 c = search needs
 
--- src/main.rt:151:30
 slice-aggregate-write-all : tie.Need-slice-aggregate-write-all Inv-loop μ-loop
 slice-aggregate-write-all c = search needs
 
--- src/main.rt:151:13
 write-all-requires : tie.Need-write-all-requires Inv-loop μ-loop
 write-all-requires c κs = search needs
 
--- src/main.rt:152:13
 returns-2 : tie.Need-returns-2 Inv-loop μ-loop
 returns-2 c = search needs
 
--- src/main.rt:139:1
 returns-3 : tie.Need-returns-3 Inv-loop μ-loop
 returns-3 c = search needs
 
@@ -97,6 +78,7 @@ main-spec =
     returns
     slice-aggregate-answer
     slice-aggregate-answer-2
+    slice-aggregate-answer-3
     answer-requires
     enum-told-2
     loop-less

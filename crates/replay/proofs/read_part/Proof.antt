@@ -4,65 +4,46 @@ use borrow.Author.Needs.{needs}
 use native.Mathlib.Omega.{arith}
 use Rattle.replay.proofs.read_part.Statement.{statement}
 use Rattle.replay.proofs.read_part.Tie as tie
-use Rattle.replay.proofs.read_part.Reads as reads
-use Rattle.replay.proofs.read_part.Lts as lts
-use Rattle.io.proofs.read_full.Reads as read-full-reads
-use Rattle.replay.proofs.read_four.Reads as read-four-reads
-use Rattle.replay.proofs.read_long.Reads as read-long-reads
 
--- src/main.rt:90:9
 read-four-requires : tie.Need-read-four-requires
 read-four-requires c κs = search needs
 
--- src/main.rt:91:22
 enum-known-f : tie.Need-enum-known-f
 enum-known-f c = search needs
 
--- src/main.rt:92:9
 enum-told : tie.Need-enum-told
 enum-told c = search needs
 
--- src/main.rt:92:9
 returns : tie.Need-returns
 returns c = search needs
 
--- src/main.rt:95:9
 read-long-requires : tie.Need-read-long-requires
 read-long-requires c κs = search needs
 
--- src/main.rt:95:9
 same-length : tie.Need-same-length
 same-length c = search needs
 
--- src/main.rt:95:9
 returns-2 : tie.Need-returns-2
 returns-2 c = search needs
 
--- src/main.rt:97:16
 slice-relend-prefix-part : tie.Need-slice-relend-prefix-part
 slice-relend-prefix-part c = search needs
 
--- src/main.rt:97:9
 slice-aggregate-part : tie.Need-slice-aggregate-part
 slice-aggregate-part c = sym (length-take-le _ _ (omega (arith, c .before .if1 .left)))
 
--- src/main.rt:98:8
 read-full-requires : tie.Need-read-full-requires
 read-full-requires c κs = search needs
 
--- src/main.rt:99:9
 same-length-2 : tie.Need-same-length-2
 same-length-2 c = search needs
 
--- src/main.rt:99:9
 returns-3 : tie.Need-returns-3
 returns-3 c = search needs
 
--- src/main.rt:87:1
 same-length-3 : tie.Need-same-length-3
 same-length-3 c = search needs
 
--- src/main.rt:87:1
 returns-4 : tie.Need-returns-4
 returns-4 c = search needs
 

@@ -19,6 +19,36 @@ pub enum Scope {
     },
 }
 
+/// A rule and its signature as the published function takes them.
+pub struct Input {
+    signature: Signature,
+    rule: FlatRule,
+}
+
+impl Input {
+    fn new(signature_record: &SignatureRecord, record: &FlatRuleRecord, vars: &[FlatVar]) -> Self {
+        Input {
+            signature: signature(signature_record),
+            rule: flat_rule(record, vars),
+        }
+    }
+
+    /// The rule at `position`, if there is one.
+    pub fn at(
+        signature_record: &SignatureRecord,
+        group: &GroupRecord,
+        position: usize,
+    ) -> Option<Self> {
+        let record = group.rules.get(position)?;
+        Some(Input::new(signature_record, record, &flat_vars(group)))
+    }
+
+    /// The published function, and nothing else.
+    pub fn run(&self) -> RuleScope {
+        infer_scope(&self.rule, &self.signature)
+    }
+}
+
 /// The scope of the rule at `position`, or the refusal.
 pub fn scope(
     signature_record: &SignatureRecord,
@@ -27,10 +57,9 @@ pub fn scope(
 ) -> Result<Scope, u8> {
     let position = usize::try_from(position).map_err(|_| 41)?;
     let record = group.rules.get(position).ok_or(41)?;
-    let signature = signature(signature_record);
     let vars = flat_vars(group);
-    let rule = flat_rule(record, &vars);
-    match caught(|| infer_scope(&rule, &signature)).map_err(|text| refusal(&text))? {
+    let input = Input::new(signature_record, record, &vars);
+    match caught(|| input.run()).map_err(|text| refusal(&text))? {
         RuleScope::Global => Ok(Scope::Global),
         RuleScope::Model { model, owners } => Ok(Scope::Model {
             model: type_number(model),

@@ -1,0 +1,67 @@
+-- What is printed for each input, and how it stands at the front of a buffer.
+use mathlib.Core.List.{List, [], _∷_, _++_}
+use mathlib.Core.Path.{_≡_, refl, _∙_}
+use Prim.Native.Nat.{ℕ, suc, _+_, _*_, _-_, _≤_, _<_}
+use lib.ListN.{length, take, drop, length-append, length-drop}
+use lib.Seq.{take-all, take-at}
+use native.Mathlib.Nat.{zero-add}
+use native.Mathlib.Omega.{arith}
+use borrow.Author.Tests.{lt-leb, le-leb}
+use Rattle.definition.specs.Base.{Outcome, refused}
+use Rattle.definition.specs.Desk.{deskOf, printed, refusedWord, newline}
+use Rattle.definition.specs.Flatten.{flattenOf}
+use Rattle.definition.specs.Limits.{answerBytes, numberDigits}
+use Rattle.definition.specs.Names.{decimal}
+use Rattle.records.specs.Buffer.{Put}
+use Rattle.records.specs.Places.{twoAt}
+use Rattle.theory.proofs.NameLaws.{digits-few}
+
+-- Missing input: not even the length, or less than it tells of.
+pub short : (s : List ℕ) → length s < 2 → deskOf s ≡ printed (refused 2)
+unfolding deskOf
+short [] h = refl
+short (a ∷ []) h = refl
+short (a ∷ b ∷ s) h = absurd (omega arith)
+
+pub missing : (s : List ℕ) → 2 ≤ length s → length s - 2 < twoAt s 0 → deskOf s ≡ printed (refused 2)
+unfolding deskOf
+missing [] h l = absurd (omega arith)
+missing (a ∷ []) h l = absurd (omega arith)
+missing (a ∷ b ∷ s) h l = let k : length s < a * 256 + b = omega arith in rw (lt-leb _ _ k)
+
+-- All of it there.
+pub whole : (s : List ℕ) → 2 ≤ length s → twoAt s 0 ≤ length s - 2
+    → deskOf s ≡ printed (flattenOf (take (twoAt s 0) (drop 2 s)) (drop (2 + twoAt s 0) s) answerBytes)
+unfolding deskOf
+whole [] h l = absurd (omega arith)
+whole (a ∷ []) h l = absurd (omega arith)
+whole (a ∷ b ∷ s) h l =
+    let k : a * 256 + b ≤ length s = omega arith in
+    let e : 2 + (a * 256 + b) ≡ suc (suc (a * 256 + b)) = omega arith in
+    rw (le-leb _ _ k, e)
+
+-- The same from the slices that are read, and what was answered about them.
+pub answered : (s : List ℕ) {size room : ℕ} {o : Outcome (List ℕ)} → 2 ≤ length s → size ≡ twoAt s 0 → size ≤ length s - 2 → room ≡ answerBytes
+    → o ≡ flattenOf (take (2 + size - 2) (drop 2 s)) (take (length s - (2 + size)) (drop (2 + size) s)) room → deskOf s ≡ printed o
+answered s {size} h e l m a =
+    let f : 2 + size - 2 ≡ size = omega arith in
+    let g : length (drop (2 + size) s) ≤ length s - (2 + size) = rw length-drop (omega arith) in
+    whole s h (rw (← e) l) ∙ rw (a, f, take-all _ _ g, e, m)
+
+-- A refusal's line is short.
+few : (n : ℕ) → length (printed (refused n)) ≤ 14
+unfolding printed
+few n =
+    let d : length (decimal n) ≤ 5 = digits-few numberDigits n in
+    let e : length (refusedWord ++ decimal n) ≡ 8 + length (decimal n) = length-append refusedWord (decimal n) in
+    let f : length (refusedWord ++ decimal n ++ (newline ∷ [])) ≡ length (refusedWord ++ decimal n) + 1 = length-append (refusedWord ++ decimal n) (newline ∷ []) in
+    omega arith
+
+-- It stands at the buffer's front.
+pub line : (n : ℕ) {out₀ out : List ℕ} {r : ℕ} → Put out₀ out (printed (refused n)) 0 r → length out₀ ≡ answerBytes
+    → (r ≤ length out) × (take r out ≡ printed (refused n))
+line n {out₀} {out} {r} h l =
+    let k : length (printed (refused n)) ≤ 14 = few n in
+    let e : length (printed (refused n)) ≡ r = omega (arith, h .size) in
+    let f : out ≡ printed (refused n) ++ drop r out₀ = h .same (omega arith) (omega arith) ∙ rw (zero-add, e) in
+    (omega (arith, h .long), rw f (take-at (printed (refused n)) (drop r out₀) r e))

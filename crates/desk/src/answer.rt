@@ -1,0 +1,49 @@
+// All of the input to all of the output.
+ghost use mathlib.Core.Path.{_≡_};
+ghost use Prim.Native.Nat.{_≤_};
+ghost use lib.ListN.{length, take};
+ghost use Rattle.definition.specs.Base.{refused};
+ghost use Rattle.definition.specs.Desk.{deskOf, printed};
+ghost use Rattle.definition.specs.Limits.{answerBytes};
+ghost use Rattle.records.specs.Buffer.{Put};
+use flatten::entry::Flattened;
+use flatten::entry::flatten;
+use records::fields::two;
+use records::write::put_byte;
+use records::write::put_bytes;
+use records::write::put_decimal;
+
+fn number(n: u8) -> u16
+    ensures { λ r. ⌜ r ≡ n ⌝ }
+{
+    n as u16
+}
+
+// The line of a refusal.
+fn put_refused(out: &mut [u8], n: u8) -> usize
+    ensures { λ r. ⌜ Put (now (out .entry)) (now (out .exit)) (printed (refused n)) 0 r ⌝ }
+{
+    let word = put_bytes(out, 0, b"refused ", 0, 8);
+    let at = put_decimal(out, word, number(n));
+    put_byte(out, at, b'\n')
+}
+
+// What is to be printed, at the front of the buffer, and its length.
+pub fn desk(input: &[u8], out: &mut [u8]) -> usize
+    requires { ⌜ length (now out) ≡ answerBytes ⌝ }
+    ensures { λ r. ⌜ (r ≤ length (now (out .exit))) × (take r (now (out .exit)) ≡ deskOf (now (input .entry))) ⌝ }
+{
+    if input.len() < 2 {
+        return put_refused(out, 2);
+    }
+    let size = two(input, 0);
+    if input.len() - 2 < size {
+        return put_refused(out, 2);
+    }
+    let end = 2 + size;
+    let r = flatten(&input[2..end], &input[end..], out);
+    match r {
+        Flattened::Written(n) => n,
+        Flattened::Refused(n) => put_refused(out, n),
+    }
+}
