@@ -30,15 +30,15 @@ missing (a ∷ []) h l = absurd (omega arith)
 missing (a ∷ b ∷ s) h l = let k : length s < a * 256 + b = omega arith in rw (lt-leb _ _ k)
 
 -- All of it there.
-pub whole : (s : List ℕ) → 2 ≤ length s → twoAt s 0 ≤ length s - 2
-    → deskOf s ≡ printed (flattenOf (take (twoAt s 0) (drop 2 s)) (drop (2 + twoAt s 0) s) answerBytes)
+pub there : (a b : ℕ) (s : List ℕ) → a * 256 + b ≤ length s → deskOf (a ∷ b ∷ s) ≡ printed (flattenOf (take (a * 256 + b) s) (drop (a * 256 + b) s) answerBytes)
 unfolding deskOf
+there a b s l = rw (le-leb _ _ l)
+
+whole : (s : List ℕ) → 2 ≤ length s → twoAt s 0 ≤ length s - 2
+    → deskOf s ≡ printed (flattenOf (take (twoAt s 0) (drop 2 s)) (drop (2 + twoAt s 0) s) answerBytes)
 whole [] h l = absurd (omega arith)
 whole (a ∷ []) h l = absurd (omega arith)
-whole (a ∷ b ∷ s) h l =
-    let k : a * 256 + b ≤ length s = omega arith in
-    let e : 2 + (a * 256 + b) ≡ suc (suc (a * 256 + b)) = omega arith in
-    rw (le-leb _ _ k, e)
+whole (a ∷ b ∷ s) h l = let e : 2 + (a * 256 + b) ≡ suc (suc (a * 256 + b)) = omega arith in there a b s (omega arith) ∙ rw e
 
 -- The same from the slices that are read, and what was answered about them.
 pub answered : (s : List ℕ) {size room : ℕ} {o : Outcome (List ℕ)} → 2 ≤ length s → size ≡ twoAt s 0 → size ≤ length s - 2 → room ≡ answerBytes

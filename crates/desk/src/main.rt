@@ -3,7 +3,7 @@
 mod answer;
 
 // Enough of any input: the length, the longest signature it can tell of, and a rule of one byte too many. A longer input's answer
-// is that of its first so many bytes: the signature's refusal, else 1.
+// is that of its first so many bytes: the signature's refusal, else 1 (`enough` in proofs/Enough.antt).
 const INPUT: usize = 98306;
 
 const ANSWER: usize = 65535;
