@@ -4,11 +4,10 @@ use native.Mathlib.Omega.{arith}
 use native.Mathlib.Decide.{ℕ-discrete}
 use native.Mathlib.Nat.{pow-suc, pow-le-pow-right, div-eq-of-lt, add-mul-div-left, add-mul-mod-self-left, add-div-right, pow-zero, mul-one, mul-assoc, mul-comm, mod-eq-of-lt}
 use mathlib.Core.Path.{_≡_, refl, ap, sym, _∙_}
-use mathlib.Core.Bool.{Bool, true, false}
+use mathlib.Core.Bool.{Bool, true, false, _&&_}
 use mathlib.Core.List.{List}
-use lib.Dec.{eqb}
-use lib.ListN.{getD}
-use Rattle.flags.specs.Flags.{flagAt, Packed}
+use lib.ListN.{replicate, getD, getD-replicate}
+use Rattle.flags.specs.Flags.{flagAt, FlagsOf, Packed, PackedLess}
 
 pub pow-pos : (i : ℕ) → 0 < 2 ^ i
 pow-pos zero = rw pow-zero (omega arith)
@@ -46,30 +45,43 @@ module _ (mask i : ℕ) (small : mask < 2 ^ i) where
 pub pow-fits : (i : ℕ) → i < 64 → 2 ^ i + 2 ^ i ≤ 2 ^ 64
 pow-fits i h = pow-twice i 64 h
 
--- The flags of a row, one place after the other.
-pub packed-start : (row : List Bool) → Packed 0 row 0
-packed-start row = record { small = pow-pos 0; same = λ i h. absurd (omega arith) }
+-- The flags by a test, one place after the other.
+pub flags-start : (test : ℕ → Bool) → FlagsOf 0 test 0
+flags-start test = record { small = pow-pos 0; same = λ i h. absurd (omega arith) }
 
-module _ {mask i : ℕ} {row : List Bool} (p : Packed mask row i) where
-  pub packed-set : getD row i false ≡ true → Packed (mask + 2 ^ i) row (i + 1)
-  packed-set e = record {
+module _ {mask i : ℕ} {test : ℕ → Bool} (p : FlagsOf mask test i) where
+  pub flags-set : test i ≡ true → FlagsOf (mask + 2 ^ i) test (i + 1)
+  flags-set e = record {
       small = let r = pow-twice i (i + 1) (omega arith) in let l = p .small in omega arith;
       same = λ j h. go j h (ℕ-discrete j i);
     }
     where
-      go : (j : ℕ) → j < i + 1 → Dec (j ≡ i) → flagAt (mask + 2 ^ i) j ≡ getD row j false
+      go : (j : ℕ) → j < i + 1 → Dec (j ≡ i) → flagAt (mask + 2 ^ i) j ≡ test j
       go j h (yes q) = rw (q, bit-new mask i (p .small), e)
       go j h (no q) = rw (bit-old mask i (p .small) j (omega arith)) (p .same j (omega arith))
 
-  pub packed-clear : getD row i false ≡ false → Packed mask row (i + 1)
-  packed-clear e = record {
+  pub flags-clear : test i ≡ false → FlagsOf mask test (i + 1)
+  flags-clear e = record {
       small = let r = pow-twice i (i + 1) (omega arith) in let l = p .small in omega arith;
       same = λ j h. go j h (ℕ-discrete j i);
     }
     where
-      go : (j : ℕ) → j < i + 1 → Dec (j ≡ i) → flagAt mask j ≡ getD row j false
+      go : (j : ℕ) → j < i + 1 → Dec (j ≡ i) → flagAt mask j ≡ test j
       go j h (yes q) = rw (q, bit-above mask i (p .small) i (omega arith), e)
       go j h (no q) = p .same j (omega arith)
+
+-- A row less one without flags is the row.
+and-true : (b : Bool) → (b && true) ≡ b
+and-true true = refl
+and-true false = refl
+
+pub all-packed : {mask count : ℕ} {row : List Bool} → count ≤ 64 → PackedLess mask row (replicate 64 false) count → Packed mask row count
+all-packed {row = row} l p = record {
+  flags = record {
+    small = p .flags .small;
+    same = λ i h. p .flags .same i h ∙ rw (getD-replicate 64 i false false (omega arith), and-true (getD row i false));
+  };
+}
 
 -- One shifted by a place of 64.
 pub shift-is : (i : ℕ) → i < 64 → 1 * 2 ^ i % 18446744073709551616 ≡ 2 ^ i

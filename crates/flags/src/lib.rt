@@ -2,7 +2,7 @@
 ghost use mathlib.Core.Path.{_≡_};
 ghost use Prim.Native.Nat.{ℕ, _+_, _^_, _≤_, _<_};
 ghost use lib.ListN.{length};
-ghost use Rattle.flags.specs.Flags.{flagAt, Packed};
+ghost use Rattle.flags.specs.Flags.{flagAt, Packed, PackedLess};
 
 // Is the flag of a place set?
 pub fn flag(mask: u64, i: usize) -> bool
@@ -13,25 +13,35 @@ pub fn flag(mask: u64, i: usize) -> bool
 }
 
 // The flags with one more, above all that are set.
-fn with_flag(mask: u64, i: usize) -> u64
+pub fn with_flag(mask: u64, i: usize) -> u64
     requires { ⌜ (i < 64) × (mask < 2 ^ i) ⌝ }
     ensures { λ r. ⌜ r ≡ mask + 2 ^ i ⌝ }
 {
     mask + (1 << i)
 }
 
-// The flags of the first places.
-pub fn packed(row: [bool; 64], count: usize) -> u64
+// The flags of the first places that another row does not have.
+pub fn packed_less(row: [bool; 64], others: [bool; 64], count: usize) -> u64
     requires { ⌜ count ≤ 64 ⌝ }
-    ensures { λ r. ⌜ Packed r row count ⌝ }
+    ensures { λ r. ⌜ PackedLess r row others count ⌝ }
 {
     let mut mask: u64 = 0;
     let mut i: usize = 0;
     while i < count {
         if row[i] {
-            mask = with_flag(mask, i);
+            if !others[i] {
+                mask = with_flag(mask, i);
+            }
         }
         i += 1;
     }
     mask
+}
+
+// All flags of the first places.
+pub fn packed(row: [bool; 64], count: usize) -> u64
+    requires { ⌜ count ≤ 64 ⌝ }
+    ensures { λ r. ⌜ Packed r row count ⌝ }
+{
+    packed_less(row, [false; 64], count)
 }

@@ -31,7 +31,7 @@ use Rattle.rows.proofs.Parts.{any-append, take-more, count-in, element-
 use Rattle.rows.proofs.Sections.{Passed, passed-start, next-field, RowHere, row-here, row-is, all-passed}
 
 -- One more is seen.
-has-more : (x : ℕ) (seen : List ℕ) (e : ℕ) → has x (seen ++ (e ∷ [])) ≡ (has x seen || eqb e x)
+pub has-more : (x : ℕ) (seen : List ℕ) (e : ℕ) → has x (seen ++ (e ∷ [])) ≡ (has x seen || eqb e x)
 unfolding has any
 has-more x seen e = any-append (λ (m : ℕ). eqb m x) seen (e ∷ []) ∙ go (eqb e x)
   where
@@ -47,7 +47,7 @@ or-none : (b : Bool) → (b || false) ≡ b
 or-none true = refl
 or-none false = refl
 
-abbrev Ascending : List ℕ → Type 0
+abbrev pub Ascending : List ℕ → Type 0
 Ascending els = (i j : ℕ) → i < j → j < length els → getD els i 0 < getD els j 0
 
 pub numbers-ascend : {s index : List ℕ} {k : ℕ} → Elements s index k → Ascending (elementNumbers s index k)

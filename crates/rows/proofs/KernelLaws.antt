@@ -14,7 +14,7 @@ use Rattle.definition.specs.Base.{consIf, keep, each, joined, any, _∈_}
 use Rattle.definition.specs.Group.{Variable}
 use Rattle.definition.specs.Kinds.{Side, variableIn, typeIn, kernelVariables, kernelClashes}
 use Rattle.definition.specs.Names.{numbersOf, variableAt, fiber}
-use Rattle.definition.specs.Rule.{Pair}
+use Rattle.definition.specs.Rule.{Structure, Pair}
 use Rattle.definition.specs.Rows.{pairsAmong, kernelPairs}
 use Rattle.definition.specs.Signature.{Signature}
 use Rattle.theory.proofs.Lists.{bool-cases, never, and-left, and-right, and-true, or-cases, any-mem, any-true, getD-each, mem-has, each-append}
@@ -46,7 +46,7 @@ unfolding any joined
 any-joined t f [] = refl
 any-joined t f (x ∷ xs) = any-append t (f x) (joined f xs) ∙ rw (any-joined t f xs)
 
-any-never : {A : Type 0} (xs : List A) → any (λ (a : A). false) xs ≡ false
+pub any-never : {A : Type 0} (xs : List A) → any (λ (a : A). false) xs ≡ false
 unfolding any
 any-never [] = refl
 any-never (x ∷ xs) = any-never xs
@@ -107,6 +107,30 @@ two t (p ∷ ps) e = ⊎-elim
 pub both-ways : {x y : Bool} → (x ≡ true → y ≡ true) → (y ≡ true → x ≡ true) → x ≡ y
 both-ways {x} {y} f g = ⊎-elim (λ e. e ∙ sym (f e)) (λ e. ⊎-elim (λ h. never (g h) e) (λ h. e ∙ sym h) (bool-cases y)) (bool-cases x)
 
+-- A test of the kernel pairs, over the pairs.
+module _ (t : Pair → Bool) (target : Structure) (pairs : List Pair) (named : ImagesIn target pairs) where
+  abbrev together : Pair → Pair → Bool
+  together a b = eqb (a .image) (b .image) && t (record { key = a .key; image = b .key })
+
+  fibers : any t (kernelPairs pairs target) ≡ any (λ (e : ℕ). anyTwo (inFiber t e) pairs) (numbersOf target)
+  unfolding kernelPairs
+  fibers = any-joined t (λ (e : ℕ). pairsAmong (fiber pairs e)) (numbersOf target) ∙ simp (among t)
+
+  pub any-kernel : any t (kernelPairs pairs target) ≡ anyTwo (λ (a b : Pair). eqb (a .image) (b .image) && t (record { key = a .key; image = b .key })) pairs
+  any-kernel = fibers ∙ both-ways
+      (λ h.
+      let r = any-true _ (numbersOf target) h in
+      let w = two (inFiber t (r .0)) pairs (r .2) in
+      let x = eqb-true (w .a .image) (r .0) (and-left _ _ (w .holds)) in
+      let k = and-right (eqb (w .a .image) (r .0)) _ (w .holds) in
+      let y = eqb-true (w .b .image) (r .0) (and-left _ _ k) in
+      w .for together (and-true _ _ (eq-eqb (w .a .image) (w .b .image) (x ∙ sym y)) (and-right (eqb (w .b .image) (r .0)) _ k)))
+      (λ h.
+      let w = two together pairs h in
+      let x = eqb-true (w .a .image) (w .b .image) (and-left _ _ (w .holds)) in
+      any-mem (λ (e : ℕ). anyTwo (inFiber t e) pairs) (numbersOf target) (named .named (w .a) (w .first))
+      (w .for (inFiber t (w .a .image)) (and-true _ _ (eq-eqb (w .a .image) (w .a .image) refl) (and-true _ _ (eq-eqb (w .b .image) (w .a .image) (sym x)) (and-right (eqb (w .a .image) (w .b .image)) _ (w .holds))))))
+
 -- 25 over the pairs.
 module _ (sig : Signature) (table : List Variable) (source target : Side) (pairs : List Pair) (named : ImagesIn (target .structure) pairs) where
   abbrev type : Pair → ℕ
@@ -115,24 +139,9 @@ module _ (sig : Signature) (table : List Variable) (source target : Side) (pairs
   abbrev differ : Pair → Bool
   differ p = not (eqb (typeIn table (variableIn source (p .key))) (typeIn table (variableIn source (p .image))))
 
-  fibers : kernelClashes sig table source target pairs ≡ any (λ (e : ℕ). anyTwo (inFiber differ e) pairs) (numbersOf (target .structure))
-  unfolding kernelClashes kernelVariables kernelPairs
-  fibers = any-each _ _ (kernelPairs pairs (target .structure)) ∙ any-joined differ (λ (e : ℕ). pairsAmong (fiber pairs e)) (numbersOf (target .structure)) ∙ simp (among differ)
-
   pub kernel-is : kernelClashes sig table source target pairs ≡ anyTwo (clash type) pairs
-  kernel-is = fibers ∙ both-ways
-      (λ h.
-      let r = any-true _ (numbersOf (target .structure)) h in
-      let w = two (inFiber differ (r .0)) pairs (r .2) in
-      let x = eqb-true (w .a .image) (r .0) (and-left _ _ (w .holds)) in
-      let k = and-right (eqb (w .a .image) (r .0)) _ (w .holds) in
-      let y = eqb-true (w .b .image) (r .0) (and-left _ _ k) in
-      w .for (clash type) (and-true _ _ (eq-eqb (w .a .image) (w .b .image) (x ∙ sym y)) (and-right (eqb (w .b .image) (r .0)) _ k)))
-      (λ h.
-      let w = two (clash type) pairs h in
-      let x = eqb-true (w .a .image) (w .b .image) (and-left _ _ (w .holds)) in
-      any-mem (λ (e : ℕ). anyTwo (inFiber differ e) pairs) (numbersOf (target .structure)) (named .named (w .a) (w .first))
-      (w .for (inFiber differ (w .a .image)) (and-true _ _ (eq-eqb (w .a .image) (w .a .image) refl) (and-true _ _ (eq-eqb (w .b .image) (w .a .image) (sym x)) (and-right (eqb (w .a .image) (w .b .image)) _ (w .holds))))))
+  unfolding kernelClashes kernelVariables
+  kernel-is = any-each _ _ (kernelPairs pairs (target .structure)) ∙ any-kernel differ (target .structure) pairs named
 
 -- The loops over the keys: the tests from a place on.
 unfoldable pub laterFrom : (Pair → ℕ) → List ℕ → Map → ℕ → ℕ → Bool
@@ -141,22 +150,23 @@ laterFrom type s m p q = any (clash type (pairAt s m p)) (drop q (pairsIn s m))
 unfoldable pub keysFrom : (Pair → ℕ) → List ℕ → Map → ℕ → Bool
 keysFrom type s m p = anyTwo (clash type) (drop p (pairsIn s m))
 
-module _ (type : Pair → ℕ) {s : List ℕ} {m : Map} (h : MapIn s m) where
-  left-on : (p : ℕ) → p < m .pairs → drop p (pairsIn s m) ≡ pairAt s m p ∷ drop (p + 1) (pairsIn s m)
+module _ {s : List ℕ} {m : Map} (h : MapIn s m) where
+  pub left-on : (p : ℕ) → p < m .pairs → drop p (pairsIn s m) ≡ pairAt s m p ∷ drop (p + 1) (pairsIn s m)
   unfolding pairAt
   left-on p l = let n = pairs-many h in rw add-one (drop-cons (pairsIn s m) p noPair (omega arith))
 
-  left-end : (p : ℕ) → m .pairs ≤ p → drop p (pairsIn s m) ≡ []
+  pub left-end : (p : ℕ) → m .pairs ≤ p → drop p (pairsIn s m) ≡ []
   left-end p l = let n = pairs-many h in drop-of-length-le (pairsIn s m) {i = p} (omega arith)
 
+module _ (type : Pair → ℕ) {s : List ℕ} {m : Map} (h : MapIn s m) where
   module _ (p q : ℕ) where
     pub later-other : q < m .pairs → (pairAt s m p .image ≡ pairAt s m q .image → ⊥) → laterFrom type s m p q ≡ laterFrom type s m p (q + 1)
     unfolding laterFrom any
-    later-other l d = rw (left-on q l, ne-eqb _ _ d)
+    later-other l d = rw (left-on h q l, ne-eqb _ _ d)
 
     pub later-same : q < m .pairs → type (pairAt s m p) ≡ type (pairAt s m q) → laterFrom type s m p q ≡ laterFrom type s m p (q + 1)
     unfolding laterFrom any
-    later-same l e = rw (left-on q l, eq-eqb _ _ e) (go (eqb (pairAt s m p .image) (pairAt s m q .image)))
+    later-same l e = rw (left-on h q l, eq-eqb _ _ e) (go (eqb (pairAt s m p .image) (pairAt s m q .image)))
       where
         go : (b : Bool) {x : Bool} → (b && false || x) ≡ x
         go true = refl
@@ -164,19 +174,19 @@ module _ (type : Pair → ℕ) {s : List ℕ} {m : Map} (h : MapIn s m) where
 
     pub later-clash : q < m .pairs → pairAt s m p .image ≡ pairAt s m q .image → (type (pairAt s m p) ≡ type (pairAt s m q) → ⊥) → laterFrom type s m p q ≡ true
     unfolding laterFrom any
-    later-clash l e d = rw (left-on q l, eq-eqb _ _ e, ne-eqb _ _ d)
+    later-clash l e d = rw (left-on h q l, eq-eqb _ _ e, ne-eqb _ _ d)
 
     pub later-end : m .pairs ≤ q → laterFrom type s m p q ≡ false
     unfolding laterFrom any
-    later-end l = rw (left-end q l)
+    later-end l = rw (left-end h q l)
 
   pub keys-on : (p : ℕ) → p < m .pairs → {r : Bool} → r ≡ laterFrom type s m p (p + 1) → keysFrom type s m p ≡ (r || keysFrom type s m (p + 1))
   unfolding keysFrom laterFrom anyTwo
-  keys-on p l e = rw (left-on p l, e)
+  keys-on p l e = rw (left-on h p l, e)
 
   pub keys-end : (p : ℕ) → m .pairs ≤ p → keysFrom type s m p ≡ false
   unfolding keysFrom anyTwo
-  keys-end p l = rw (left-end p l)
+  keys-end p l = rw (left-end h p l)
 
 pub later-all : (type : Pair → ℕ) (s : List ℕ) (m : Map) (p : ℕ) → any (clash type (pairAt s m p)) (drop (p + 1) (pairsIn s m)) ≡ laterFrom type s m p (p + 1)
 unfolding laterFrom

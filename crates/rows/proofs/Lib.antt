@@ -1,6 +1,7 @@
 -- Laws of this crate.
 pub mod MapLaws
 pub mod KernelLaws
+pub mod KernelFree
 pub mod Parts
 pub mod Sections
 pub mod TableLaws

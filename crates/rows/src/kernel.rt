@@ -1,13 +1,16 @@
 // Keys and their variables; kernel pairs: two keys of one image. Refusal 25.
+ghost use mathlib.Core.Bool.{not};
 ghost use mathlib.Core.List.{List};
 ghost use mathlib.Core.Path.{_≡_};
 ghost use Prim.Native.Nat.{ℕ, _+_, _<_};
 ghost use lib.ListN.{length, drop};
-ghost use Rattle.definition.specs.Base.{any};
+ghost use Rattle.definition.specs.Base.{any, empty};
 ghost use Rattle.definition.specs.Group.{Variable};
 ghost use Rattle.definition.specs.Kinds.{Side, kernelClashes};
 ghost use Rattle.definition.specs.Limits.{structureLimit};
-ghost use Rattle.definition.specs.Rule.{Pair};
+ghost use Rattle.definition.specs.Names.{numbersOf};
+ghost use Rattle.definition.specs.Rows.{kernelPairs};
+ghost use Rattle.definition.specs.Rule.{Structure, Pair};
 ghost use Rattle.definition.specs.Signature.{Signature};
 ghost use Rattle.rule.specs.Elements.{elementNumbers, Elements};
 ghost use Rattle.rows.specs.Maps.{pairAt, pairsIn, MapIn};
@@ -45,6 +48,30 @@ pub fn key_vars(s: &[u8], index: &[u16; RULE_INDEX], k: usize, row: &[u16; 64], 
         p += 1;
     }
     vars
+}
+
+// Has a map kernel pairs: two keys of one image? Each image's place is marked once, so this is one pass over the pairs.
+pub fn has_kernel_pairs(s: &[u8], index: &[u16; RULE_INDEX], tgt: usize, m: Map) -> bool
+    requires { ⌜ MapIn (now s) m ⌝ }
+    requires { ⌜ tgt < structureLimit ⌝ }
+    requires { ⌜ Elements (now s) (now index) tgt ⌝ }
+    ensures { λ r. ⌜ ((target : Structure) → numbersOf target ≡ elementNumbers (now (s .entry)) (now (index .entry)) tgt → ImagesIn target (pairsIn (now (s .entry)) m)
+        → r ≡ not (empty (kernelPairs (pairsIn (now (s .entry)) m) target))) ⌝ }
+{
+    let mut seen = [false; 64];
+    let mut p: usize = 0;
+    while p < m.pairs {
+        let f = find_element(s, index, tgt, pair_image(s, m, p));
+        let Found::At(j) = f else {
+            return true;
+        };
+        if seen[j] {
+            return true;
+        }
+        seen[j] = true;
+        p += 1;
+    }
+    false
 }
 
 // Does the variable of a key differ in type from that of a later key of the same image?

@@ -65,7 +65,7 @@ pub fn map_elements(
 }
 
 // The images of the rows of a section.
-pub fn mapped_rows(
+pub fn mapped_rel_apps(
     s: &[u8],
     from: usize,
     end: usize,

@@ -16,8 +16,8 @@ use Rattle.rows.specs.Maps.{pairsIn}
 use Rattle.rows.proofs.Turns.{rows-next, rows-stop, rows-end, rows-start}
 use Rattle.rows.proofs.TableLaws.{Filled, maps-stop, maps-all}
 use Rattle.rows.proofs.Sections.{Passed, next-field, RowHere, row-here, passed-start}
-use Rattle.rows.proofs.table.mapped_rows.Statement.{statement}
-use Rattle.rows.proofs.table.mapped_rows.Tie as tie
+use Rattle.rows.proofs.table.mapped_rel_apps.Statement.{statement}
+use Rattle.rows.proofs.table.mapped_rel_apps.Tie as tie
 
 abbrev Inv-loop : tie.InvT-loop
 Inv-loop s from end m symbols₀ els₀ at₀ i₀ symbols els at i = (length symbols ≡ fieldLimit) × (length els ≡ tableSize) × ((fs : List Field) → Run s from end fs → Passed s end fs at i) × ((kind : ℕ) (fs : List Field) → Run s from end fs → Filled (pairsIn s m) (each (rowOf kind) (take i fs)) symbols els)
@@ -89,8 +89,8 @@ loop-again c = (rw length-set (c .before .before .before .before .before .before
 returns-3 : tie.Need-returns-3 Inv-loop μ-loop
 returns-3 c = (λ kind fs r. rows-end (c .before .loop .inv .2 fs r) (c .loop-test .left) kind (c .before .loop .inv .3 kind fs r), (c .before .loop .inv .0, c .before .loop .inv .1))
 
-pub mapped-rows-spec : {M : Type 1} → statement M
-mapped-rows-spec =
+pub mapped-rel-apps-spec : {M : Type 1} → statement M
+mapped-rel-apps-spec =
     tie.close
     (tie.spec
     Inv-loop
