@@ -23,10 +23,6 @@ use Rattle.group.proofs.Drawn.{variable-type, variable-name, kind-is, s
 
 -- A variable is what the field at its entry says.
 module _ {s index : List ℕ} {count : ℕ} (w : Listed s index count) where
-  pub table-length : length (table s) ≡ count
-  unfolding groupOf
-  table-length = length-each variableOf (withLetter letterW (groupPart s .fields)) ∙ rw (← (w .held), length-held)
-
   variable-is : (v : ℕ) → v < count → variableNumbered (table s) v ≡ variableOf (fieldIn s (getD index (variablesFrom + v) 0))
   unfolding groupOf
   variable-is v h =

@@ -115,14 +115,6 @@ pub fn read_statement(s: &[u8], start: usize, len: usize) -> Statement
     }
 }
 
-// The variable at a place among those that stand from a position on.
-pub fn variable_at(s: &[u8], at: usize, i: usize) -> VarId
-    requires { ⌜ at + 2 * i + 2 ≤ length (now s) ⌝ }
-    ensures { λ r. ⌜ ((count : ℕ) → i < count → at + 2 * count ≤ length (now (s .entry)) → r .0 ≡ getD (numbers (stretch (now (s .entry)) at (2 * count))) i 0) ⌝ }
-{
-    VarId(num(s, at + 2 * i))
-}
-
 // Are the first variables at two positions the same, so many of each?
 pub fn same_variables(
     s: &[u8],

@@ -1,14 +1,14 @@
 -- Numbers with the high byte first compare like their bytes.
 use Prim.Native.Nat.{ℕ, suc, _+_, _*_, _/_, _%_, _≤_, _<_}
 use native.Mathlib.Omega.{arith}
-use mathlib.Core.Bool.{Bool, true, false, _&&_}
+use mathlib.Core.Bool.{Bool, true, false}
 use mathlib.Core.List.{List, [], _∷_}
 use mathlib.Core.Path.{_≡_, refl, sym, _∙_}
-use lib.Dec.{eqb, ltb}
+use lib.Dec.{ltb}
 use lib.ListN.{length, getD, List·getD-eq-default}
 use lib.Seq.{take-all}
-use borrow.Author.Tests.{lt-ltb, le-ltb, ltb-true, ltb-false, eq-eqb, ne-eqb, eqb-true, eqb-false}
-use Rattle.definition.specs.Base.{pick, less, sameList}
+use borrow.Author.Tests.{lt-ltb, le-ltb, ltb-true, ltb-false}
+use Rattle.definition.specs.Base.{pick, less}
 use Rattle.definition.specs.Records.{numbers}
 use Rattle.records.specs.Places.{stretch}
 use Rattle.records.proofs.Numbers.{length-stretch, stretch-at, take-stretch, take-numbers, length-numbers-in}
@@ -30,14 +30,6 @@ module _ (x w y z : ℕ) (hw : w < 256) (hz : z < 256) where
       go false false false true p q r t = rw (le-ltb (x * 256 + w) (y * 256 + z) (omega (arith, ltb-true, ltb-false)), lt-ltb (y * 256 + z) (x * 256 + w) (omega (arith, ltb-true, ltb-false)))
       go false false false false p q r t = rw (le-ltb (x * 256 + w) (y * 256 + z) (omega (arith, ltb-false)), le-ltb (y * 256 + z) (x * 256 + w) (omega (arith, ltb-false)))
 
-  same-two : (rest : Bool) → (eqb (x * 256 + w) (y * 256 + z) && rest) ≡ (eqb x y && (eqb w z && rest))
-  same-two rest = go (eqb x y) (eqb w z) refl refl
-    where
-      go : (a b : Bool) → eqb x y ≡ a → eqb w z ≡ b → (eqb (x * 256 + w) (y * 256 + z) && rest) ≡ (a && (b && rest))
-      go true true p q = rw (eq-eqb (x * 256 + w) (y * 256 + z) (omega (arith, eqb-true)))
-      go true false p q = let k = eqb-false w z q in let e = eqb-true x y p in rw (ne-eqb (x * 256 + w) (y * 256 + z) (λ h. k (omega arith)))
-      go false b p q = let k = eqb-false x y p in rw (ne-eqb (x * 256 + w) (y * 256 + z) (λ h. k (omega arith)))
-
 -- A test of two lists that goes member by member, and treats a number as its two bytes.
 module _ (test : List ℕ → List ℕ → Bool)
     (none-left : (a b : ℕ) (cs bs : List ℕ) → test [] (a ∷ cs) ≡ test [] (b ∷ bs))
@@ -57,10 +49,6 @@ module _ (test : List ℕ → List ℕ → Bool)
 less-pairs : (xs ys : List ℕ) → Bytes xs → Bytes ys → length xs % 2 ≡ 0 → length ys % 2 ≡ 0 → less (numbers xs) (numbers ys) ≡ less xs ys
 unfolding less
 less-pairs = pairs less (λ a b cs bs. refl) (λ a b cs bs. refl) (λ x w y z xs ys ns ms p q e. rw e (less-two x w y z p q (less xs ys)))
-
-same-pairs : (xs ys : List ℕ) → Bytes xs → Bytes ys → length xs % 2 ≡ 0 → length ys % 2 ≡ 0 → sameList (numbers xs) (numbers ys) ≡ sameList xs ys
-unfolding sameList
-same-pairs = pairs sameList (λ a b cs bs. refl) (λ a b cs bs. refl) (λ x w y z xs ys ns ms p q e. rw e (same-two x w y z p q (sameList xs ys)))
 
 -- An odd byte at the end of a stretch is no number.
 module _ (s : List ℕ) (start len : ℕ) (h : start + len ≤ length s) where
@@ -92,6 +80,3 @@ module _ (s : List ℕ) (a m b n : ℕ) (h : (a + m ≤ length s) × (b + n ≤ 
 
   pub less-numbers : less (stretch s a (m / 2 * 2)) (stretch s b (n / 2 * 2)) ≡ less (numbers (stretch s a m)) (numbers (stretch s b n))
   less-numbers = by-pairs less less-pairs
-
-  pub same-numbers : sameList (stretch s a (m / 2 * 2)) (stretch s b (n / 2 * 2)) ≡ sameList (numbers (stretch s a m)) (numbers (stretch s b n))
-  same-numbers = by-pairs sameList same-pairs

@@ -19,16 +19,6 @@ nothing out at h = record { size = omega arith; long = refl; same = λ a b. rw (
 pub counted : (out e : List ℕ) (at : ℕ) {r : ℕ} → r ≡ capped (at + length e) → length out < at + length e → Put out out e at r
 counted out e at s h = record { size = s; long = refl; same = λ a b. absurd (omega arith) }
 
--- A part fitted: it came back at the front of the rest that was lent.
-pub fitted : (out e ys : List ℕ) (at : ℕ) {r : ℕ} → r ≡ capped (at + length e) → at + length e ≤ length out
-    → ys ≡ e ++ drop (length e) (take (length out - at) (drop at out)) → Put out (putMid at (length out - at) out ys) e at r
-fitted out e ys at s h q =
-    let l : length (drop at out) ≤ length out - at = rw length-drop (omega arith) in
-    let z : drop (length out - at) (drop at out) ≡ [] = drop-of-length-le (drop at out) l in
-    let y : ys ≡ e ++ drop (at + length e) out = q ∙ rw (take-all _ _ l, drop-drop) in
-    let f : putMid at (length out - at) out ys ≡ take at out ++ (e ++ drop (at + length e) out) = rw (z, append-nil, y) in
-    record { size = s; long = rw f (rw (length-append, length-append, length-take, length-drop) (omega arith)); same = λ a b. f }
-
 -- Bytes stored one behind the other.
 pub stored : (out e : List ℕ) (at : ℕ) {r : ℕ} → r ≡ capped (at + length e) → at + length e ≤ length out → Put out (sets out at e) e at r
 stored out e at s h = record { size = s; long = length-sets out at e; same = λ a b. sets-eq e out at h ∙ append-assoc (take at out) e (drop (at + length e) out) }
@@ -89,9 +79,6 @@ module _ {out₀ out all rest : List ℕ} {at₀ at : ℕ} (w : Writing out₀ o
 
   pub finish : rest ≡ [] → Put out₀ out all at₀ at
   finish q = let e : all ≡ w .done = w .cut ∙ rw (q, append-nil) in rw e (w .put)
-
-  pub small : at ≤ countLimit
-  small = omega (arith, w .put .size)
 
 -- At an empty buffer nothing is written.
 pub measured : {o p : List ℕ} {at m : ℕ} (xs : List ℕ) → Put [] o p at m → o ++ xs ≡ xs

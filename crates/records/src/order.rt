@@ -1,4 +1,4 @@
-// The order and the equality of two stretches of one slice, as bytes and as two-byte numbers.
+// The order of two stretches of one slice, as bytes and as two-byte numbers, and their equality as bytes.
 ghost use mathlib.Core.Path.{_≡_};
 ghost use Prim.Native.Nat.{ℕ, _+_, _≤_, _<_};
 ghost use lib.Dec.{ltb};
@@ -49,20 +49,12 @@ pub fn same_bytes(s: &[u8], a: usize, m: usize, b: usize, n: usize) -> bool
     true
 }
 
-// The same of the numbers that stand there: with the high byte first they compare like their bytes. An odd byte at the end is no number.
+// The order of the numbers that stand there: with the high byte first they compare like their bytes. An odd byte at the end is no number.
 pub fn less_numbers(s: &[u8], a: usize, m: usize, b: usize, n: usize) -> bool
     requires { ⌜ (a + m ≤ length (now s)) × (b + n ≤ length (now s)) ⌝ }
     ensures { λ r. ⌜ r ≡ less (numbers (stretch (now (s .entry)) a m)) (numbers (stretch (now (s .entry)) b n)) ⌝ }
 {
     less_bytes(s, a, m / 2 * 2, b, n / 2 * 2)
-}
-
-// Are they the same numbers?
-pub fn same_numbers(s: &[u8], a: usize, m: usize, b: usize, n: usize) -> bool
-    requires { ⌜ (a + m ≤ length (now s)) × (b + n ≤ length (now s)) ⌝ }
-    ensures { λ r. ⌜ r ≡ sameList (numbers (stretch (now (s .entry)) a m)) (numbers (stretch (now (s .entry)) b n)) ⌝ }
-{
-    same_bytes(s, a, m / 2 * 2, b, n / 2 * 2)
 }
 
 // Is each number of a stretch below a limit?

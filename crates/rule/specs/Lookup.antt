@@ -1,12 +1,12 @@
 -- An accepted rule, as the lookups speak of it.
-use mathlib.Core.List.{List, []}
+use mathlib.Core.List.{List}
 use mathlib.Core.Option.{Option, none, some}
 use mathlib.Core.Path.{_≡_}
 use Prim.Native.Nat.{ℕ, _+_, _≤_}
 use lib.ListN.{length}
 use Rattle.definition.specs.Letters.{letterM}
 use Rattle.records.specs.Places.{fieldOf}
-use Rattle.definition.specs.Rule.{Rule, Element, Pair, mapOf, ruleOf, rulePart, If, SurjThen, NonSurjThen, Noop}
+use Rattle.definition.specs.Rule.{Rule, Pair, mapOf, ruleOf, rulePart, If, SurjThen, NonSurjThen, Noop}
 use Rattle.definition.specs.Rule as definition
 use Rattle.definition.specs.Signature.{Signature}
 use Rattle.rule.specs.Answers.{Indexed}
@@ -24,9 +24,6 @@ pub record Ready (s index : List ℕ) : Type 0 where
   pub sig : Signature
   pub count : ℕ
   pub indexed : Indexed sig s index count
-
-abbrev pub noElement : Element
-noElement = record { number = 0; type = 0; parents = [] }
 
 abbrev pub noPair : Pair
 noPair = record { key = 0; image = 0 }

@@ -164,16 +164,6 @@ pub fn pred_parents(s: &[u8], index: &[u16; INDEX], counts: Counts, p: PredId) -
     parents(s, index, PREDS_FROM + place(p.0))
 }
 
-// One of the parents.
-pub fn pred_parent(s: &[u8], index: &[u16; INDEX], counts: Counts, p: PredId, i: usize) -> TypeId
-    requires { ⌜ Indexed (now s) (now index) counts ⌝ }
-    requires { ⌜ (p .0 < counts .preds) × (i < length (predOf (signatureAt (now s) (now index) counts) (p .0) .parents)) ⌝ }
-    ensures { λ r. ⌜ r .0 ≡ getD (predOf (signatureAt (now (s .entry)) (now (index .entry)) counts) (p .0) .parents) i 0 ⌝ }
-    ensures { λ r. ⌜ r .0 < counts .types ⌝ }
-{
-    parent(s, index, PREDS_FROM + place(p.0), i)
-}
-
 // How many columns a function has; the last is its result.
 pub fn func_columns(s: &[u8], index: &[u16; INDEX], counts: Counts, f: FuncId) -> usize
     requires { ⌜ Indexed (now s) (now index) counts ⌝ }
@@ -190,16 +180,6 @@ pub fn func_parents(s: &[u8], index: &[u16; INDEX], counts: Counts, f: FuncId) -
     ensures { λ r. ⌜ r ≡ length (funcOf (signatureAt (now (s .entry)) (now (index .entry)) counts) (f .0) .parents) ⌝ }
 {
     parents(s, index, FUNCS_FROM + place(f.0))
-}
-
-// One of the parents.
-pub fn func_parent(s: &[u8], index: &[u16; INDEX], counts: Counts, f: FuncId, i: usize) -> TypeId
-    requires { ⌜ Indexed (now s) (now index) counts ⌝ }
-    requires { ⌜ (f .0 < counts .funcs) × (i < length (funcOf (signatureAt (now s) (now index) counts) (f .0) .parents)) ⌝ }
-    ensures { λ r. ⌜ r .0 ≡ getD (funcOf (signatureAt (now (s .entry)) (now (index .entry)) counts) (f .0) .parents) i 0 ⌝ }
-    ensures { λ r. ⌜ r .0 < counts .types ⌝ }
-{
-    parent(s, index, FUNCS_FROM + place(f.0), i)
 }
 
 // The columns of a function without its result.
