@@ -4,8 +4,8 @@ ghost use Prim.Native.Nat.{_≤_};
 ghost use lib.ListN.{length, take};
 ghost use Rattle.definition.specs.Base.{refused};
 ghost use Rattle.definition.specs.Desk.{deskOf, printed};
-ghost use Rattle.definition.specs.Limits.{answerBytes};
 ghost use Rattle.records.specs.Buffer.{Put};
+use flatten::entry::ANSWER;
 use flatten::entry::Flattened;
 use flatten::entry::flatten;
 use records::fields::two;
@@ -29,10 +29,11 @@ fn put_refused(out: &mut [u8], n: u8) -> usize
 }
 
 // What is to be printed, at the front of the buffer, and its length.
-pub fn desk(input: &[u8], out: &mut [u8]) -> usize
-    requires { ⌜ length (now out) ≡ answerBytes ⌝ }
+pub fn desk(input: &[u8], out: &mut [u8; ANSWER]) -> usize
     ensures { λ r. ⌜ (r ≤ length (now (out .exit))) × (take r (now (out .exit)) ≡ deskOf (now (input .entry))) ⌝ }
 {
+    // A proof knows the length of what is assigned, not of what is lent.
+    *out = [0u8; ANSWER];
     if input.len() < 2 {
         return put_refused(out, 2);
     }

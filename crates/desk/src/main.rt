@@ -2,11 +2,11 @@
 // `refused`, a space, the number and a newline.
 mod answer;
 
+use flatten::entry::ANSWER;
+
 // Enough of any input: the length, the longest signature it can tell of, and a rule of one byte too many. A longer input's answer
 // is that of its first so many bytes: the signature's refusal, else 1 (`enough` in proofs/Enough.antt).
 const INPUT: usize = 98306;
-
-const ANSWER: usize = 65535;
 
 fn main() {
     let mut input = [0u8; INPUT];

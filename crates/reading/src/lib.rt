@@ -1,5 +1,9 @@
-// Whole records read from bytes alone: the signature's refusals first, then the rule's or group's. Nothing is asked of the caller.
+// Whole records read from bytes alone: the signature's refusals first, then the rule's or group's. Of the caller nothing is asked
+// but, in the two that end in `_into`, the length of a lent index, which a caller with an array of its own has at hand.
 ghost use mathlib.Core.Path.{_≡_};
+ghost use lib.ListN.{length};
+ghost use Rattle.rule.specs.Layout.{ruleIndex};
+ghost use Rattle.group.specs.Index.{indexSize};
 ghost use Rattle.reading.specs.Verdicts.{numberOf, verdictOf, refusalOf, ruleRead, groupRead};
 ghost use Rattle.reading.specs.Answers.{ruleAnswer, groupAnswer, RuleUsable, GroupUsable};
 use group::ids::GROUP_INDEX;
@@ -39,6 +43,28 @@ fn number(r: Reading) -> u8
 }
 
 // A signature and a rule; where both are accepted, the indexes hold where their fields stand.
+// The index has the entries that its type says; a proof cannot tell that of a lent array, so the lender does.
+pub fn read_rule_into(
+    sig: &[u8],
+    s: &[u8],
+    symbols: &mut [u16; INDEX],
+    index: &mut [u16; RULE_INDEX],
+) -> RuleReading
+    requires { ⌜ length (now index) ≡ ruleIndex ⌝ }
+    ensures { λ r. ⌜ ruleAnswer (now (s .entry)) r ≡ ruleRead (now (sig .entry)) (now (s .entry)) ⌝ }
+    ensures { λ r. ⌜ RuleUsable (now (sig .entry)) (now (symbols .exit)) (now (s .entry)) (now (index .exit)) r ⌝ }
+{
+    let q = read_signature(sig, symbols);
+    let Reading::Sound(counts) = q else {
+        return RuleReading::Refused(number(q));
+    };
+    match rule::reader::read_rule(sig, symbols, counts, s, index) {
+        rule::reader::Reading::Sound { structures } => RuleReading::Sound { counts, structures },
+        rule::reader::Reading::Refused(n) => RuleReading::Refused(n),
+    }
+}
+
+// The same, asking nothing: a proof knows the length of what is assigned.
 pub fn read_rule(
     sig: &[u8],
     s: &[u8],
@@ -48,25 +74,18 @@ pub fn read_rule(
     ensures { λ r. ⌜ ruleAnswer (now (s .entry)) r ≡ ruleRead (now (sig .entry)) (now (s .entry)) ⌝ }
     ensures { λ r. ⌜ RuleUsable (now (sig .entry)) (now (symbols .exit)) (now (s .entry)) (now (index .exit)) r ⌝ }
 {
-    let q = read_signature(sig, symbols);
-    let Reading::Sound(counts) = q else {
-        return RuleReading::Refused(number(q));
-    };
-    // A proof knows the length of what is assigned, not of what is lent.
     *index = [0u16; RULE_INDEX];
-    match rule::reader::read_rule(sig, symbols, counts, s, index) {
-        rule::reader::Reading::Sound { structures } => RuleReading::Sound { counts, structures },
-        rule::reader::Reading::Refused(n) => RuleReading::Refused(n),
-    }
+    read_rule_into(sig, s, symbols, index)
 }
 
 // A signature and a group, likewise.
-pub fn read_group(
+pub fn read_group_into(
     sig: &[u8],
     s: &[u8],
     symbols: &mut [u16; INDEX],
     index: &mut [u16; GROUP_INDEX],
 ) -> GroupReading
+    requires { ⌜ length (now index) ≡ indexSize ⌝ }
     ensures { λ r. ⌜ groupAnswer (now (s .entry)) r ≡ groupRead (now (sig .entry)) (now (s .entry)) ⌝ }
     ensures { λ r. ⌜ GroupUsable (now (sig .entry)) (now (symbols .exit)) (now (s .entry)) (now (index .exit)) r ⌝ }
 {
@@ -74,7 +93,6 @@ pub fn read_group(
     let Reading::Sound(counts) = q else {
         return GroupReading::Refused(number(q));
     };
-    *index = [0u16; GROUP_INDEX];
     match group::reader::read_group(sig, symbols, counts, s, index) {
         group::reader::Reading::Sound { variables, rules } => GroupReading::Sound {
             counts,
@@ -85,13 +103,27 @@ pub fn read_group(
     }
 }
 
+// The same, asking nothing.
+pub fn read_group(
+    sig: &[u8],
+    s: &[u8],
+    symbols: &mut [u16; INDEX],
+    index: &mut [u16; GROUP_INDEX],
+) -> GroupReading
+    ensures { λ r. ⌜ groupAnswer (now (s .entry)) r ≡ groupRead (now (sig .entry)) (now (s .entry)) ⌝ }
+    ensures { λ r. ⌜ GroupUsable (now (sig .entry)) (now (symbols .exit)) (now (s .entry)) (now (index .exit)) r ⌝ }
+{
+    *index = [0u16; GROUP_INDEX];
+    read_group_into(sig, s, symbols, index)
+}
+
 // Are a signature and a rule sound?
 pub fn check_rule(sig: &[u8], s: &[u8]) -> Verdict
     ensures { λ r. ⌜ verdictOf r ≡ refusalOf (ruleRead (now (sig .entry)) (now (s .entry))) ⌝ }
 {
     let mut symbols = [0u16; INDEX];
     let mut index = [0u16; RULE_INDEX];
-    match read_rule(sig, s, &mut symbols, &mut index) {
+    match read_rule_into(sig, s, &mut symbols, &mut index) {
         RuleReading::Sound { .. } => Verdict::Sound,
         RuleReading::Refused(n) => Verdict::Refused(n),
     }
@@ -103,7 +135,7 @@ pub fn check_group(sig: &[u8], s: &[u8]) -> Verdict
 {
     let mut symbols = [0u16; INDEX];
     let mut index = [0u16; GROUP_INDEX];
-    match read_group(sig, s, &mut symbols, &mut index) {
+    match read_group_into(sig, s, &mut symbols, &mut index) {
         GroupReading::Sound { .. } => Verdict::Sound,
         GroupReading::Refused(n) => Verdict::Refused(n),
     }

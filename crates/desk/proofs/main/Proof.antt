@@ -16,9 +16,6 @@ array-share-prefix-input c = search needs
 slice-aggregate-desk : tie.Need-slice-aggregate-desk
 slice-aggregate-desk c = search needs
 
-slice-aggregate-desk-2 : tie.Need-slice-aggregate-desk-2
-slice-aggregate-desk-2 c = search needs
-
 desk-requires : tie.Need-desk-requires
 desk-requires c κs = search needs
 
@@ -26,7 +23,7 @@ array-share-prefix-out : tie.Need-array-share-prefix-out
 array-share-prefix-out c = search needs
 
 slice-aggregate-write-all : tie.Need-slice-aggregate-write-all
-slice-aggregate-write-all c = sym (length-take-le _ _ (c .before .before .desk .ensures .0))
+slice-aggregate-write-all c = sym (length-take-le _ _ (c .before .desk .ensures .0))
 
 write-all-requires : tie.Need-write-all-requires
 write-all-requires c κs = search needs
@@ -42,7 +39,6 @@ main-spec =
     read-full-requires
     array-share-prefix-input
     slice-aggregate-desk
-    slice-aggregate-desk-2
     desk-requires
     array-share-prefix-out
     slice-aggregate-write-all

@@ -4,8 +4,8 @@ use borrow.Author.Needs.{needs}
 use Rattle.reading.proofs.check_group.Statement.{statement}
 use Rattle.reading.proofs.check_group.Tie as tie
 
-read-group-requires : tie.Need-read-group-requires
-read-group-requires c κs = search needs
+read-group-into-requires : tie.Need-read-group-into-requires
+read-group-into-requires c κs = search needs
 
 enum-told : tie.Need-enum-told
 enum-told c = search needs
@@ -14,11 +14,11 @@ enum-known-n : tie.Need-enum-known-n
 enum-known-n c = search needs
 
 returns : tie.Need-returns
-returns c = ap refusalOf (rw (c .enum-told .given .1) at (c .before .before .read-group .ensures .0))
+returns c = ap refusalOf (rw (c .enum-told .given .1) at (c .before .before .read-group-into .ensures .0))
 
 returns-2 : tie.Need-returns-2
-returns-2 c = ap refusalOf (rw (c .before .n .given .1) at (c .before .before .before .read-group .ensures .0))
+returns-2 c = ap refusalOf (rw (c .before .n .given .1) at (c .before .before .before .read-group-into .ensures .0))
 
 pub check-group-spec : {M : Type 1} → statement M
 check-group-spec =
-    tie.close (tie.spec read-group-requires enum-told enum-known-n returns returns-2)
+    tie.close (tie.spec read-group-into-requires enum-told enum-known-n returns returns-2)

@@ -4,8 +4,8 @@ use borrow.Author.Needs.{needs}
 use Rattle.reading.proofs.check_rule.Statement.{statement}
 use Rattle.reading.proofs.check_rule.Tie as tie
 
-read-rule-requires : tie.Need-read-rule-requires
-read-rule-requires c κs = search needs
+read-rule-into-requires : tie.Need-read-rule-into-requires
+read-rule-into-requires c κs = search needs
 
 enum-told : tie.Need-enum-told
 enum-told c = search needs
@@ -14,10 +14,10 @@ enum-known-n : tie.Need-enum-known-n
 enum-known-n c = search needs
 
 returns : tie.Need-returns
-returns c = ap refusalOf (rw (c .enum-told .given .1) at (c .before .before .read-rule .ensures .0))
+returns c = ap refusalOf (rw (c .enum-told .given .1) at (c .before .before .read-rule-into .ensures .0))
 
 returns-2 : tie.Need-returns-2
-returns-2 c = ap refusalOf (rw (c .before .n .given .1) at (c .before .before .before .read-rule .ensures .0))
+returns-2 c = ap refusalOf (rw (c .before .n .given .1) at (c .before .before .before .read-rule-into .ensures .0))
 
 pub check-rule-spec : {M : Type 1} → statement M
-check-rule-spec = tie.close (tie.spec read-rule-requires enum-told enum-known-n returns returns-2)
+check-rule-spec = tie.close (tie.spec read-rule-into-requires enum-told enum-known-n returns returns-2)

@@ -8,12 +8,9 @@ use Rattle.desk.proofs.answer.desk.Tie as tie
 put-refused-requires : tie.Need-put-refused-requires
 put-refused-requires c κs = search needs
 
-same-length : tie.Need-same-length
-same-length c = search needs
-
 returns : tie.Need-returns
 returns c =
-    let a = line _ (c .before .before .put-refused .ensures) (c .before .before .before .before .before .before .before .pre) in (a .0, a .1 ∙ sym (short _ (c .before .before .before .before .if1 .taken)))
+    let a = line _ (c .put-refused .ensures) (search needs) in (a .0, a .1 ∙ sym (short _ (c .before .before .if1 .taken)))
 
 two-requires : tie.Need-two-requires
 two-requires c κs = search needs
@@ -24,13 +21,10 @@ sub-if2 c = search needs
 put-refused-requires-2 : tie.Need-put-refused-requires-2
 put-refused-requires-2 c κs = search needs
 
-same-length-2 : tie.Need-same-length-2
-same-length-2 c = search needs
-
 returns-2 : tie.Need-returns-2
 returns-2 c =
-    let a = line _ (c .before .before .put-refused2 .ensures) (c .before .before .before .before .before .before .before .before .before .pre) in
-    (a .0, a .1 ∙ sym (missing _ (c .before .before .before .before .before .before .if1 .left) (rw (c .before .before .before .before .before .two .ensures .0) at (c .before .before .before .before .if2 .taken))))
+    let a = line _ (c .put-refused2 .ensures) (search needs) in
+    (a .0, a .1 ∙ sym (missing _ (c .before .before .before .before .if1 .left) (rw (c .before .before .before .two .ensures .0) at (c .before .before .if2 .taken))))
 
 add-end : tie.Need-add-end
 add-end c = search needs
@@ -65,34 +59,25 @@ enum-known-r-2 c = search needs
 put-refused-requires-3 : tie.Need-put-refused-requires-3
 put-refused-requires-3 c κs = search needs
 
-same-length-3 : tie.Need-same-length-3
-same-length-3 c = search needs
-
 returns-3 : tie.Need-returns-3
 unfolding printed
 returns-3 c =
-    (rw (c .before .r .given .1) at (c .before .before .before .before .before .flatten .ensures .1 .0 .0),
-    sym (rw (c .before .r .given .1) at (answered (c .before .before .before .before .before .before .before .before .before .before .before .before .before .before .args .input .now) (c .before .before .before .before .before .before .before .before .before .before .before .if1 .left) (c .before .before .before .before .before .before .before .before .before .before .two .ensures .0) (c .before .before .before .before .before .before .before .before .before .if2 .left) (c .before .before .before .before .before .before .before .before .before .before .before .before .before .before .pre) (c .before .before .before .before .before .flatten .ensures .0))))
-
-same-length-4 : tie.Need-same-length-4
-same-length-4 c = search needs
+    (rw (c .before .r .given .1) at (c .before .before .before .flatten .ensures .1 .0 .0), sym (rw (c .before .r .given .1) at (answered (c .before .before .before .before .before .before .before .before .before .before .before .before .args .input .now) (c .before .before .before .before .before .before .before .before .before .if1 .left) (c .before .before .before .before .before .before .before .before .two .ensures .0) (c .before .before .before .before .before .before .before .if2 .left) (search needs) (c .before .before .before .flatten .ensures .0))))
 
 returns-4 : tie.Need-returns-4
 returns-4 c =
-    let a = line _ (c .before .before .put-refused3 .ensures) (search needs) in
-    (a .0, a .1 ∙ sym (rw (c .before .before .before .before .before .r2 .given .1) at (answered (c .before .before .before .before .before .before .before .before .before .before .before .before .before .before .before .before .before .before .args .input .now) (c .before .before .before .before .before .before .before .before .before .before .before .before .before .before .before .if1 .left) (c .before .before .before .before .before .before .before .before .before .before .before .before .before .before .two .ensures .0) (c .before .before .before .before .before .before .before .before .before .before .before .before .before .if2 .left) (c .before .before .before .before .before .before .before .before .before .before .before .before .before .before .before .before .before .before .pre) (c .before .before .before .before .before .before .before .before .before .flatten .ensures .0))))
+    let a = line _ (c .put-refused3 .ensures) (search needs) in
+    (a .0, a .1 ∙ sym (rw (c .before .before .before .r2 .given .1) at (answered (c .before .before .before .before .before .before .before .before .before .before .before .before .before .before .args .input .now) (c .before .before .before .before .before .before .before .before .before .before .before .if1 .left) (c .before .before .before .before .before .before .before .before .before .before .two .ensures .0) (c .before .before .before .before .before .before .before .before .before .if2 .left) (search needs) (c .before .before .before .before .before .flatten .ensures .0))))
 
 pub desk-spec : {M : Type 1} → statement M
 desk-spec =
     tie.close
     (tie.spec
     put-refused-requires
-    same-length
     returns
     two-requires
     sub-if2
     put-refused-requires-2
-    same-length-2
     returns-2
     add-end
     sub-flatten
@@ -105,7 +90,5 @@ desk-spec =
     enum-known-r
     enum-known-r-2
     put-refused-requires-3
-    same-length-3
     returns-3
-    same-length-4
     returns-4)

@@ -1,9 +1,9 @@
-use mathlib.Core.Path.{refl, ap, _∙_}
+use mathlib.Core.Path.{ap, _∙_}
 use Rattle.definition.specs.Base.{refused}
 use Rattle.reading.proofs.Judging.{first-refused, second-read, held}
 use borrow.Author.Needs.{needs}
-use Rattle.reading.proofs.read_group.Statement.{statement}
-use Rattle.reading.proofs.read_group.Tie as tie
+use Rattle.reading.proofs.read_group_into.Statement.{statement}
+use Rattle.reading.proofs.read_group_into.Tie as tie
 
 read-signature-requires : tie.Need-read-signature-requires
 read-signature-requires c κs = search needs
@@ -21,7 +21,7 @@ returns : tie.Need-returns
 returns c = (ap refused (c .number .ensures) ∙ first-refused _ _ (c .before .before .before .read-signature .ensures .0) _ (c .before .enum-told .given .1), tt)
 
 read-group-requires : tie.Need-read-group-requires
-read-group-requires c κs = (held _ _ (c .before .before .before .before .before .before .read-signature .ensures .0) (c .before .before .before .before .q .given .1) (c .before .before .before .before .before .before .read-signature .ensures .1) .indexed, refl)
+read-group-requires c κs = (held _ _ (c .before .before .before .before .before .read-signature .ensures .0) (c .before .before .before .q .given .1) (c .before .before .before .before .before .read-signature .ensures .1) .indexed, c .before .before .before .before .before .before .before .before .before .pre)
 
 enum-known-variables : tie.Need-enum-known-variables
 enum-known-variables c = search needs
@@ -30,14 +30,14 @@ enum-known-n : tie.Need-enum-known-n
 enum-known-n c = search needs
 
 returns-2 : tie.Need-returns-2
-returns-2 c = let sig = c .before .before .before .before .before .before .before .before .before .before .read-signature .ensures in let q = c .before .before .before .before .before .before .before .before .q .given .1 in let e = c .before .variables .given .1 in let read = c .before .before .before .read-group .ensures in
+returns-2 c = let sig = c .before .before .before .before .before .before .before .before .before .read-signature .ensures in let q = c .before .before .before .before .before .before .before .q .given .1 in let e = c .before .variables .given .1 in let read = c .before .before .before .read-group .ensures in
     (second-read _ _ (sig .0) q _ (rw e at (read .0)), (held _ _ (sig .0) q (sig .1), rw e at (read .1)))
 
 returns-3 : tie.Need-returns-3
-returns-3 c = (second-read _ _ (c .before .before .before .before .before .before .before .before .before .before .read-signature .ensures .0) (c .before .before .before .before .before .before .before .before .q .given .1) _ (rw (c .before .n .given .1) at (c .before .before .before .read-group .ensures .0)), tt)
+returns-3 c = (second-read _ _ (c .before .before .before .before .before .before .before .before .before .read-signature .ensures .0) (c .before .before .before .before .before .before .before .q .given .1) _ (rw (c .before .n .given .1) at (c .before .before .before .read-group .ensures .0)), tt)
 
-pub read-group-spec : {M : Type 1} → statement M
-read-group-spec =
+pub read-group-into-spec : {M : Type 1} → statement M
+read-group-into-spec =
     tie.close
     (tie.spec
     read-signature-requires
