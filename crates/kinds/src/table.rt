@@ -67,17 +67,15 @@ fn lowest_source(s: &[u8], index: &[u16; RULE_INDEX], t: usize) -> usize
     u
 }
 
-// The table with a pair's kind, unless the pair has one by then.
-fn added(table: [[u8; 32]; 32], u: usize, t: usize, kind: u8) -> [[u8; 32]; 32]
+// A pair's kind into the table, unless the pair has one by then.
+fn add(table: &mut [[u8; 32]; 32], u: usize, t: usize, kind: u8)
     requires { ⌜ (u < structureLimit) × (t < structureLimit) ⌝ }
-    ensures { λ r. ⌜ Adds table r u t kind ⌝ }
+    ensures { λ r. ⌜ Adds (now (table .entry)) (now (table .exit)) u t kind ⌝ }
 {
     if table[u][t] < NO_KIND {
-        return table;
+        return;
     }
-    let mut more = table;
-    more[u][t] = kind;
-    more
+    table[u][t] = kind;
 }
 
 // The kinds of K.
@@ -100,26 +98,19 @@ fn stored(s: &[u8], index: &[u16; RULE_INDEX]) -> [[u8; 32]; 32]
             return table;
         };
         let kind = kind_number(kind_at(s, start, len));
-        let more = added(
-            table,
-            source_at(s, start, len),
-            target_at(s, start, len),
-            kind,
-        );
-        table = more;
+        add(&mut table, source_at(s, start, len), target_at(s, start, len), kind);
         at = next;
     }
     table
 }
 
-// The kinds of a table, and behind them those that the X add, in order.
-fn complete(s: &[u8], index: &[u16; RULE_INDEX], kinds: [[u8; 32]; 32]) -> [[u8; 32]; 32]
+// Behind the kinds of a table those that the X add, in order.
+fn complete(s: &[u8], index: &[u16; RULE_INDEX], table: &mut [[u8; 32]; 32])
     requires { ⌜ Ready (now s) (now index) ⌝ }
-    requires { ⌜ Tabled kinds (ruleAt (now s) .kinds) ⌝ }
-    ensures { λ r. ⌜ Tabled r (completed (ruleAt (now (s .entry)) .maps) (ruleAt (now (s .entry)) .kinds) (ruleAt (now (s .entry)) .auxiliaries)) ⌝ }
+    requires { ⌜ Tabled (now table) (ruleAt (now s) .kinds) ⌝ }
+    ensures { λ r. ⌜ Tabled (now (table .exit)) (completed (ruleAt (now (s .entry)) .maps) (ruleAt (now (s .entry)) .kinds) (ruleAt (now (s .entry)) .auxiliaries)) ⌝ }
 {
     let auxiliaries = section_behind(s, index, PLACE_X);
-    let mut table = kinds;
     let mut at = auxiliaries.from;
     while at < auxiliaries.to {
         let f = read_field(s, at);
@@ -130,15 +121,13 @@ fn complete(s: &[u8], index: &[u16; RULE_INDEX], kinds: [[u8; 32]; 32]) -> [[u8;
             next,
         } = f
         else {
-            return table;
+            return;
         };
         let t = structure_at(s, start, len);
         let u = lowest_source(s, index, t);
-        let more = added(table, u, t, auxiliary_kind(class_at(s, start, len)));
-        table = more;
+        add(table, u, t, auxiliary_kind(class_at(s, start, len)));
         at = next;
     }
-    table
 }
 
 // The kind of each pair of structures, by its source, then its target.
@@ -146,5 +135,7 @@ pub fn kind_table(s: &[u8], index: &[u16; RULE_INDEX]) -> [[u8; 32]; 32]
     requires { ⌜ Ready (now s) (now index) ⌝ }
     ensures { λ r. ⌜ Tabled r (completed (ruleAt (now (s .entry)) .maps) (ruleAt (now (s .entry)) .kinds) (ruleAt (now (s .entry)) .auxiliaries)) ⌝ }
 {
-    complete(s, index, stored(s, index))
+    let mut table = stored(s, index);
+    complete(s, index, &mut table);
+    table
 }

@@ -2,15 +2,14 @@
 ghost use mathlib.Core.List.{[]};
 ghost use mathlib.Core.Path.{_≡_};
 ghost use Prim.Native.Nat.{_+_, _≤_, _<_};
-ghost use lib.ListN.{getD, set, replicate};
+ghost use lib.ListN.{getD, set};
 ghost use Rattle.definition.specs.Base.{each};
-ghost use Rattle.definition.specs.Limits.{fieldLimit, structureLimit, variableLimit};
-ghost use Rattle.definition.specs.Names as definition;
+ghost use Rattle.definition.specs.Limits.{fieldLimit, variableLimit};
 ghost use Rattle.definition.specs.Names.{numbered};
 ghost use Rattle.definition.specs.Walk.{nothingTaken};
 ghost use Rattle.rows.specs.Maps.{MapIn};
 ghost use Rattle.naming.specs.Structures.{structureIn, Laid};
-ghost use Rattle.naming.specs.Variables.{noVar, entryOf, rowOf, GivenOut};
+ghost use Rattle.naming.specs.Variables.{entryOf, rowOf, GivenOut};
 ghost use Rattle.naming.specs.Maps.{Joins, takenOver};
 use crate::variables::NO_VAR;
 use crate::variables::assign_structure_el_vars;
@@ -55,7 +54,7 @@ pub fn carried(
 
 // The table with the target's variables: those taken over from the source, and the next numbers for the others.
 pub fn assign_el_vars(
-    table: [[u16; 64]; 32],
+    mut table: [[u16; 64]; 32],
     s: &[u8],
     index: &[u16; RULE_INDEX],
     src: usize,
@@ -70,20 +69,14 @@ pub fn assign_el_vars(
     ensures { λ r. ⌜ r ≡ set table tgt (rowOf (numbered next (takenOver (now (s .entry)) (getD table src []) src tgt m))) ⌝ }
 {
     let taken = carried(s, index, table[src], src, tgt, m);
-    let row = assign_structure_el_vars(taken, element_count(index, tgt), next);
-    let mut t = table;
-    t[tgt] = row;
-    t
+    table[tgt] = assign_structure_el_vars(taken, element_count(index, tgt), next);
+    table
 }
 
-// The table with the variables of structure 0, whose elements take nothing over.
-pub fn initial_el_vars(s: &[u8], index: &[u16; RULE_INDEX]) -> [[u16; 64]; 32]
+// The variables of structure 0, whose elements take nothing over.
+pub fn initial_el_vars(s: &[u8], index: &[u16; RULE_INDEX]) -> [u16; 64]
     requires { ⌜ Laid (now s) (now index) 0 ⌝ }
-    ensures { λ r. ⌜ r ≡ set (replicate structureLimit (replicate fieldLimit noVar)) 0 (rowOf (numbered 0 (nothingTaken (structureIn (now (s .entry)) 0)))) ⌝ }
+    ensures { λ r. ⌜ r ≡ rowOf (numbered 0 (nothingTaken (structureIn (now (s .entry)) 0))) ⌝ }
 {
-    let none = [NO_VAR; 64];
-    let row = assign_structure_el_vars(none, element_count(index, 0), 0);
-    let mut t = [[NO_VAR; 64]; 32];
-    t[0] = row;
-    t
+    assign_structure_el_vars([NO_VAR; 64], element_count(index, 0), 0)
 }

@@ -5,7 +5,7 @@ use native.Mathlib.Numerals.{add-one}
 use mathlib.Core.Bool.{Bool, true, false}
 use mathlib.Core.List.{List, [], _∷_, _++_, append-nil}
 use mathlib.Core.Path.{_≡_, refl, sym, _∙_, ap}
-use lib.ListN.{length, getD, set, take, drop, drop-of-length-le}
+use lib.ListN.{length, getD, set, take, drop, length-append, drop-of-length-le}
 use lib.Seq.{drop-cons, getD-take, length-take-le}
 use Rattle.definition.specs.Base.{consIf, keep, each, joined, empty, _∈_}
 use Rattle.definition.specs.Group.{Statement}
@@ -98,6 +98,10 @@ module _ {s index : List ℕ} {k : ℕ} (w : Stands s index k) {i : ℕ} (h : i 
 
     parents-count : length (elementIn s index k i .parents) ≡ e .parents
     parents-count = rw parents-are (count-in s (e .start) (e .parents) (b .inside))
+
+    pub element-many : (row : List ℕ) (kind : ℕ) → length (elementStatement (variableBy st row) kind (elementIn s index k i) .variables) ≡ e .parents + 1
+    unfolding elementStatement
+    element-many row kind = rw (length-each, length-append, parents-count)
 
     -- Its TypeSet, if it has no parents.
     pub type-said : (letter : ℕ) (row : List ℕ) → e .parents ≡ 0

@@ -3,21 +3,22 @@ use Prim.Native.Nat.{ℕ, zero, suc, _+_, _<_}
 use native.Mathlib.Omega.{arith}
 use native.Mathlib.Numerals.{add-one}
 use native.Mathlib.Decide.{ℕ-discrete}
+use mathlib.Core.Bool.{Bool, true, not}
 use mathlib.Core.List.{List, [], _∷_, List·Memᴰ·head, List·Memᴰ·tail}
 use mathlib.Core.Path.{_≡_, refl, sym, _∙_, ap}
 use lib.Dec.{eqb}
 use lib.ListN.{length, getD, drop, drop-of-length-le}
 use lib.Seq.{drop-cons, getD-take}
 use borrow.Author.Tests.{eq-eqb, ne-eqb}
-use Rattle.definition.specs.Base.{keep, each, joined, _∈_}
+use Rattle.definition.specs.Base.{keep, each, joined, empty, _∈_}
 use Rattle.definition.specs.Group.{Variable, Statement}
 use Rattle.definition.specs.Kinds.{Side, variableIn, typeIn, kernelVariables, equalities}
 use Rattle.definition.specs.Letters.{equality}
 use Rattle.definition.specs.Names.{numbersOf, fiber}
 use Rattle.definition.specs.Rows.{pairsAmong, kernelPairs}
-use Rattle.definition.specs.Rule.{Pair}
+use Rattle.definition.specs.Rule.{Pair, Structure}
 use Rattle.definition.specs.Signature.{Signature}
-use Rattle.theory.proofs.Lists.{mem-keep, mem-each, each-append, getD-each, joined-same}
+use Rattle.theory.proofs.Lists.{never, mem-keep, mem-each, each-append, getD-each, joined-same}
 use Rattle.rule.specs.Elements.{elementNumbers}
 use Rattle.rule.proofs.Finding.{numbers-length}
 use Rattle.rows.specs.Kernel.{KeyVars, Typed, TypesOf, KeysIn, SideAt}
@@ -138,3 +139,13 @@ module _ {s : List ℕ} {m : Map} (h : MapIn s m) {src tgt : ℕ} {row vars type
       → equalities sig table (sideIn s src row) target (pairsIn s m) ≡ equalitiesOver s m vars types (numbersOf (structureIn s tgt))
   unfolding equalities kernelVariables kernelPairs
   equalities-are sig target q = rw q (all-images (numbersOf (structureIn s tgt)))
+
+-- Without kernel pairs there are none.
+pub equalities-none : (sig : Signature) (table : List Variable) (source target : Side) (ps : List Pair) {st : Structure} {r : Bool}
+    → target .structure ≡ st → r ≡ not (empty (kernelPairs ps st)) → not r ≡ true → equalities sig table source target ps ≡ []
+unfolding equalities kernelVariables each
+equalities-none sig table source target ps {st} q e n = rw (q, none (kernelPairs ps st) (rw e at n))
+  where
+    none : (ks : List Pair) → not (not (empty ks)) ≡ true → ks ≡ []
+    none [] x = refl
+    none (k ∷ ks) x = never x refl

@@ -1,6 +1,7 @@
 pub mod Structures
 pub mod Variables
 pub mod Elements
+pub mod Unsaid
 pub mod Rows
 pub mod Whole
 pub mod Fibers

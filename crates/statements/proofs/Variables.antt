@@ -6,6 +6,7 @@ use mathlib.Core.Path.{_≡_, refl, sym, _∙_}
 use lib.ListN.{length, getD, set, take, drop, length-set, drop-of-length-le}
 use lib.Seq.{getD-take, length-take-le, take-all}
 use Rattle.definition.specs.Base.{each, _∈_}
+use Rattle.definition.specs.Group.{Statement}
 use Rattle.definition.specs.Limits.{columnLimit}
 use Rattle.definition.specs.Names.{numbersOf, variableAt}
 use Rattle.definition.specs.Records.{numbers}
@@ -14,8 +15,9 @@ use Rattle.definition.specs.Writer.{twoBytes, numberBytes, statementField, fiel
 use Rattle.theory.proofs.Lists.{never, mem-has, each-append}
 use Rattle.theory.proofs.Numbers.{length-numbers-written}
 use Rattle.records.specs.Places.{twoAt, stretch}
-use Rattle.records.specs.Buffer.{headBytes}
+use Rattle.records.specs.Buffer.{Put, capped, headBytes}
 use Rattle.records.proofs.Link.{one-more}
+use Rattle.records.proofs.Tail.{counted}
 use Rattle.rule.specs.Elements.{elementNumbers, Finds}
 use Rattle.rule.specs.declared.elements.Found.the-variants.{At, Nothing}
 use Rattle.rule.proofs.Finding.{numbers-length}
@@ -100,3 +102,12 @@ statement-parts letter x h =
     let b = length-take-le (x .count) (x .vars) h in
     let n : suc (length (numberBytes (x .symbol ∷ take (x .count) (x .vars)))) ≡ 3 + 2 * x .count = omega arith in
     rw (← n)
+
+-- A statement by its length. Where nothing of it fits, it is counted.
+module _ (letter : ℕ) (x : Statement) where
+  pub statement-long : length (fieldBytes (statementField letter x)) ≡ 6 + 2 * length (x .variables)
+  unfolding fieldBytes statementField numberBytes
+  statement-long = let n = length-numbers-written (x .symbol ∷ x .variables) in omega arith
+
+  pub beyond : {out : List ℕ} {from r : ℕ} → r ≡ capped (from + length (fieldBytes (statementField letter x))) → length out ≤ from → Put out out (fieldBytes (statementField letter x)) from r
+  beyond {out} {from} e h = let n = statement-long in counted out (fieldBytes (statementField letter x)) from e (omega arith)

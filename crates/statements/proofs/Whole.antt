@@ -10,6 +10,7 @@ use lib.ListN.{length, take}
 use lib.Seq.{take-all}
 use Rattle.definition.specs.Base.{consIf, keep, each, butLast, _∈_}
 use Rattle.definition.specs.Letters.{predicate, function, funcDomain}
+use Rattle.definition.specs.Names.{variableAt}
 use Rattle.definition.specs.Rule.{Structure, Row}
 use Rattle.definition.specs.Rows.{members, rowStatement, typeSets}
 use Rattle.theory.proofs.ByteForm.{statementBytes, statements-append}
@@ -18,7 +19,7 @@ use Rattle.flags.specs.Flags.{flagAt}
 use Rattle.naming.specs.Structures.{structureIn}
 use Rattle.naming.specs.Variables.{variablesIn}
 use Rattle.naming.proofs.Choices.{each-same}
-use Rattle.statements.specs.Said.{flaggedFrom, flagged, memberFlag, saidBy, domainsBy}
+use Rattle.statements.specs.Said.{flaggedFrom, flagged, memberFlag, appsBy, saidBy, domainsBy}
 use Rattle.statements.specs.Structures.{Stands}
 use Rattle.statements.specs.Parts.{variableBy, placeR, placeA, partStatement, chosenStatements}
 use Rattle.statements.specs.declared.masks.Masks.{Masks}
@@ -65,13 +66,11 @@ module _ {s index : List ℕ} {k : ℕ} (w : Stands s index k) (row : List ℕ) 
   unfolding chosenStatements
   funcs-whole mask = rows-whole function mask (st .funcRows) (λ r m. w .at .sound .funcs-sound r m .0)
 
-  pub said-parts : (letter : ℕ) (masks : Masks) → statementBytes letter (saidBy st (variablesIn st row) masks)
+  pub apps-parts : (letter : ℕ) (masks : Masks) → statementBytes letter (appsBy st (variablesIn st row) masks)
       ≡ statementBytes letter (chosenStatements st row (record { place = placeR; mask = masks .preds; kind = predicate; omitted = 0 }))
       ++ statementBytes letter (chosenStatements st row (record { place = placeA; mask = masks .funcs; kind = function; omitted = 0 }))
       ++ statementBytes letter (each (rowStatement (variableBy st row)) (keep (memberFlag st (masks .members)) (members st)))
-      ++ statementBytes letter (typeSets (variableBy st row) (flagged (masks .free) (st .elements)))
-  unfolding saidBy
-  said-parts letter masks = rw (preds-whole (masks .preds), funcs-whole (masks .funcs), each-append, each-append, statements-append, statements-append, statements-append)
+  apps-parts letter masks = rw (preds-whole (masks .preds), funcs-whole (masks .funcs), each-append, each-append, statements-append, statements-append)
 
   pub domains-are : (letter mask : ℕ) → statementBytes letter (chosenStatements st row (record { place = placeA; mask = mask; kind = funcDomain; omitted = 1 })) ≡ statementBytes letter (domainsBy st (variablesIn st row) mask)
   unfolding chosenStatements domainsBy partStatement
@@ -79,3 +78,8 @@ module _ {s index : List ℕ} {k : ℕ} (w : Stands s index k) (row : List ℕ) 
     where
       domain : (r : Row) → partStatement (variableBy st row) funcDomain 1 r ≡ record { kind = funcDomain; symbol = r .symbol; variables = each (variableBy st row) (butLast (r .elements)) }
       domain r = rw (but-last (r .elements))
+
+pub said-parts : (letter : ℕ) (st : Structure) (variables : List ℕ) (masks : Masks) → statementBytes letter (saidBy st variables masks)
+    ≡ statementBytes letter (appsBy st variables masks) ++ statementBytes letter (typeSets (variableAt st variables) (flagged (masks .free) (st .elements)))
+unfolding saidBy
+said-parts letter st variables masks = statements-append letter (appsBy st variables masks) _

@@ -23,11 +23,13 @@ flagged mask xs = flaggedFrom mask 0 xs
 unfoldable pub memberFlag : Structure → ℕ → Row → Bool
 memberFlag st mask r = flagAt mask (placeFrom 0 (lastElement r) (numbersOf st))
 
--- The flagged R rows, A rows, member rows, and TypeSets of the flagged elements without parents.
+-- The flagged R rows, A rows and member rows.
+abbrev pub appsBy : Structure → List ℕ → Masks → List Statement
+appsBy st variables masks = each (rowStatement (variableAt st variables)) (flagged (masks .preds) (st .predRows) ++ flagged (masks .funcs) (st .funcRows) ++ keep (memberFlag st (masks .members)) (members st))
+
+-- These, and TypeSets of the flagged elements without parents.
 unfoldable pub saidBy : Structure → List ℕ → Masks → List Statement
-saidBy st variables masks =
-    each (rowStatement (variableAt st variables)) (flagged (masks .preds) (st .predRows) ++ flagged (masks .funcs) (st .funcRows) ++ keep (memberFlag st (masks .members)) (members st))
-    ++ typeSets (variableAt st variables) (flagged (masks .free) (st .elements))
+saidBy st variables masks = appsBy st variables masks ++ typeSets (variableAt st variables) (flagged (masks .free) (st .elements))
 
 -- FuncDomain of each flagged A row.
 unfoldable pub domainsBy : Structure → List ℕ → ℕ → List Statement

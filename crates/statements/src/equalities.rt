@@ -20,8 +20,10 @@ ghost use Rattle.naming.specs.Variables.{GivenOut};
 ghost use Rattle.statements.specs.Structures.{Stands, sideIn};
 ghost use Rattle.statements.specs.Equalities.{varsOver, equalityOf, equalitiesAmong, equalitiesOver};
 use crate::statement::Statement;
+use crate::statement::counted;
 use crate::statement::put_statement;
 use records::fields::place;
+use rows::kernel::has_kernel_pairs;
 use rows::kernel::key_vars;
 use rows::maps::Map;
 use rows::maps::pair_image;
@@ -31,11 +33,18 @@ use rule::ids::ElId;
 use rule::ids::RULE_INDEX;
 use signature::ids::EQUALITY;
 
+// How many variables an Equality has.
+const EQUALITY_VARS: usize = 2;
+
 // The Equality of two variables, typed as the first one is.
 fn put_equality(out: &mut [u8], from: usize, letter: u8, types: &[u16], v: u16, w: u16) -> usize
     requires { ⌜ (from ≤ countLimit) × (v < length (now types)) ⌝ }
     ensures { λ r. ⌜ Put (now (out .entry)) (now (out .exit)) (fieldBytes (statementField letter (equalityOf (now (types .entry)) v w))) from r ⌝ }
 {
+    // Nothing of it fits: its length is enough.
+    if out.len() <= from {
+        return counted(from, EQUALITY_VARS);
+    }
     let symbol = types[place(v)];
     let vars = [v, w, 0, 0, 0, 0, 0, 0];
     put_statement(
@@ -46,7 +55,7 @@ fn put_equality(out: &mut [u8], from: usize, letter: u8, types: &[u16], v: u16, 
             kind: EQUALITY,
             symbol,
             vars,
-            count: 2,
+            count: EQUALITY_VARS,
         },
     )
 }
@@ -110,7 +119,7 @@ fn put_fiber(
 }
 
 // Those of every element of the target, in the elements' order.
-fn put_fibers(
+fn put_kernel_pairs(
     out: &mut [u8],
     from: usize,
     letter: u8,
@@ -159,6 +168,10 @@ pub fn put_equalities(
         → Put (now (out .entry)) (now (out .exit)) (statementBytes letter (definition.equalities sig table (sideIn (now (s .entry)) src row) target (pairsIn (now (s .entry)) m))) from r) ⌝ }
     ensures { λ r. ⌜ r ≤ countLimit ⌝ }
 {
+    // Without kernel pairs the keys' variables need not be looked up.
+    if !has_kernel_pairs(s, index, tgt, m) {
+        return from;
+    }
     let vars = key_vars(s, index, src, &row, m);
-    put_fibers(out, from, letter, s, index, tgt, m, &vars, types)
+    put_kernel_pairs(out, from, letter, s, index, tgt, m, &vars, types)
 }

@@ -12,6 +12,7 @@ ghost use Rattle.statements.specs.Structures.{Stands};
 ghost use Rattle.statements.specs.Parts.{elementSaid, membersSaid, typesSaid};
 use crate::sections::vars_of;
 use crate::statement::Statement;
+use crate::statement::counted;
 use crate::statement::put_statement;
 use flags::flag;
 use records::fields::wide;
@@ -40,6 +41,10 @@ fn put_element(
 {
     let e = read_element(s, index, k, i);
     let n = e.parents;
+    // Nothing of it fits: its length is enough.
+    if out.len() <= from {
+        return counted(from, n + 1);
+    }
     let ty = e.ty;
     let parents = vars_of(s, index, k, row, e.start, n);
     let mut vars = parents;
@@ -72,6 +77,10 @@ pub fn put_members(
     requires { ⌜ Stands (now s) (now index) k ⌝ }
     ensures { λ r. ⌜ Put (now (out .entry)) (now (out .exit)) (statementBytes letter (membersSaid (structureIn (now (s .entry)) k) (now (row .entry)) mask)) from r ⌝ }
 {
+    // No flag is set: nothing is said, and the members need not be sorted.
+    if mask == 0 {
+        return from;
+    }
     let m = sorted_members(s, index, k);
     let order = m.order;
     let mut at = from;
@@ -123,6 +132,10 @@ pub fn put_type_sets(
     requires { ⌜ Stands (now s) (now index) k ⌝ }
     ensures { λ r. ⌜ Put (now (out .entry)) (now (out .exit)) (statementBytes letter (typesSaid (structureIn (now (s .entry)) k) (now (row .entry)) (flagged mask (structureIn (now (s .entry)) k .elements)))) from r ⌝ }
 {
+    // No flag is set: nothing is said, and the elements need not be gone along.
+    if mask == 0 {
+        return from;
+    }
     let count = element_count(index, k);
     let mut at = from;
     let mut i: usize = 0;

@@ -13,6 +13,7 @@ ghost use Rattle.naming.specs.Structures.{structureIn, Laid};
 ghost use Rattle.statements.specs.Structures.{Stands};
 ghost use Rattle.statements.specs.Parts.{variableBy, NamedIn, rowSaid, chosenStatements, Chooses};
 use crate::statement::Statement;
+use crate::statement::counted;
 use crate::statement::put_statement;
 use flags::flag;
 use records::fields::Field;
@@ -80,6 +81,10 @@ fn put_row(
     requires { ⌜ NamedIn (structureIn (now s) k) (numbers (stretch (now s) (start + 2) (2 * count))) ⌝ }
     ensures { λ r. ⌜ Put (now (out .entry)) (now (out .exit)) (fieldBytes (statementField letter (rowSaid (now (s .entry)) k (now (row .entry)) kind start count))) from r ⌝ }
 {
+    // Nothing of it fits: its length is enough.
+    if out.len() <= from {
+        return counted(from, count);
+    }
     let vars = vars_of(s, index, k, row, start + 2, count);
     let symbol = num(s, start);
     put_statement(
@@ -95,8 +100,8 @@ fn put_row(
     )
 }
 
-// The chosen rows of a structure.
-pub fn put_rows(
+// The chosen rows of a structure, along their section.
+fn put_section(
     out: &mut [u8],
     from: usize,
     letter: u8,
@@ -134,4 +139,26 @@ pub fn put_rows(
         field = next;
     }
     at
+}
+
+// The chosen rows of a structure.
+pub fn put_rows(
+    out: &mut [u8],
+    from: usize,
+    letter: u8,
+    s: &[u8],
+    index: &[u16; RULE_INDEX],
+    k: usize,
+    row: &[u16; 64],
+    chosen: Chosen,
+) -> usize
+    requires { ⌜ (from ≤ countLimit) × Chooses chosen ⌝ }
+    requires { ⌜ Stands (now s) (now index) k ⌝ }
+    ensures { λ r. ⌜ Put (now (out .entry)) (now (out .exit)) (statementBytes letter (chosenStatements (structureIn (now (s .entry)) k) (now (row .entry)) chosen)) from r ⌝ }
+{
+    // No flag is set: nothing is said, and the section need not be gone along.
+    if chosen.mask == 0 {
+        return from;
+    }
+    put_section(out, from, letter, s, index, k, row, chosen)
 }

@@ -1,8 +1,11 @@
 // A statement as a field: its kind, its symbol, its variables.
-ghost use Prim.Native.Nat.{_≤_};
+ghost use mathlib.Core.Path.{_≡_};
+ghost use Prim.Native.Nat.{ℕ, _+_, _≤_};
+ghost use lib.ListN.{length};
+ghost use Rattle.definition.specs.Group as definition;
 ghost use Rattle.definition.specs.Limits.{columnLimit};
 ghost use Rattle.definition.specs.Writer.{statementField, fieldBytes};
-ghost use Rattle.records.specs.Buffer.{Put, countLimit};
+ghost use Rattle.records.specs.Buffer.{Put, capped, countLimit};
 ghost use Rattle.statements.specs.Parts.{statementOf};
 use records::write::past;
 use records::write::put_byte;
@@ -44,4 +47,16 @@ pub fn put_statement(out: &mut [u8], from: usize, letter: u8, x: Statement) -> u
     let rest = rest_at(from, out.len());
     let len = write_statement(&mut out[rest..], letter, x);
     past(from, len)
+}
+
+// The bytes of a statement that stand before its variables: the letter, two of the length, the kind, two of the symbol.
+const BEFORE_VARS: usize = 6;
+
+// Where a statement with so many variables ends. Where nothing of it fits no more than that counts, and its variables need not be
+// looked up.
+pub fn counted(from: usize, count: usize) -> usize
+    requires { ⌜ (from ≤ countLimit) × (count ≤ columnLimit) ⌝ }
+    ensures { λ r. ⌜ ((letter : ℕ) (x : definition.Statement) → length (x .variables) ≡ count → r ≡ capped (from + length (fieldBytes (statementField letter x)))) ⌝ }
+{
+    past(from, BEFORE_VARS + 2 * count)
 }

@@ -4,7 +4,7 @@ ghost use Rattle.theory.proofs.ByteForm.{statementBytes};
 ghost use Rattle.records.specs.Buffer.{Put, countLimit};
 ghost use Rattle.naming.specs.Structures.{structureIn};
 ghost use Rattle.naming.specs.Variables.{variablesIn};
-ghost use Rattle.statements.specs.Said.{saidBy, domainsBy};
+ghost use Rattle.statements.specs.Said.{appsBy, saidBy, domainsBy};
 ghost use Rattle.statements.specs.Structures.{Stands};
 use crate::masks::Masks;
 use crate::members::put_members;
@@ -18,7 +18,39 @@ use signature::ids::FUNC_DOMAIN;
 use signature::ids::FUNCTION;
 use signature::ids::PREDICATE;
 
-// The flagged R rows, A rows and member rows of a structure, then the TypeSets of its flagged elements without parents.
+// The flagged R rows, A rows and member rows of a structure.
+pub fn put_flat_rel_apps(
+    out: &mut [u8],
+    from: usize,
+    letter: u8,
+    s: &[u8],
+    index: &[u16; RULE_INDEX],
+    k: usize,
+    row: &[u16; 64],
+    masks: Masks,
+) -> usize
+    requires { ⌜ from ≤ countLimit ⌝ }
+    requires { ⌜ Stands (now s) (now index) k ⌝ }
+    ensures { λ r. ⌜ Put (now (out .entry)) (now (out .exit)) (statementBytes letter (appsBy (structureIn (now (s .entry)) k) (variablesIn (structureIn (now (s .entry)) k) (now (row .entry))) masks)) from r ⌝ }
+{
+    let preds = Chosen {
+        place: PLACE_R,
+        mask: masks.preds,
+        kind: PREDICATE,
+        omitted: 0,
+    };
+    let funcs = Chosen {
+        place: PLACE_A,
+        mask: masks.funcs,
+        kind: FUNCTION,
+        omitted: 0,
+    };
+    let behind_preds = put_rows(out, from, letter, s, index, k, row, preds);
+    let behind_funcs = put_rows(out, behind_preds, letter, s, index, k, row, funcs);
+    put_members(out, behind_funcs, letter, s, index, k, row, masks.members)
+}
+
+// What a structure says: the flagged rows and member rows, then the TypeSets of its flagged elements without parents.
 pub fn put_said(
     out: &mut [u8],
     from: usize,
@@ -33,22 +65,8 @@ pub fn put_said(
     requires { ⌜ Stands (now s) (now index) k ⌝ }
     ensures { λ r. ⌜ Put (now (out .entry)) (now (out .exit)) (statementBytes letter (saidBy (structureIn (now (s .entry)) k) (variablesIn (structureIn (now (s .entry)) k) row) masks)) from r ⌝ }
 {
-    let preds = Chosen {
-        place: PLACE_R,
-        mask: masks.preds,
-        kind: PREDICATE,
-        omitted: 0,
-    };
-    let funcs = Chosen {
-        place: PLACE_A,
-        mask: masks.funcs,
-        kind: FUNCTION,
-        omitted: 0,
-    };
-    let behind_preds = put_rows(out, from, letter, s, index, k, &row, preds);
-    let behind_funcs = put_rows(out, behind_preds, letter, s, index, k, &row, funcs);
-    let behind_members = put_members(out, behind_funcs, letter, s, index, k, &row, masks.members);
-    put_type_sets(out, behind_members, letter, s, index, k, &row, masks.free)
+    let behind_apps = put_flat_rel_apps(out, from, letter, s, index, k, &row, masks);
+    put_type_sets(out, behind_apps, letter, s, index, k, &row, masks.free)
 }
 
 // FuncDomain of each flagged A row: the row without its result.

@@ -1,5 +1,5 @@
 -- New elements, and free ones.
-use Prim.Native.Nat.{ℕ, _+_, _≤_, _<_}
+use Prim.Native.Nat.{ℕ, _+_, _^_, _≤_, _<_}
 use native.Mathlib.Omega.{arith}
 use mathlib.Core.Bool.{Bool, true, false, not, _&&_}
 use mathlib.Core.List.{List, [], _∷_, _++_, append-nil}
@@ -10,30 +10,16 @@ use borrow.Author.Tests.{lt-ltb, le-ltb}
 use lib.ListN.{length, getD, take, drop, take-append-drop}
 use lib.Seq.{getD-take, take-all}
 use Rattle.definition.specs.Base.{consIf, keep, each}
-use Rattle.definition.specs.Limits.{fieldLimit}
 use Rattle.definition.specs.Rows.{given}
 use Rattle.theory.proofs.Lists.{length-each, getD-each}
 use Rattle.records.proofs.Lists.{keep-append}
 use Rattle.rows.proofs.Kept.{flag-at}
 use Rattle.rows.proofs.Parts.{take-more}
-use Rattle.flags.specs.Flags.{flagAt, Packed}
+use Rattle.flags.specs.Flags.{flagAt, FlagsOf}
+use Rattle.flags.proofs.Bits.{flags-start, flags-set, flags-clear}
 use Rattle.naming.specs.Variables.{keptBy, keptIn}
-use Rattle.steps.specs.Added.{Less}
 use Rattle.steps.specs.Elements.{FreeOf, Two, News}
 use Rattle.steps.specs.declared.elements.New.the-variants as new
-
--- What is neither an image nor marked.
-pub free-are : {all images fresh marks rest : List Bool} {count mask : ℕ} (p q : ℕ → Bool) (els : List ℕ) → count ≡ length els → count ≤ fieldLimit
-    → ((i : ℕ) → i < fieldLimit → getD all i false ≡ true) → take count images ≡ each p els → take count marks ≡ each q els
-    → Less fresh all images → Less rest fresh marks → Packed mask rest fieldLimit → FreeOf mask p q els
-free-are {all} {images} {fresh} {marks} {rest} {count} {mask} p q els n few a e f l k w = record { at = at }
-  where
-    at : (i : ℕ) → i < length els → flagAt mask i ≡ (not (p (getD els i 0)) && not (q (getD els i 0)))
-    at i h =
-        let b : i < fieldLimit = omega arith in
-        let x : getD images i false ≡ p (getD els i 0) = flag-at p els images (rw (← n) e) i 0 h in
-        let y : getD marks i false ≡ q (getD els i 0) = flag-at q els marks (rw (← n) f) i 0 h in
-        w .same i b ∙ k .at i b ∙ rw (l .at i b, a i b, x, y)
 
 -- What a numbered row tells of an element.
 module _ (p : ℕ → Bool) (els row : List ℕ) (first : ℕ) {count : ℕ} (n : count ≡ length els) (e : each given (keptIn first count row) ≡ each p els) where
@@ -52,6 +38,34 @@ module _ (p : ℕ → Bool) (els row : List ℕ) (first : ℕ) {count : ℕ} (n 
 
   pub old-at : (i : ℕ) → i < count → getD row i 0 < first → p (getD els i 0) ≡ true
   old-at i h l = sym (kept-at i h) ∙ rw (lt-ltb _ _ l)
+
+-- What is neither an image nor marked, among the first ones.
+pub record Freed (mask first : ℕ) (row : List ℕ) (marks : List Bool) (count : ℕ) : Type 0 where
+  pub flags : FlagsOf mask (λ (i : ℕ). not (given (keptBy first (getD row i 0))) && not (getD marks i false)) count
+
+pub free-start : (first : ℕ) (row : List ℕ) (marks : List Bool) → Freed 0 first row marks 0
+free-start first row marks = record { flags = flags-start _ }
+
+module _ {mask first : ℕ} {row : List ℕ} {marks : List Bool} {i : ℕ} (w : Freed mask first row marks i) where
+  pub free-old : getD row i 0 < first → Freed mask first row marks (i + 1)
+  free-old l = record { flags = flags-clear (w .flags) (rw (lt-ltb _ _ l)) }
+
+  module _ (l : first ≤ getD row i 0) where
+    pub free-marked : not (getD marks i false) ≡ false → Freed mask first row marks (i + 1)
+    free-marked e = record { flags = flags-clear (w .flags) (rw (le-ltb _ _ l, e)) }
+
+    pub free-new : not (getD marks i false) ≡ true → Freed (mask + 2 ^ i) first row marks (i + 1)
+    free-new e = record { flags = flags-set (w .flags) (rw (le-ltb _ _ l, e)) }
+
+pub free-are : {row : List ℕ} {marks : List Bool} {first count mask : ℕ} → Freed mask first row marks count → (p q : ℕ → Bool) (els : List ℕ) → count ≡ length els
+    → each given (keptIn first count row) ≡ each p els → take count marks ≡ each q els → FreeOf mask p q els
+free-are {row} {marks} {first} {count} {mask} w p q els n e f = record { at = at }
+  where
+    at : (i : ℕ) → i < length els → flagAt mask i ≡ (not (p (getD els i 0)) && not (q (getD els i 0)))
+    at i h =
+        let b : i < count = omega arith in
+        let y : getD marks i false ≡ q (getD els i 0) = flag-at q els marks (rw (← n) f) i 0 h in
+        w .flags .same i b ∙ rw (kept-at p els row first n e i b, y)
 
 -- The search for new elements: none so far, or one.
 abbrev fresh : (ℕ → Bool) → List ℕ → List ℕ

@@ -3,21 +3,18 @@ use Prim.Native.Nat.{ℕ, suc, _+_, _-_, _/_, _%_, _^_, _≤_, _<_}
 use native.Mathlib.Omega.{arith}
 use native.Mathlib.Decide.{ℕ-discrete}
 use native.Mathlib.Nat.{add-zero, zero-add, div-eq-of-lt}
-use mathlib.Core.Bool.{Bool, true, false, not, _&&_}
+use mathlib.Core.Bool.{Bool, true, false}
 use mathlib.Core.List.{List, [], _∷_}
 use mathlib.Core.Logic.{_⊎_, inl, inr}
 use mathlib.Core.Path.{_≡_, refl, sym, _∙_}
 use borrow.Author.Tests.{ne-eqb}
 use lib.Dec.{eqb}
-use lib.ListN.{length, getD, set, take, length-set}
-use lib.Seq.{getD-take, getD-set-same, getD-set-other}
+use lib.ListN.{length, getD, take}
+use lib.Seq.{getD-take}
 use Rattle.definition.specs.Base.{consIf, keep, each}
-use Rattle.definition.specs.Limits.{fieldLimit}
 use Rattle.theory.proofs.Lists.{trichotomy}
-use Rattle.rows.proofs.Parts.{and-false, and-one}
 use Rattle.flags.specs.Flags.{flagAt, Packed}
 use Rattle.flags.proofs.Bits.{pow-pos, pow-twice, bit-new, bit-old}
-use Rattle.steps.specs.Added.{Less}
 use Rattle.statements.specs.Said.{flaggedFrom, flagged}
 
 module _ {A : Type 0} (mask : ℕ) (f : A → Bool) where
@@ -34,38 +31,7 @@ module _ {A : Type 0} (mask : ℕ) (f : A → Bool) where
   flagged-keep xs h = flagged-from 0 xs (λ j l. let e : 0 + j ≡ j = omega arith in rw e (h j l))
 
   pub packed-keep : {row : List Bool} {count : ℕ} (xs : List A) → Packed mask row count → length xs ≤ count → take (length xs) row ≡ each f xs → flagged mask xs ≡ keep f xs
-  packed-keep {row} xs p l e = flagged-keep xs (λ j h. p .same j (omega arith) ∙ sym (getD-take (length xs) row j false h) ∙ rw e)
-
--- The flags of a row that another does not have, up to a place.
-pub record Lessening (flags others rest : List Bool) (i : ℕ) : Type 0 where
-  pub long : length rest ≡ fieldLimit
-  pub done : (j : ℕ) → j < i → getD rest j false ≡ (getD flags j false && not (getD others j false))
-  pub left : (j : ℕ) → i ≤ j → getD rest j false ≡ getD flags j false
-
-pub less-start : (flags others : List Bool) → length flags ≡ fieldLimit → Lessening flags others flags 0
-less-start flags others l = record { long = l; done = λ j h. absurd (omega arith); left = λ j h. refl }
-
-module _ {flags others rest : List Bool} {i : ℕ} (w : Lessening flags others rest i) where
-  pub less-set : i < fieldLimit → getD others i false ≡ true → Lessening flags others (set rest i false) (i + 1)
-  less-set l e = record {
-    long = rw length-set (w .long);
-    done = λ j h. go j h (ℕ-discrete j i);
-    left = λ j h. getD-set-other rest i j false false (λ q. omega arith) ∙ w .left j (omega arith);
-  }
-    where
-      go : (j : ℕ) → j < i + 1 → Dec (j ≡ i) → getD (set rest i false) j false ≡ (getD flags j false && not (getD others j false))
-      go j h (yes q) = rw (q, e, and-false (getD flags i false)) (getD-set-same rest i false false (rw (w .long) l))
-      go j h (no q) = getD-set-other rest i j false false (λ r. q r) ∙ w .done j (omega arith)
-
-  pub less-clear : getD others i false ≡ false → Lessening flags others rest (i + 1)
-  less-clear e = record { long = w .long; done = λ j h. go j h (ℕ-discrete j i); left = λ j h. w .left j (omega arith) }
-    where
-      go : (j : ℕ) → j < i + 1 → Dec (j ≡ i) → getD rest j false ≡ (getD flags j false && not (getD others j false))
-      go j h (yes q) = rw (q, e, and-one (getD flags i false)) (w .left i (omega arith))
-      go j h (no q) = w .done j (omega arith)
-
-  pub less-end : fieldLimit ≤ i → Less rest flags others
-  less-end h = record { at = λ j l. w .done j (omega arith) }
+  packed-keep {row} xs p l e = flagged-keep xs (λ j h. p .flags .same j (omega arith) ∙ sym (getD-take (length xs) row j false h) ∙ rw e)
 
 -- No flag is set in nothing, and one in the power of its place.
 pub no-flag : (i : ℕ) → flagAt 0 i ≡ false

@@ -1,5 +1,5 @@
 -- The new rows of a map's target, by the three sorts.
-use Prim.Native.Nat.{ℕ, _+_, _*_, _≤_, _<_}
+use Prim.Native.Nat.{ℕ, min, _+_, _-_, _*_, _/_, _≤_, _<_}
 use native.Mathlib.Omega.{arith}
 use mathlib.Core.Bool.{Bool, true, false, not, _&&_}
 use mathlib.Core.List.{List, [], _∷_}
@@ -26,14 +26,14 @@ use Rattle.rows.specs.declared.table.Images.{Images}
 use Rattle.rows.specs.declared.table.Images.the-variants as images
 use Rattle.rows.proofs.ElementLaws.{noElement, elements-many, elements-get}
 use Rattle.rows.proofs.Kept.{flag-at}
-use Rattle.flags.specs.Flags.{Packed}
+use Rattle.flags.specs.Flags.{Packed, PackedLess}
 use Rattle.naming.specs.Structures.{structureIn}
 use Rattle.statements.specs.Structures.{SoundAt}
-use Rattle.steps.specs.Added.{Between, SectionRun, SectionRows, Less, NewRows, NewMembers, sourceLacks, AddsRows}
+use Rattle.steps.specs.Added.{Between, SectionRun, SectionRows, NewRows, NewMembers, sourceLacks, AddsRows}
 use Rattle.steps.specs.declared.added.Flagged.{Flagged}
 use Rattle.steps.specs.declared.added.Flagged.the-variants as flagged-as
 use Rattle.steps.specs.declared.step.Step.the-variants.{Adds, Refused}
-use Rattle.steps.proofs.Masks.{packed-keep}
+use Rattle.steps.proofs.Masks.{packed-keep, none-flagged}
 
 -- The same fields stand between two positions, however they were told.
 pub run-same : {s : List ℕ} {at end : ℕ} {fs gs : List Field} → Run s at end fs → Run s at end gs → fs ≡ gs
@@ -64,23 +64,36 @@ pub rows-lack : {pairs : List Pair} {sources targets : List Row} {symbols els : 
     → NewRows flagged-as.Unmapped pairs sources targets
 rows-lack w e = record { is = lacking w e }
 
--- They are few.
-pub section-few : {s : List ℕ} {from end : ℕ} {fs : List Field} → RowsFrom s from end → Run s from end fs → length fs ≤ fieldLimit
-section-few w r = rw (run-same r (w .run)) (w .few)
+-- They are few: no more than the limit, nor than there is room for.
+run-most : {s : List ℕ} {at end : ℕ} {fs : List Field} → Run s at end fs → at + 3 * length fs ≤ end
+run-most none = omega arith
+run-most {s} (more {at} e r) = let g = got-is s at e in let h = run-most r in omega arith
+
+pub section-few : {s : List ℕ} {from end most : ℕ} {fs : List Field} → RowsFrom s from end → Run s from end fs → most ≡ min ((end - from) / 3) fieldLimit → length fs ≤ most
+section-few {s} {from} {end} {most} {fs} w r e = let a = run-most r in let b : length fs ≤ fieldLimit = rw (run-same r (w .run)) (w .few) in omega arith
+
+pub section-room : {s : List ℕ} {from end : ℕ} → RowsFrom s from end → from ≤ end
+section-room w = run-le (w .run)
 
 pub images-few : {s : List ℕ} {from end : ℕ} {pairs : List Pair} {symbols els : List ℕ} {r : Images} {n : ℕ} (w : RowsFrom s from end)
     → Imaged r pairs (each (rowOf 0) (w .fields)) symbols els → r ≡ images.Count n → n ≤ fieldLimit
 images-few w i e = let a = few-images i e in let b = length-each (rowOf 0) (w .fields) in omega (arith, w .few)
 
-pub rows-new : {kind n mask : ℕ} {columns : ℕ → ℕ} {pairs : List Pair} {sources : List Row} {symbols els : List ℕ} {flags : List Bool} {r : Images} (gs : List Field)
-    → Imaged r pairs sources symbols els → r ≡ images.Count n → Alike kind columns sources → length gs ≤ fieldLimit
+pub rows-new : {kind n mask most : ℕ} {columns : ℕ → ℕ} {pairs : List Pair} {sources : List Row} {symbols els : List ℕ} {flags : List Bool} {r : Images} (gs : List Field)
+    → Imaged r pairs sources symbols els → r ≡ images.Count n → Alike kind columns sources → length gs ≤ most
     → (Holds kind columns pairs sources symbols els n → take (length gs) flags ≡ each (isNew pairs sources) (each (rowOf kind) gs))
-    → Packed mask flags fieldLimit → NewRows (flagged-as.Of mask) pairs sources (each (rowOf kind) gs)
+    → Packed mask flags most → NewRows (flagged-as.Of mask) pairs sources (each (rowOf kind) gs)
 rows-new {kind} {mask = mask} {pairs = pairs} {sources} gs w e a l h p =
     let v = rw e at w in
     let t = h (record { held = v .is .2; count = v .is .1; alike = a }) in
     let n = length-each (rowOf kind) gs in
     record { is = (v .is .0, packed-keep mask (isNew pairs sources) (each (rowOf kind) gs) p (omega arith) (rw n t)) }
+
+-- Without rows on either side there is nothing new.
+pub no-rows : {s : List ℕ} {from end start stop : ℕ} (kind : ℕ) {pairs : List Pair} {fs gs : List Field} → Run s from end fs → from ≡ end → Run s start stop gs → start ≡ stop
+    → NewRows (flagged-as.Of 0) pairs (each (rowOf kind) fs) (each (rowOf kind) gs)
+unfolding each any keep
+no-rows kind r e q d = rw (run-end r (omega arith), run-end q (omega arith)) (record { is = (refl, none-flagged {A = Row} []) })
 
 -- The sections of a structure: the third are its R rows, the fourth its A rows.
 module _ {sig : Signature} {s index : List ℕ} {k : ℕ} (w : SoundAt sig s index k) where
@@ -127,21 +140,18 @@ module _ {s index : List ℕ} {src tgt : ℕ} {m : Map} (w : Between s index src
       let d = elements-many s index src in
       let f = w .source-at .laid .elements .elements .few in omega arith
 
-  pub members-new : {symbols els : List ℕ} {r : Images} {n mask : ℕ} {flags rest marks : List Bool}
+  pub members-new : {symbols els : List ℕ} {r : Images} {n mask : ℕ} {flags marks : List Bool}
       → Imaged r (pairsIn s m) (memberRows (elementsIn s index src)) symbols els → r ≡ images.Count n
       → (Holds member (λ (t : ℕ). length (typeParents (w .sig) t) + 1) (pairsIn s m) (memberRows (elementsIn s index src)) symbols els n
       → Alike member (λ (t : ℕ). length (typeParents (w .sig) t) + 1) (memberRows (elementsIn s index tgt))
       → take (countAt index tgt) flags ≡ each (newMember (pairsIn s m) (memberRows (elementsIn s index src))) (elementsIn s index tgt))
-      → Less rest flags marks → Packed mask rest fieldLimit → NewMembers (flagged-as.Of mask) s index src tgt m marks
-  members-new {n = n} {mask} {flags} {rest} {marks} i e h l p =
+      → PackedLess mask flags marks (countAt index tgt) → NewMembers (flagged-as.Of mask) s index src tgt m marks
+  members-new {n = n} {mask} {flags} {marks} i e h p =
       let v = rw e at i in
       let t = h (record { held = v .is .2; count = v .is .1; alike = rw (w .source-at .laid .same) at (w .source-at .members-alike) }) (rw (w .target-at .laid .same) at (w .target-at .members-alike)) in
       let u : take (countAt index tgt) flags ≡ each (newMember (pairsIn s m) olds) (elementsIn s index tgt) = rw (← old-rows) t in
-      record { is = (rw old-rows at (v .is .0), λ j q. p .same j (few j q) ∙ l .at j (few j q) ∙ ap (λ (b : Bool). b && not (getD marks j false)) (at u j q)) }
+      record { is = (rw old-rows at (v .is .0), λ j q. p .flags .same j q ∙ ap (λ (b : Bool). b && not (getD marks j false)) (at u j q)) }
     where
-      few : (j : ℕ) → j < countAt index tgt → j < fieldLimit
-      few j q = let f = members-few in omega arith
-
       at : take (countAt index tgt) flags ≡ each (newMember (pairsIn s m) olds) (elementsIn s index tgt) → (j : ℕ) → j < countAt index tgt
           → getD flags j false ≡ newMember (pairsIn s m) olds (elementIn s index tgt j)
       at u j q =

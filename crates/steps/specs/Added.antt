@@ -5,7 +5,6 @@ use mathlib.Core.List.{List}
 use mathlib.Core.Path.{_≡_}
 use lib.ListN.{getD}
 use Rattle.definition.specs.Base.{keep, any}
-use Rattle.definition.specs.Limits.{fieldLimit}
 use Rattle.definition.specs.Records.{Field}
 use Rattle.definition.specs.Rule.{Row, Pair}
 use Rattle.definition.specs.Signature.{Signature}
@@ -39,10 +38,6 @@ SectionRun s index k section fs = Run s (getD index (6 * k + section) 0) (getD i
 
 abbrev pub SectionRows : List ℕ → List ℕ → ℕ → ℕ → Type 0
 SectionRows s index k section = RowsFrom s (getD index (6 * k + section) 0) (getD index (6 * k + section + 1) 0)
-
--- The flags of a row that another does not have.
-pub record Less (rest flags others : List Bool) : Type 0 where
-  pub at : (i : ℕ) → i < fieldLimit → getD rest i false ≡ (getD flags i false && not (getD others i false))
 
 -- The new rows of a section, or that an element of a row of the source has no image.
 abbrev NewRowsAs : Flagged → List Pair → List Row → List Row → Type 0

@@ -1,24 +1,28 @@
 // The rows and members of a map's target that are no images of the source's: a flag for each, or that a row of the source has an
 // element without an image.
 ghost use mathlib.Core.List.{List};
-ghost use Prim.Native.Nat.{ℕ, _≤_, _<_};
+ghost use mathlib.Core.Path.{_≡_};
+ghost use Prim.Native.Nat.{ℕ, min, _-_, _/_, _≤_, _<_};
 ghost use Rattle.definition.specs.Base.{each};
-ghost use Rattle.definition.specs.Limits.{structureLimit};
+ghost use Rattle.definition.specs.Limits.{structureLimit, fieldLimit};
 ghost use Rattle.definition.specs.Records as definition;
 ghost use Rattle.definition.specs.Rule.{rowOf};
+ghost use Rattle.records.specs.Places.{Run};
 ghost use Rattle.rows.specs.Maps.{pairsIn, MapIn};
-ghost use Rattle.rows.specs.Table.{Alike};
-ghost use Rattle.steps.specs.Added.{Between, SectionRun, SectionRows, NewRows, NewMembers, Less, AddsRows};
+ghost use Rattle.rows.specs.Table.{RowsFrom, Alike};
+ghost use Rattle.steps.specs.Added.{Between, SectionRun, SectionRows, NewRows, NewMembers, AddsRows};
 use crate::step::Step;
 use flags::packed;
+use flags::packed_less;
 use rows::maps::Map;
 use rows::members::mapped_members;
 use rows::members::new_members;
 use rows::table::Images;
 use rows::table::ROWS;
 use rows::table::TABLE;
-use rows::table::mapped_rows;
+use rows::table::mapped_rel_apps;
 use rows::table::new_rows;
+use rule::elements::element_count;
 use rule::ids::LETTERS;
 use rule::ids::RULE_INDEX;
 use rule::ids::SECTION_S;
@@ -36,22 +40,46 @@ pub const SECTION_R: usize = SECTION_S + 2;
 
 pub const SECTION_A: usize = SECTION_S + 3;
 
-// The flags of a row that another does not have.
-pub fn less(flags: [bool; ROWS], others: [bool; ROWS]) -> [bool; ROWS]
-    ensures { λ r. ⌜ Less r flags others ⌝ }
+// As many fields as there can be between two positions, each with a head of three bytes, up to a structure's limit: so few are
+// looked at where there are few.
+fn most_fields(from: usize, end: usize) -> usize
+    requires { ⌜ from ≤ end ⌝ }
+    ensures { λ r. ⌜ r ≡ min ((end - from) / 3) fieldLimit ⌝ }
 {
-    let mut rest = flags;
-    let mut i: usize = 0;
-    while i < ROWS {
-        if others[i] {
-            rest[i] = false;
-        }
-        i += 1;
+    let most = (end - from) / 3;
+    if ROWS < most {
+        return ROWS;
     }
-    rest
+    most
 }
 
-// Which R or A rows of the target are new.
+// Which rows from `start` to `stop` are no images of those from `from` to `end`.
+fn new_between(
+    s: &[u8],
+    from: usize,
+    end: usize,
+    m: Map,
+    start: usize,
+    stop: usize,
+) -> Flagged
+    requires { ⌜ MapIn (now s) m ⌝ }
+    requires { ⌜ RowsFrom (now s) from end ⌝ }
+    requires { ⌜ RowsFrom (now s) start stop ⌝ }
+    ensures { λ r. ⌜ ((kind : ℕ) (columns : ℕ → ℕ) (fs gs : List definition.Field) → Run (now (s .entry)) from end fs → Run (now (s .entry)) start stop gs
+        → Alike kind columns (each (rowOf kind) fs) → Alike kind columns (each (rowOf kind) gs)
+        → NewRows r (pairsIn (now (s .entry)) m) (each (rowOf kind) fs) (each (rowOf kind) gs)) ⌝ }
+{
+    let mut symbols = [0u16; ROWS];
+    let mut els = [0u16; TABLE];
+    let mapped = mapped_rel_apps(s, from, end, m, &mut symbols, &mut els);
+    let Images::Count(images) = mapped else {
+        return Flagged::Unmapped;
+    };
+    let new = new_rows(s, start, stop, &symbols, &els, images);
+    Flagged::Of(packed(new, most_fields(start, stop)))
+}
+
+// Which R or A rows of the target are new. Small rules often have none on either side: then no tables are cleared for them.
 fn new_section(
     s: &[u8],
     index: &[u16; RULE_INDEX],
@@ -69,20 +97,18 @@ fn new_section(
         → Alike kind columns (each (rowOf kind) fs) → Alike kind columns (each (rowOf kind) gs)
         → NewRows r (pairsIn (now (s .entry)) m) (each (rowOf kind) fs) (each (rowOf kind) gs)) ⌝ }
 {
-    let mut symbols = [0u16; ROWS];
-    let mut els = [0u16; TABLE];
     let source = LETTERS * src + section;
     let from = bound(index, source);
     let end = bound(index, source + 1);
-    let mapped = mapped_rows(s, from, end, m, &mut symbols, &mut els);
-    let Images::Count(images) = mapped else {
-        return Flagged::Unmapped;
-    };
     let target = LETTERS * tgt + section;
-    let from = bound(index, target);
-    let end = bound(index, target + 1);
-    let new = new_rows(s, from, end, &symbols, &els, images);
-    Flagged::Of(packed(new, ROWS))
+    let start = bound(index, target);
+    let stop = bound(index, target + 1);
+    if from == end {
+        if start == stop {
+            return Flagged::Of(0);
+        }
+    }
+    new_between(s, from, end, m, start, stop)
 }
 
 // Which elements of the target have a new member row and no mark.
@@ -104,7 +130,7 @@ fn new_unmarked(
         return Flagged::Unmapped;
     };
     let new = new_members(s, index, tgt, &symbols, &els, images);
-    Flagged::Of(packed(less(new, marks), ROWS))
+    Flagged::Of(packed_less(new, marks, element_count(index, tgt)))
 }
 
 // 26, else the flags of the new rows, with the members that have no mark.

@@ -9,9 +9,7 @@ ghost use Rattle.definition.specs.Limits.{fieldLimit};
 ghost use Rattle.definition.specs.Rows.{given};
 ghost use Rattle.naming.specs.Variables.{keptIn};
 ghost use Rattle.steps.specs.Elements.{FreeOf, News};
-use crate::added::less;
-use flags::packed;
-use naming::variables::image_els;
+use flags::with_flag;
 use rows::table::ROWS;
 
 // The new elements of a target: none, one at a place, or more.
@@ -26,9 +24,17 @@ pub fn free_els(target: [u16; 64], count: usize, first: u16, marks: [bool; ROWS]
     requires { ⌜ count ≤ fieldLimit ⌝ }
     ensures { λ r. ⌜ ((p q : ℕ → Bool) (els : List ℕ) → count ≡ length els → each given (keptIn first count target) ≡ each p els → take count marks ≡ each q els → FreeOf r p q els) ⌝ }
 {
-    let images = image_els(target, count, first);
-    let new = less([true; ROWS], images);
-    packed(less(new, marks), ROWS)
+    let mut mask: u64 = 0;
+    let mut i: usize = 0;
+    while i < count {
+        if first <= target[i] {
+            if !marks[i] {
+                mask = with_flag(mask, i);
+            }
+        }
+        i += 1;
+    }
+    mask
 }
 
 // Which elements of a numbered row are new.

@@ -9,10 +9,10 @@ use Rattle.kinds.proofs.table.complete.Statement.{statement}
 use Rattle.kinds.proofs.table.complete.Tie as tie
 
 abbrev Inv-loop : tie.InvT-loop
-Inv-loop s index auxiliaries table₀ at₀ table at = Completing s (auxiliaries .to) at table
+Inv-loop s index table₀ auxiliaries at₀ table at = Completing s (auxiliaries .to) at table
 
 abbrev μ-loop : tie.MeasureT-loop
-μ-loop s index auxiliaries table₀ at₀ table at = auxiliaries .to - at
+μ-loop s index table₀ auxiliaries at₀ table at = auxiliaries .to - at
 
 section-behind-requires : tie.Need-section-behind-requires Inv-loop μ-loop
 section-behind-requires c κs = search needs
@@ -39,19 +39,19 @@ lowest-source-requires : tie.Need-lowest-source-requires Inv-loop μ-loop
 lowest-source-requires c κs = search needs
 
 class-at-requires : tie.Need-class-at-requires Inv-loop μ-loop
-class-at-requires c κs = let g = sym (c .before .before .before .before .before .read-field .ensures .0) ∙ c .before .before .before .f .given .1 in (values-inside (c .before .before .before .before .before .before .before .before .loop .inv .values) (c .before .before .before .before .before .before .if1 .taken) g, values-long (c .before .before .before .before .before .before .before .before .loop .inv .values) (c .before .before .before .before .before .before .if1 .taken) g)
+class-at-requires c κs = let g = sym (c .before .before .before .before .before .before .read-field .ensures .0) ∙ c .before .before .before .before .f .given .1 in (values-inside (c .before .before .before .before .before .before .before .before .before .loop .inv .values) (c .before .before .before .before .before .before .before .if1 .taken) g, values-long (c .before .before .before .before .before .before .before .before .before .loop .inv .values) (c .before .before .before .before .before .before .before .if1 .taken) g)
 
 auxiliary-kind-requires : tie.Need-auxiliary-kind-requires Inv-loop μ-loop
 auxiliary-kind-requires c κs = search needs
 
-added-requires : tie.Need-added-requires Inv-loop μ-loop
-added-requires c κs = (lowest-below (c .before .before .before .before .before .before .before .before .before .before .before .before .before .pre .0) _ (c .before .before .lowest-source .ensures), complete-named (c .before .before .before .before .before .before .before .before .before .before .loop .inv) (c .before .before .before .before .before .before .before .before .if1 .taken) (sym (c .before .before .before .before .before .before .before .read-field .ensures .0) ∙ c .before .before .before .before .before .f .given .1) (c .before .before .before .structure-at .ensures _))
+add-requires : tie.Need-add-requires Inv-loop μ-loop
+add-requires c κs = (lowest-below (c .before .before .before .before .before .before .before .before .before .before .before .before .before .before .pre .0) _ (c .before .before .before .lowest-source .ensures), complete-named (c .before .before .before .before .before .before .before .before .before .before .before .loop .inv) (c .before .before .before .before .before .before .before .before .before .if1 .taken) (sym (c .before .before .before .before .before .before .before .before .read-field .ensures .0) ∙ c .before .before .before .before .before .before .f .given .1) (c .before .before .before .before .structure-at .ensures _))
 
 loop-less : tie.Need-loop-less Inv-loop μ-loop
-loop-less c = let a = rw (c .before .before .before .before .before .before .f .given .1) at (c .before .before .before .before .before .before .before .before .read-field .ensures .1) in omega arith
+loop-less c = let a = rw (c .before .before .before .before .before .before .before .f .given .1) at (c .before .before .before .before .before .before .before .before .before .read-field .ensures .1) in omega arith
 
 loop-again : tie.Need-loop-again Inv-loop μ-loop
-loop-again c = complete-next (c .before .before .before .before .before .before .before .before .before .before .before .loop .inv) (c .before .before .before .before .before .before .before .before .before .if1 .taken) (sym (c .before .before .before .before .before .before .before .before .read-field .ensures .0) ∙ c .before .before .before .before .before .before .f .given .1) (c .before .before .before .before .structure-at .ensures _) (c .before .before .before .lowest-source .ensures) (c .before .before .class-at .ensures _) (c .before .auxiliary-kind .ensures) (c .added .ensures)
+loop-again c = complete-next (c .before .before .before .before .before .before .before .before .before .before .before .before .loop .inv) (c .before .before .before .before .before .before .before .before .before .before .if1 .taken) (sym (c .before .before .before .before .before .before .before .before .before .read-field .ensures .0) ∙ c .before .before .before .before .before .before .before .f .given .1) (c .before .before .before .before .before .structure-at .ensures _) (c .before .before .before .before .lowest-source .ensures) (c .before .before .class-at .ensures _) (c .before .auxiliary-kind .ensures) (c .add .ensures)
 
 returns-2 : tie.Need-returns-2 Inv-loop μ-loop
 returns-2 c = complete-end (c .before .before .loop .inv) (c .if1 .left)
@@ -72,7 +72,7 @@ complete-spec =
     lowest-source-requires
     class-at-requires
     auxiliary-kind-requires
-    added-requires
+    add-requires
     loop-less
     loop-again
     returns-2)

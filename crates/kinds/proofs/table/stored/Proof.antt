@@ -40,19 +40,19 @@ kind-number-requires : tie.Need-kind-number-requires Inv-loop μ-loop
 kind-number-requires c κs = search needs
 
 source-at-requires : tie.Need-source-at-requires Inv-loop μ-loop
-source-at-requires c κs = let g = sym (c .before .before .before .before .before .read-field .ensures .0) ∙ c .before .before .before .f .given .1 in let l = values-long (c .before .before .before .before .before .before .before .before .loop .inv .values) (c .before .before .before .before .before .before .if1 .taken) g in (values-inside (c .before .before .before .before .before .before .before .before .loop .inv .values) (c .before .before .before .before .before .before .if1 .taken) g, omega arith)
+source-at-requires c κs = let g = sym (c .before .before .before .before .before .before .read-field .ensures .0) ∙ c .before .before .before .before .f .given .1 in let l = values-long (c .before .before .before .before .before .before .before .before .before .loop .inv .values) (c .before .before .before .before .before .before .before .if1 .taken) g in (values-inside (c .before .before .before .before .before .before .before .before .before .loop .inv .values) (c .before .before .before .before .before .before .before .if1 .taken) g, omega arith)
 
 target-at-requires : tie.Need-target-at-requires Inv-loop μ-loop
-target-at-requires c κs = let g = sym (c .before .before .before .before .before .before .read-field .ensures .0) ∙ c .before .before .before .before .f .given .1 in let l = values-long (c .before .before .before .before .before .before .before .before .before .loop .inv .values) (c .before .before .before .before .before .before .before .if1 .taken) g in (values-inside (c .before .before .before .before .before .before .before .before .before .loop .inv .values) (c .before .before .before .before .before .before .before .if1 .taken) g, omega arith)
+target-at-requires c κs = let g = sym (c .before .before .before .before .before .before .before .read-field .ensures .0) ∙ c .before .before .before .before .before .f .given .1 in let l = values-long (c .before .before .before .before .before .before .before .before .before .before .loop .inv .values) (c .before .before .before .before .before .before .before .before .if1 .taken) g in (values-inside (c .before .before .before .before .before .before .before .before .before .before .loop .inv .values) (c .before .before .before .before .before .before .before .before .if1 .taken) g, omega arith)
 
-added-requires : tie.Need-added-requires Inv-loop μ-loop
-added-requires c κs = store-named (c .before .before .before .before .before .before .before .before .before .before .loop .inv) (c .before .before .before .before .before .before .before .before .if1 .taken) (sym (c .before .before .before .before .before .before .before .read-field .ensures .0) ∙ c .before .before .before .before .before .f .given .1) (c .before .source-at .ensures .1 _) (c .target-at .ensures .1 _)
+add-requires : tie.Need-add-requires Inv-loop μ-loop
+add-requires c κs = store-named (c .before .before .before .before .before .before .before .before .before .before .before .loop .inv) (c .before .before .before .before .before .before .before .before .before .if1 .taken) (sym (c .before .before .before .before .before .before .before .before .read-field .ensures .0) ∙ c .before .before .before .before .before .before .f .given .1) (c .before .source-at .ensures .1 _) (c .target-at .ensures .1 _)
 
 loop-less : tie.Need-loop-less Inv-loop μ-loop
-loop-less c = let a = rw (c .before .before .before .before .before .before .f .given .1) at (c .before .before .before .before .before .before .before .before .read-field .ensures .1) in omega arith
+loop-less c = let a = rw (c .before .before .before .before .before .before .before .f .given .1) at (c .before .before .before .before .before .before .before .before .before .read-field .ensures .1) in omega arith
 
 loop-again : tie.Need-loop-again Inv-loop μ-loop
-loop-again c = store-next (c .before .before .before .before .before .before .before .before .before .before .before .loop .inv) (c .before .before .before .before .before .before .before .before .before .if1 .taken) (sym (c .before .before .before .before .before .before .before .before .read-field .ensures .0) ∙ c .before .before .before .before .before .before .f .given .1) (c .before .before .source-at .ensures .1 _) (c .before .target-at .ensures .1 _) (c .before .before .before .kind-number .ensures ∙ ap some (c .before .before .before .before .kind-at .ensures _)) (c .added .ensures)
+loop-again c = store-next (c .before .before .before .before .before .before .before .before .before .before .before .before .loop .inv) (c .before .before .before .before .before .before .before .before .before .before .if1 .taken) (sym (c .before .before .before .before .before .before .before .before .before .read-field .ensures .0) ∙ c .before .before .before .before .before .before .before .f .given .1) (c .before .before .source-at .ensures .1 _) (c .before .target-at .ensures .1 _) (c .before .before .before .before .kind-number .ensures ∙ ap some (c .before .before .before .before .before .kind-at .ensures _)) (c .add .ensures)
 
 returns-2 : tie.Need-returns-2 Inv-loop μ-loop
 returns-2 c = store-end (c .before .before .loop .inv) (c .if1 .left)
@@ -73,7 +73,7 @@ stored-spec =
     kind-number-requires
     source-at-requires
     target-at-requires
-    added-requires
+    add-requires
     loop-less
     loop-again
     returns-2)

@@ -18,11 +18,11 @@ element-count-requires c κs = search needs
 assign-structure-el-vars-requires : tie.Need-assign-structure-el-vars-requires
 assign-structure-el-vars-requires c κs = search needs
 
-mul-t : tie.Need-mul-t
-mul-t c = search needs
+mul-table : tie.Need-mul-table
+mul-table c = search needs
 
-array-set-from-t : tie.Need-array-set-from-t
-array-set-from-t c = search needs
+array-set-from-table : tie.Need-array-set-from-table
+array-set-from-table c = search needs
 
 returns : tie.Need-returns
 returns c = rw (assigned (c .before .before .before .before .before .pre .0 .1) (c .before .before .before .before .before .pre .1 .0 .1) (c .before .before .before .before .before .pre .1 .1 .0) (search needs) (c .before .element-count .ensures) (c .before .before .carried .ensures) (c .assign-structure-el-vars .ensures))
@@ -36,6 +36,6 @@ assign-el-vars-spec =
     carried-requires
     element-count-requires
     assign-structure-el-vars-requires
-    mul-t
-    array-set-from-t
+    mul-table
+    array-set-from-table
     returns)

@@ -9,13 +9,10 @@ element-count-requires c κs = search needs
 assign-structure-el-vars-requires : tie.Need-assign-structure-el-vars-requires
 assign-structure-el-vars-requires c κs = search needs
 
-array-set-from-t : tie.Need-array-set-from-t
-array-set-from-t c = search needs
-
 returns : tie.Need-returns
-returns c = rw (assigned-first (c .before .before .before .pre) (c .before .element-count .ensures) (c .assign-structure-el-vars .ensures))
+returns c = assigned-first (c .before .before .before .pre) (c .before .element-count .ensures) (c .assign-structure-el-vars .ensures)
 
 pub initial-el-vars-spec : {M : Type 1} → statement M
 initial-el-vars-spec =
     tie.close
-    (tie.spec element-count-requires assign-structure-el-vars-requires array-set-from-t returns)
+    (tie.spec element-count-requires assign-structure-el-vars-requires returns)

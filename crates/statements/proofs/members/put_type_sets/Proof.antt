@@ -1,3 +1,4 @@
+use Rattle.statements.proofs.Unsaid.{unsaid, types-none}
 use Rattle.statements.proofs.Elements.{typesFrom, types-on, types-pass, types-end, types-all, few-places}
 use Rattle.statements.specs.Parts.{variableBy}
 use Rattle.naming.specs.Structures.{structureIn}
@@ -15,6 +16,9 @@ Inv-loop out₀ from letter s index k row mask count at₀ i₀ out at i = (i �
 abbrev μ-loop : tie.MeasureT-loop
 μ-loop out₀ from letter s index k row mask count at₀ i₀ out at i = count - i
 
+returns : tie.Need-returns Inv-loop μ-loop
+returns c = unsaid _ _ (types-none _ _ (c .if1 .taken) _) (search needs)
+
 element-count-requires : tie.Need-element-count-requires Inv-loop μ-loop
 element-count-requires c κs = search needs
 
@@ -22,7 +26,7 @@ loop-holds : tie.Need-loop-holds Inv-loop μ-loop
 loop-holds c = (search needs, begin _ _ (search needs))
 
 flag-requires : tie.Need-flag-requires Inv-loop μ-loop
-flag-requires c κs = few-places (c .before .before .before .before .before .pre .1) (c .before .before .element-count .ensures) (c .loop-test .taken)
+flag-requires c κs = few-places (c .before .before .before .before .before .before .pre .1) (c .before .before .element-count .ensures) (c .loop-test .taken)
 
 put-type-set-requires : tie.Need-put-type-set-requires Inv-loop μ-loop
 put-type-set-requires c κs = search needs
@@ -34,13 +38,13 @@ loop-less : tie.Need-loop-less Inv-loop μ-loop
 loop-less c = search needs
 
 loop-again : tie.Need-loop-again Inv-loop μ-loop
-loop-again c = ⊎-elim (λ w. (search needs, rw (w .5, w .6) (wrote (c .before .before .before .loop .inv .1) (types-on (c .before .before .before .before .before .before .before .pre .1) _ _ _ (c .before .before .before .before .element-count .ensures) (c .before .before .loop-test .taken) (sym (c .before .flag .ensures) ∙ w .0 .taken)) (w .2 .ensures)))) (λ w. (search needs, rw (w .1, w .2) (passed (c .before .before .before .loop .inv .1) (types-pass (c .before .before .before .before .before .before .before .pre .1) _ _ _ (c .before .before .before .before .element-count .ensures) (c .before .before .loop-test .taken) (sym (c .before .flag .ensures) ∙ w .0 .left))))) (c .if1 .came)
+loop-again c = ⊎-elim (λ w. (search needs, rw (w .5, w .6) (wrote (c .before .before .before .loop .inv .1) (types-on (c .before .before .before .before .before .before .before .before .pre .1) _ _ _ (c .before .before .before .before .element-count .ensures) (c .before .before .loop-test .taken) (sym (c .before .flag .ensures) ∙ w .0 .taken)) (w .2 .ensures)))) (λ w. (search needs, rw (w .1, w .2) (passed (c .before .before .before .loop .inv .1) (types-pass (c .before .before .before .before .before .before .before .before .pre .1) _ _ _ (c .before .before .before .before .element-count .ensures) (c .before .before .loop-test .taken) (sym (c .before .flag .ensures) ∙ w .0 .left))))) (c .if2 .came)
 
 same-length : tie.Need-same-length Inv-loop μ-loop
 same-length c = c .before .loop .inv .1 .put .long
 
-returns : tie.Need-returns Inv-loop μ-loop
-returns c = rw (← (types-all _ _ _ _)) (finish (c .before .loop .inv .1) (types-end (c .before .before .before .before .before .pre .1) _ _ _ (c .before .before .element-count .ensures) (c .loop-test .left)))
+returns-2 : tie.Need-returns-2 Inv-loop μ-loop
+returns-2 c = rw (← (types-all _ _ _ _)) (finish (c .before .loop .inv .1) (types-end (c .before .before .before .before .before .before .pre .1) _ _ _ (c .before .before .element-count .ensures) (c .loop-test .left)))
 
 pub put-type-sets-spec : {M : Type 1} → statement M
 put-type-sets-spec =
@@ -48,6 +52,7 @@ put-type-sets-spec =
     (tie.spec
     Inv-loop
     μ-loop
+    returns
     element-count-requires
     loop-holds
     flag-requires
@@ -56,4 +61,4 @@ put-type-sets-spec =
     loop-less
     loop-again
     same-length
-    returns)
+    returns-2)

@@ -1,5 +1,6 @@
 use borrow.Author.Needs.{needs}
-use Rattle.steps.proofs.New.{rows-lack, rows-new, images-few, section-few}
+use mathlib.Core.Path.{sym, _∙_}
+use Rattle.steps.proofs.New.{no-rows}
 use Rattle.steps.proofs.added.new_section.Statement.{statement}
 use Rattle.steps.proofs.added.new_section.Tie as tie
 
@@ -18,18 +19,6 @@ add-bound c = search needs
 bound-requires-2 : tie.Need-bound-requires-2
 bound-requires-2 c κs = search needs
 
-mapped-rows-requires : tie.Need-mapped-rows-requires
-mapped-rows-requires c κs = (c .before .before .before .before .before .pre .1 .0, (rw (c .before .before .bound2 .ensures, c .before .before .before .bound .ensures) (c .before .before .before .before .before .pre .1 .1 .0), (search needs, search needs)))
-
-enum-known-mapped : tie.Need-enum-known-mapped
-enum-known-mapped c = search needs
-
-enum-told : tie.Need-enum-told
-enum-told c = search needs
-
-returns : tie.Need-returns
-returns c = λ kind columns fs gs r q a b. rows-lack (c .before .before .mapped-rows .ensures .0 kind fs (rw (c .before .before .before .before .before .bound2 .ensures, c .before .before .before .before .before .before .bound .ensures) r)) (c .enum-told .given .1)
-
 mul-target : tie.Need-mul-target
 mul-target c = search needs
 
@@ -45,14 +34,29 @@ add-bound-2 c = search needs
 bound-requires-4 : tie.Need-bound-requires-4
 bound-requires-4 c κs = search needs
 
-new-rows-requires : tie.Need-new-rows-requires
-new-rows-requires c κs = (rw (c .before .before .bound4 .ensures, c .before .before .before .bound3 .ensures) (c .before .before .before .before .before .before .before .before .before .before .before .before .before .pre .1 .1 .1), (images-few (c .before .before .before .before .before .before .before .before .before .before .before .before .before .pre .1 .1 .0) (c .before .before .before .before .before .before .before .mapped-rows .ensures .0 0 _ (rw (c .before .before .before .before .before .before .before .before .before .before .bound2 .ensures, c .before .before .before .before .before .before .before .before .before .before .before .bound .ensures) (c .before .before .before .before .before .before .before .before .before .before .before .before .before .pre .1 .1 .0 .run))) (c .before .before .before .before .before .mapped .given .1), c .before .before .before .before .before .before .before .mapped-rows .ensures .1 .1))
+returns : tie.Need-returns
+returns c = λ kind columns fs gs r q a b. no-rows kind r (sym (c .before .before .before .before .before .bound .ensures) ∙ c .before .if1 .taken ∙ c .before .before .before .before .bound2 .ensures) q (sym (c .before .before .before .bound3 .ensures) ∙ c .if2 .taken ∙ c .before .before .bound4 .ensures)
 
-packed-requires : tie.Need-packed-requires
-packed-requires c κs = search needs
+new-between-requires : tie.Need-new-between-requires
+new-between-requires c κs = (c .before .before .before .before .before .before .pre .1 .0, (rw (c .before .before .before .bound2 .ensures, c .before .before .before .before .bound .ensures) (c .before .before .before .before .before .before .pre .1 .1 .0), rw (c .before .bound4 .ensures, c .before .before .bound3 .ensures) (c .before .before .before .before .before .before .pre .1 .1 .1)))
 
 returns-2 : tie.Need-returns-2
-returns-2 c = λ kind columns fs gs r q a b. rows-new gs (c .before .before .before .before .before .before .before .before .before .mapped-rows .ensures .0 kind fs (rw (c .before .before .before .before .before .before .before .before .before .before .before .before .bound2 .ensures, c .before .before .before .before .before .before .before .before .before .before .before .before .before .bound .ensures) r)) (c .before .before .before .before .before .before .before .mapped .given .1) a (section-few (c .before .before .before .before .before .before .before .before .before .before .before .before .before .before .before .pre .1 .1 .1) q) (λ h. c .before .new-rows .ensures kind columns _ _ gs h (rw (c .before .before .before .before .bound4 .ensures, c .before .before .before .before .before .bound3 .ensures) q) b) (c .packed .ensures)
+returns-2 c = λ kind columns fs gs r q a b. c .new-between .ensures kind columns fs gs (rw (c .before .before .before .before .bound2 .ensures, c .before .before .before .before .before .bound .ensures) r) (rw (c .before .before .bound4 .ensures, c .before .before .before .bound3 .ensures) q) a b
 
 pub new-section-spec : {M : Type 1} → statement M
-new-section-spec = tie.close (tie.spec mul-source add-source bound-requires add-bound bound-requires-2 mapped-rows-requires enum-known-mapped enum-told returns mul-target add-target bound-requires-3 add-bound-2 bound-requires-4 new-rows-requires packed-requires returns-2)
+new-section-spec =
+    tie.close
+    (tie.spec
+    mul-source
+    add-source
+    bound-requires
+    add-bound
+    bound-requires-2
+    mul-target
+    add-target
+    bound-requires-3
+    add-bound-2
+    bound-requires-4
+    returns
+    new-between-requires
+    returns-2)

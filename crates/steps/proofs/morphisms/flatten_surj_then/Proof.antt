@@ -2,8 +2,8 @@ use borrow.Author.Needs.{needs}
 use mathlib.Core.Bool.{false}
 use lib.ListN.{getD-replicate}
 use Rattle.steps.proofs.Answers.{between, below-limit, count-is, count-few, images-are, surj-refused, surj-one, surj-more, surj-adds}
-use Rattle.steps.proofs.kinds.flatten_surj_then.Statement.{statement}
-use Rattle.steps.proofs.kinds.flatten_surj_then.Tie as tie
+use Rattle.steps.proofs.morphisms.flatten_surj_then.Statement.{statement}
+use Rattle.steps.proofs.morphisms.flatten_surj_then.Tie as tie
 
 new-masks-requires : tie.Need-new-masks-requires
 new-masks-requires c κs = (between (c .before .before .before .pre .0), (c .before .before .before .pre .0 .joins, c .before .before .before .pre .1))

@@ -5,7 +5,7 @@ ghost use Prim.Native.Nat.{ℕ, _<_};
 ghost use lib.ListN.{length, getD};
 ghost use Rattle.definition.specs.Base.{each};
 ghost use Rattle.definition.specs.Group.{Variable};
-ghost use Rattle.definition.specs.Kinds.{newElements};
+ghost use Rattle.definition.specs.Kinds.{kernelClashes, newElements};
 ghost use Rattle.definition.specs.Names.{numbersOf};
 ghost use Rattle.definition.specs.Rows.{given, inImage};
 ghost use Rattle.definition.specs.Rule.{If, Noop};
@@ -34,6 +34,7 @@ use crate::yielding::one_flag;
 use crate::yielding::yielding_row;
 use naming::variables::image_els;
 use rows::arguments::constrained_els;
+use rows::kernel::has_kernel_pairs;
 use rows::kernel::kernel_clash;
 use rows::kernel::key_vars;
 use rows::maps::Map;
@@ -46,6 +47,29 @@ use rule::reader::bound;
 use signature::ids::Counts;
 use signature::ids::INDEX;
 use statements::masks::Masks;
+
+// 25: do two variables of a kernel pair differ in type? Most maps have no kernel pairs, so this is asked before variables are looked up.
+fn clashes(
+    s: &[u8],
+    index: &[u16; RULE_INDEX],
+    src: usize,
+    tgt: usize,
+    m: Map,
+    source: [u16; 64],
+    types: &[u16],
+) -> bool
+    requires { ⌜ Between (now s) (now index) src tgt m ⌝ }
+    requires { ⌜ Joins (now s) src tgt m ⌝ }
+    requires { ⌜ GivenOut (structureIn (now s) src) source (length (now types)) ⌝ }
+    ensures { λ r. ⌜ ((sig : Signature) (table : List Variable) (target : List ℕ) → TypesOf table (now (types .entry))
+        → r ≡ kernelClashes sig table (sideIn (now (s .entry)) src source) (sideIn (now (s .entry)) tgt target) (maps.pairsIn (now (s .entry)) m)) ⌝ }
+{
+    if !has_kernel_pairs(s, index, tgt, m) {
+        return false;
+    }
+    let vars = key_vars(s, index, src, &source, m);
+    kernel_clash(s, m, &vars, types)
+}
 
 // 25 and 26, else the flags of the new rows, with the members that have no mark.
 fn new_masks(
@@ -64,8 +88,7 @@ fn new_masks(
     ensures { λ r. ⌜ ((sig : Signature) (table : List Variable) (target : List ℕ) → TypesOf table (now (types .entry))
         → MasksFor sig table (now (s .entry)) src tgt m source target (now (index .entry)) marks r) ⌝ }
 {
-    let vars = key_vars(s, index, src, &source, m);
-    if kernel_clash(s, m, &vars, types) {
+    if clashes(s, index, src, tgt, m, source, types) {
         return Step::Refused(25);
     }
     added_rows(s, index, src, tgt, m, marks)

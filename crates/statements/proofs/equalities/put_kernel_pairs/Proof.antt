@@ -6,8 +6,8 @@ use Rattle.definition.specs.Names.{numbersOf}
 use lib.ListN.{drop}
 use Prim.Native.Nat.{_-_, _≤_}
 use borrow.Author.Needs.{needs}
-use Rattle.statements.proofs.equalities.put_fibers.Statement.{statement}
-use Rattle.statements.proofs.equalities.put_fibers.Tie as tie
+use Rattle.statements.proofs.equalities.put_kernel_pairs.Statement.{statement}
+use Rattle.statements.proofs.equalities.put_kernel_pairs.Tie as tie
 
 abbrev Inv-loop : tie.InvT-loop
 Inv-loop out₀ from letter s index tgt m vars types count at₀ j₀ out at j = (j ≤ count) × Writing out₀ out from at (overBytes letter s m vars types (numbersOf (structureIn s tgt))) (overBytes letter s m vars types (drop j (numbersOf (structureIn s tgt))))
@@ -42,8 +42,8 @@ same-length c = c .before .loop .inv .1 .put .long
 returns : tie.Need-returns Inv-loop μ-loop
 returns c = rw (← (over-all _ _ _ _ _ _)) (finish (c .before .loop .inv .1) (els-end _ _ (c .before .before .before .before .before .before .pre .1 .0 .at .laid) _ _ (c .before .before .element-count .ensures) (c .loop-test .left)))
 
-pub put-fibers-spec : {M : Type 1} → statement M
-put-fibers-spec =
+pub put-kernel-pairs-spec : {M : Type 1} → statement M
+put-kernel-pairs-spec =
     tie.close
     (tie.spec
     Inv-loop

@@ -1,8 +1,8 @@
 use borrow.Author.Needs.{needs}
 use Rattle.rule.proofs.Drawn.{preds-length, funcs-length}
 use Rattle.steps.proofs.Answers.{between, count-is, count-few, images-are, known-preds, known-funcs, marks-are, if-refused, if-adds}
-use Rattle.steps.proofs.kinds.flatten_if_arbitrary.Statement.{statement}
-use Rattle.steps.proofs.kinds.flatten_if_arbitrary.Tie as tie
+use Rattle.steps.proofs.morphisms.flatten_if_arbitrary.Statement.{statement}
+use Rattle.steps.proofs.morphisms.flatten_if_arbitrary.Tie as tie
 
 mul-section : tie.Need-mul-section
 mul-section c = search needs

@@ -2,8 +2,8 @@ use borrow.Author.Needs.{needs}
 use mathlib.Core.Path.{refl}
 use Rattle.steps.proofs.Answers.{count-is, count-few, images-are, stands, news-below}
 use Rattle.steps.proofs.Domains.{nothing-new, one-new, more-new}
-use Rattle.steps.proofs.kinds.flatten_non_surj_then.Statement.{statement}
-use Rattle.steps.proofs.kinds.flatten_non_surj_then.Tie as tie
+use Rattle.steps.proofs.morphisms.flatten_non_surj_then.Statement.{statement}
+use Rattle.steps.proofs.morphisms.flatten_non_surj_then.Tie as tie
 
 element-count-requires : tie.Need-element-count-requires
 element-count-requires c κs = c .before .before .pre .target-at .laid .few

@@ -5,8 +5,8 @@ use Rattle.theory.proofs.Lists.{not-true, not-false}
 use Rattle.steps.specs.Yielding.{RowBounds}
 use Rattle.steps.specs.declared.yielding.Yielding.the-variants as yielding
 use Rattle.steps.proofs.Domains.{images-flagged, result-rows, yields-rows, number-is, arguments-named, no-row, outside, yielded}
-use Rattle.steps.proofs.kinds.yielding_step.Statement.{statement}
-use Rattle.steps.proofs.kinds.yielding_step.Tie as tie
+use Rattle.steps.proofs.morphisms.yielding_step.Statement.{statement}
+use Rattle.steps.proofs.morphisms.yielding_step.Tie as tie
 
 -- Where the row that was found lies.
 bounds : (c : tie.After-y) → RowBounds (yielding.At (c .y .given .0 .0) (c .y .given .0 .1 .0) (c .y .given .0 .1 .1 .0)) (length (c .before .before .before .before .before .before .before .args .s .now))

@@ -1,0 +1,30 @@
+use Rattle.statements.proofs.Whole.{apps-parts}
+use Rattle.records.proofs.Tail.{then}
+use borrow.Author.Needs.{needs}
+use Rattle.statements.proofs.writer.put_flat_rel_apps.Statement.{statement}
+use Rattle.statements.proofs.writer.put_flat_rel_apps.Tie as tie
+
+put-rows-requires : tie.Need-put-rows-requires
+put-rows-requires c κs = search needs
+
+put-rows-requires-2 : tie.Need-put-rows-requires-2
+put-rows-requires-2 c κs = search needs
+
+put-members-requires : tie.Need-put-members-requires
+put-members-requires c κs = search needs
+
+same-length : tie.Need-same-length
+same-length c = search needs
+
+returns : tie.Need-returns
+returns c = rw (apps-parts (c .before .before .before .before .before .before .before .before .before .before .before .before .before .before .pre .1) _ _ _) (then (then (c .before .before .before .before .before .before .before .before .before .before .put-rows .ensures) (c .before .before .before .before .before .before .put-rows2 .ensures)) (c .before .before .put-members .ensures))
+
+pub put-flat-rel-apps-spec : {M : Type 1} → statement M
+put-flat-rel-apps-spec =
+    tie.close
+    (tie.spec
+    put-rows-requires
+    put-rows-requires-2
+    put-members-requires
+    same-length
+    returns)
