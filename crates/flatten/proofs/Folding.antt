@@ -1,21 +1,21 @@
 -- The fold over the walked maps, pair by pair.
-use Prim.Native.Nat.{ℕ, zero, suc, _+_, _-_, _*_, _≤_, _<_}
+use Prim.Native.Nat.{ℕ, zero, suc, _+_, _-_, _≤_, _<_}
 use native.Mathlib.Omega.{arith}
 use mathlib.Core.Path.{_≡_, refl, ap, sym, _∙_}
-use mathlib.Core.Option.{Option, none, some}
-use mathlib.Core.List.{List, [], _∷_, _++_, append-nil, append-assoc}
-use lib.Dec.{ltb}
-use lib.ListN.{length, getD}
-use Rattle.definition.specs.Base.{Outcome, refused, accepted, onAccepted, pick, joined, span}
-use Rattle.definition.specs.Limits.{structureLimit, fieldLimit}
-use Rattle.definition.specs.Rule.{Rule, Kind, MorphismKind}
+use mathlib.Core.Option.{none}
+use mathlib.Core.List.{List, [], _∷_, _++_, append-assoc}
+use lib.ListN.{length}
+use Rattle.definition.specs.Base.{refused, accepted, onAccepted, joined, span}
+use Rattle.definition.specs.Rule.{Kind, MorphismKind}
 use Rattle.definition.specs.Signature.{Signature}
-use Rattle.definition.specs.Walk.{State, groupName, namedRules, walkFrom, initialState, walkedKinds}
+use Rattle.definition.specs.Walk.{State, groupName, namedRules, walkFrom, walkedKinds}
 use Rattle.theory.proofs.KindTable.{kindsOf, Once, walked-table}
 use Rattle.rule.specs.Lookup.{ruleAt}
-use Rattle.flatten.specs.Tables.{Tables, unreached, sourceAt, kindOn, pairsOn, newsTo, emittedTo}
+use Rattle.flatten.specs.Tables.{Tables, unreached, sourceAt, kindOn, pairsOn}
 use Rattle.flatten.specs.Walks.{Walking}
 use Rattle.flatten.specs.Left.{into, leftOf, left, Going}
+use Rattle.flatten.specs.Went.{Met, wholeWalk}
+use Rattle.flatten.proofs.Reaching.{news-none, emitted-none}
 use Rattle.flatten.proofs.Mapping.{kindFrom, walked}
 
 -- Lists over a span, from its first number.
@@ -83,7 +83,8 @@ pub walk-on : (sig : Signature) (s : List ℕ) (state : State) (u t : ℕ) (kind
 unfolding walkFrom pairsOn
 walk-on sig s state u t kind ks = refl
 
-module _ {sig : Signature} {s types : List ℕ} {tb : Tables} {next t u : ℕ} (g : Going sig s tb types next t u) (inside : t < length (ruleAt s .structures)) (within : u < length (ruleAt s .structures)) where
+module _ {sig : Signature} {s types : List ℕ} {tb : Tables} {next t u : ℕ} (g : Going sig s tb types next t u)
+    (inside : t < length (ruleAt s .structures)) (within : u < length (ruleAt s .structures)) where
   -- No kind: the next source.
   pub pass-on : kindOn s u t ≡ none → Going sig s tb types next t (suc u)
   pass-on e = record {
@@ -92,32 +93,24 @@ module _ {sig : Signature} {s types : List ℕ} {tb : Tables} {next t u : ℕ} (
     rest = g .rest ∙ ap (walkFrom sig (ruleAt s) (g .state)) (left-on s t u inside within ∙ rw e);
   }
 
-  whole-is : (kind : MorphismKind) → kindOn s u t ≡ some kind → walkFrom sig (ruleAt s) (initialState (ruleAt s)) (walkedKinds (ruleAt s))
-      ≡ onAccepted (walked sig s (g .state) u t kind) (λ (next : State). walkFrom sig (ruleAt s) next (left s t (suc u)))
-  whole-is kind e = g .rest ∙ ap (walkFrom sig (ruleAt s) (g .state)) (left-on s t u inside within ∙ rw e) ∙ walk-on sig s (g .state) u t kind (left s t (suc u))
+-- The map of a kind.
+module _ {sig : Signature} {s types : List ℕ} {tb : Tables} {next t u number : ℕ} (g : Going sig s tb types next t u) (met : Met s u t number) where
+  whole-is : wholeWalk sig s ≡ onAccepted (walked sig s (g .state) u t (met .kind)) (λ (next : State). walkFrom sig (ruleAt s) next (left s t (suc u)))
+  whole-is = g .rest ∙ ap (walkFrom sig (ruleAt s) (g .state)) (left-on s t u (met .target-in) (met .source-in) ∙ rw (met .on))
+      ∙ walk-on sig s (g .state) u t (met .kind) (left s t (suc u))
 
   -- A refusal ends the walk.
-  pub stop : (kind : MorphismKind) {n : ℕ} → kindOn s u t ≡ some kind → walked sig s (g .state) u t kind ≡ refused n
-      → walkFrom sig (ruleAt s) (initialState (ruleAt s)) (walkedKinds (ruleAt s)) ≡ refused n
-  stop kind e r = whole-is kind e ∙ rw r
+  pub stop : {n : ℕ} → walked sig s (g .state) u t (met .kind) ≡ refused n → wholeWalk sig s ≡ refused n
+  stop r = whole-is ∙ rw r
 
   -- A structure is reached.
-  pub go-on : (kind : MorphismKind) {tb′ : Tables} {types′ : List ℕ} {next′ : ℕ} {state′ : State} → kindOn s u t ≡ some kind → walked sig s (g .state) u t kind ≡ accepted state′
+  pub go-on : {tb′ : Tables} {types′ : List ℕ} {next′ : ℕ} {state′ : State} → walked sig s (g .state) u t (met .kind) ≡ accepted state′
       → Walking sig s tb′ types′ next′ t state′ → Going sig s tb′ types′ next′ t (suc u)
-  go-on kind {state′ = state′} e r w = record { state = state′; walking = w; rest = whole-is kind e ∙ rw r }
-
--- A structure that nothing has reached has no new variables, and emits nothing.
-pub news-none : (s : List ℕ) (tb : Tables) (t : ℕ) → sourceAt tb t ≡ unreached → newsTo s tb (suc t) ≡ newsTo s tb t
-unfolding newsTo
-news-none s tb t e = rw (e, append-nil)
-
-pub emitted-none : (sig : Signature) (s : List ℕ) (tb : Tables) (state : State) (t : ℕ) → sourceAt tb t ≡ unreached
-    → emittedTo sig (state .variables) s tb (state .slots) (suc t) ≡ emittedTo sig (state .variables) s tb (state .slots) t
-unfolding emittedTo
-emitted-none sig s tb state t e = rw (e, append-nil)
+  go-on {state′ = state′} r w = record { state = state′; walking = w; rest = whole-is ∙ rw r }
 
 -- The next target: nothing has reached it yet.
-pub turn : {sig : Signature} {s types : List ℕ} {tb : Tables} {next t : ℕ} → Going sig s tb types next t (length (ruleAt s .structures)) → t < length (ruleAt s .structures) → Going sig s tb types next (suc t) 0
+pub turn : {sig : Signature} {s types : List ℕ} {tb : Tables} {next t : ℕ} → Going sig s tb types next t (length (ruleAt s .structures))
+    → t < length (ruleAt s .structures) → Going sig s tb types next (suc t) 0
 turn {sig} {s} {types} {tb} {next} {t} g h =
     let w = g .walking in
     let o : sourceAt tb (suc t) ≡ unreached = w .above (suc t) (omega arith) in

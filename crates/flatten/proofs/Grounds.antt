@@ -1,27 +1,27 @@
 -- What an accepted rule gives the walk.
-use Prim.Native.Nat.{ℕ, zero, suc, _≤_, _<_}
+use Prim.Native.Nat.{ℕ, _≤_, _<_}
 use native.Mathlib.Omega.{arith}
-use mathlib.Core.Bool.{Bool, true, false}
-use mathlib.Core.Path.{_≡_, refl, ap, sym, _∙_}
+use mathlib.Core.Bool.{false}
+use mathlib.Core.Path.{_≡_, refl, sym}
 use mathlib.Core.List.{List, [], List·Memᴰ·not-nil}
 use mathlib.Core.Option.{Option, none, some}
-use lib.ListN.{length, getD}
-use Rattle.definition.specs.Base.{orDefault, each, _∈_}
+use lib.ListN.{length}
+use Rattle.definition.specs.Base.{orDefault, _∈_}
 use Rattle.definition.specs.Limits.{fieldLimit}
-use Rattle.definition.specs.Rule.{Rule, Pair, rowOf}
+use Rattle.definition.specs.Rule.{Pair, rowOf}
 use Rattle.definition.specs.Letters.{predicate, function}
 use Rattle.definition.specs.Records.{Field}
 use Rattle.definition.specs.Signature.{Signature}
 use Rattle.definition.specs.Names.{numbersOf}
-use Rattle.definition.specs.Walk.{pairsBetween, found, unmappedAuxiliary, unmappedKind, structureAt}
+use Rattle.definition.specs.Walk.{pairsBetween, unmappedAuxiliary, unmappedKind, structureAt}
 use Rattle.theory.proofs.Lists.{length-each}
 use Rattle.signature.specs.Index.{signatureAt}
 use Rattle.signature.specs.declared.ids.Counts.{Counts}
 use Rattle.rule.specs.Lookup.{Ready, ruleAt}
 use Rattle.rule.proofs.Saying.{structures-are}
 use Rattle.records.specs.Places.{Run}
-use Rattle.rows.proofs.Accepted.{SmallArities, small-arities}
-use Rattle.naming.specs.Structures.{structureIn}
+use Rattle.rows.proofs.Accepted.{small-arities}
+use Rattle.naming.specs.Structures.{structureIn, Laid}
 use Rattle.naming.proofs.Opening.{headed}
 use Rattle.statements.specs.Structures.{SoundAt}
 use Rattle.statements.proofs.Structures.{sound-at}
@@ -32,6 +32,10 @@ use Rattle.flatten.specs.Tables.{Keyed, kindOn, pairsOn}
 use Rattle.flatten.specs.Ended.{Ground}
 use Rattle.flatten.specs.Answers.{Readable}
 use Rattle.flatten.proofs.Starting.{FewRows}
+
+-- Every auxiliary and every kind has its map.
+abbrev pub AllMapped : List ℕ → Type 0
+AllMapped s = (unmappedAuxiliary (ruleAt s) ≡ false) × (unmappedKind (ruleAt s) ≡ false)
 
 module _ {sig arities s index : List ℕ} {counts : Counts} {n : ℕ} (w : Readable sig arities counts s index n) where
   pub ready : Ready s index
@@ -54,14 +58,14 @@ module _ {sig arities s index : List ℕ} {counts : Counts} {n : ℕ} (w : Reada
   pub sound-one : (k : ℕ) → k < length (ruleAt s .structures) → SoundAt (signatureAt sig arities counts) s index k
   sound-one k h = let c = counted in sound-at (w .rule-indexed) (small-arities sig (w .signature-read)) k (omega arith)
 
-  pub ground : unmappedAuxiliary (ruleAt s) ≡ false → unmappedKind (ruleAt s) ≡ false → Ground (signatureAt sig arities counts) s index
+  pub ground : AllMapped s → Ground (signatureAt sig arities counts) s index
   unfolding kindOn
-  ground a b = record {
+  ground a = record {
     ready = ready;
     sounds = sound-one;
     few = structures-few ready;
     some-one = let c = counted in let o = w .rule-indexed .some in omega arith;
-    mapped = λ u t kind e. kind-mapped ready a b u t e .has-map;
+    mapped = λ u t kind e. kind-mapped ready (a .0) (a .1) u t e .has-map;
     keyed = keyed;
     once = kinds-once ready;
     headed = headed (signatureAt sig arities counts) s (w .rule-read);
@@ -71,7 +75,7 @@ module _ {sig arities s index : List ℕ} {counts : Counts} {n : ℕ} (w : Reada
 rows-few : {s : List ℕ} {from end : ℕ} {fs gs : List Field} → Run s from end fs → Run s from end gs → length gs ≤ fieldLimit → length fs ≤ fieldLimit
 rows-few r q h = rw (run-same r q) h
 
-pub few-rows : {sig : Signature} {s index : List ℕ} {k : ℕ} → SoundAt sig s index k → FewRows (structureIn s k)
+few-rows : {sig : Signature} {s index : List ℕ} {k : ℕ} → SoundAt sig s index k → FewRows (structureIn s k)
 few-rows w =
     let p = length-each (rowOf predicate) (w .predFields) in
     let f = length-each (rowOf function) (w .funcFields) in
@@ -80,3 +84,14 @@ few-rows w =
       funcs = rw (w .funcs-are, f) (rows-few (w .funcs-run) (w .funcs-known .rows .run) (w .funcs-known .rows .few));
       elements = w .sound .elements-few;
     }
+
+-- Structure 0.
+module _ {sig : Signature} {s index : List ℕ} (gr : Ground sig s index) where
+  first-sound : SoundAt sig s index 0
+  first-sound = gr .sounds 0 (gr .some-one)
+
+  pub first-laid : Laid s index 0
+  first-laid = first-sound .laid
+
+  pub first-rows : FewRows (structureIn s 0)
+  first-rows = few-rows first-sound

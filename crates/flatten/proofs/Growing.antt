@@ -1,30 +1,21 @@
 -- A structure is reached: what the tables said of the others they say still.
-use Prim.Native.Nat.{ℕ, zero, suc, _+_, _*_, _≤_, _<_}
-use native.Mathlib.Omega.{arith}
-use native.Mathlib.Decide.{ℕ-discrete}
-use mathlib.Core.Path.{_≡_, refl, ap, sym, _∙_}
-use mathlib.Core.Bool.{Bool, true, false}
+use Prim.Native.Nat.{ℕ, _<_}
+use mathlib.Core.Path.{_≡_, refl, ap, _∙_}
 use mathlib.Core.Option.{Option, none, some}
 use mathlib.Core.List.{List, [], _∷_, _++_, List·Memᴰ·head, List·Memᴰ·tail}
-use lib.Dec.{eqb, ltb}
-use lib.ListN.{length, getD, set, length-set, length-append, List·getD-append}
+use lib.ListN.{length, set, List·getD-append}
 use lib.Seq.{getD-set-same, getD-set-other}
-use borrow.Author.Tests.{ne-eqb, eq-eqb}
-use Rattle.definition.specs.Base.{pick, each, _∈_}
-use Rattle.definition.specs.Limits.{structureLimit}
+use Rattle.definition.specs.Base.{each, _∈_}
 use Rattle.definition.specs.Rule.{Pair}
-use Rattle.definition.specs.Group.{Variable, Statement}
+use Rattle.definition.specs.Group.{Variable}
 use Rattle.definition.specs.Signature.{Signature}
 use Rattle.definition.specs.Kinds.{Side, variableIn, typeIn, kernelVariables, equalities}
 use Rattle.definition.specs.Walk.{Reached}
 use Rattle.theory.proofs.Lists.{mem-each}
 use Rattle.theory.proofs.StepLaws.{kernel-in}
-use Rattle.rule.specs.Lookup.{ruleAt}
 use Rattle.naming.specs.Structures.{structureIn}
 use Rattle.naming.specs.Variables.{GivenOut}
-use Rattle.statements.specs.Structures.{sideIn}
-use Rattle.flatten.specs.Tables.{Tables, unreached, sourceAt, rowAt, masksOf, masksAt, kindOn, pairsOn, Keyed, ownBy, concludedBy, reachedBy, equalitiesAt, saidAt, domainsAt, ownAt, concludedAt, statementsOf, statementsAt, before}
-use Rattle.flatten.specs.Walks.{ReachedAt, Tie, Ties}
+use Rattle.flatten.specs.Tables.{Tables, unreached, sourceAt, rowAt, masksOf, masksAt, pairsOn, Keyed, reachedBy, equalitiesAt, saidAt, domainsAt, ownAt, concludedAt, statementsOf, statementsAt, before}
 
 -- Functions that agree on a list.
 pub each-alike : {A B : Type 0} (f g : A → B) (xs : List A) → ((a : A) → a ∈ xs → f a ≡ g a) → each f xs ≡ each g xs

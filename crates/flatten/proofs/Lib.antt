@@ -1,4 +1,5 @@
 pub mod Growing
+pub mod Walkable
 pub mod Reaching
 pub mod Stepping
 pub mod Mapping

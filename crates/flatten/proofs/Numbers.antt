@@ -1,18 +1,16 @@
 -- The W fields, structure by structure.
 use Prim.Native.Nat.{ℕ, zero, suc, _+_, _*_, _≤_, _<_}
 use native.Mathlib.Omega.{arith}
-use mathlib.Core.Path.{_≡_, refl, ap, sym, _∙_}
-use mathlib.Core.Bool.{Bool, true, false}
-use mathlib.Core.List.{List, [], _∷_, _++_, append-nil}
+use mathlib.Core.Path.{_≡_, refl, sym, _∙_}
+use mathlib.Core.Bool.{false}
+use mathlib.Core.List.{List, [], _∷_, append-nil}
 use lib.Dec.{ltb}
 use lib.ListN.{length, getD, take, length-append, length-take}
 use lib.Seq.{length-take-le}
 use borrow.Author.Tests.{lt-ltb, le-ltb}
-use Rattle.definition.specs.Base.{pick, each, joined}
+use Rattle.definition.specs.Base.{each, joined}
 use Rattle.definition.specs.Limits.{structureLimit, fieldLimit, variableLimit}
 use Rattle.definition.specs.Rule.{Structure}
-use Rattle.definition.specs.Group.{Variable}
-use Rattle.definition.specs.Names.{newVariables}
 use Rattle.definition.specs.Writer.{recordBytes, variableField}
 use Rattle.theory.proofs.Lists.{each-append, length-each}
 use Rattle.theory.proofs.Numbering.{fresh, fresh-few, new-length}
@@ -24,7 +22,7 @@ use Rattle.rule.specs.Lookup.{ruleAt}
 use Rattle.naming.specs.Structures.{structureIn, Laid}
 use Rattle.naming.specs.Variables.{keptBy, keptIn, newIn}
 use Rattle.naming.proofs.Placed.{elements-are, element-few}
-use Rattle.flatten.specs.Tables.{Tables, tables, unreached, sourceAt, rowAt, newsTo}
+use Rattle.flatten.specs.Tables.{Tables, unreached, sourceAt, rowAt, newsTo}
 use Rattle.flatten.specs.Ended.{Numbered}
 
 kept-length : (first count : ℕ) (row : List ℕ) → count ≤ length row → length (keptIn first count row) ≡ count
@@ -44,6 +42,9 @@ fresh-room first row {more} {count} e c h =
     let k = fresh-few (keptIn first count row) in
     let l : length (keptIn first count row) ≡ length (take count row) = length-each (keptBy first) (take count row) in
     let t = take-few count row in omega arith
+
+pub count-small : {s index : List ℕ} {t count : ℕ} → Laid s index t → count ≡ countAt index t → count ≤ fieldLimit
+count-small l c = let a = elements-are l in let b = element-few l in omega arith
 
 -- How many are new in a structure.
 pub new-count : (st : Structure) (first : ℕ) (row : List ℕ) → length (st .elements) ≤ length row → length (newIn st first row) ≡ fresh (keptIn first (length (st .elements)) row)
@@ -70,21 +71,17 @@ pub source-read : (tb : Tables) (t : ℕ) → length (tb .sources) ≡ structure
 unfolding sourceAt
 source-read tb t l h = getD-any (tb .sources) t 0 unreached (omega arith)
 
-module _ {out₀ out s index : List ℕ} {tb : Tables} {from at number t n : ℕ} (g : Numbered s index tb) (e : n ≡ length (ruleAt s .structures)) (h : t < n) (w : Naming out₀ out s tb from at number t) where
+module _ {out₀ out s index : List ℕ} {tb : Tables} {from at number t n : ℕ}
+    (g : Numbered s index tb) (e : n ≡ length (ruleAt s .structures)) (h : t < n) (w : Naming out₀ out s tb from at number t) where
   inside : t < length (ruleAt s .structures)
   inside = omega arith
 
-  pub naming-at : at ≤ countLimit
-  naming-at = omega (arith, w .put .size)
+  laid : Laid s index t
+  laid = g .laid t inside
 
-  pub naming-laid : Laid s index t
-  naming-laid = g .laid t inside
-
-  pub naming-room : number + fieldLimit ≤ variableLimit
-  naming-room = let f = w .few in let k = g .few in let i = inside in omega arith
-
-  pub count-few : {count : ℕ} → count ≡ countAt index t → count ≤ fieldLimit
-  count-few c = let a = elements-are naming-laid in let b = element-few naming-laid in omega arith
+  -- What the writer of its variables asks.
+  pub naming-asks : (at ≤ countLimit) × (Laid s index t × (number + fieldLimit ≤ variableLimit))
+  naming-asks = (omega (arith, w .put .size), (laid, let f = w .few in let k = g .few in let i = inside in omega arith))
 
   read : getD (tb .sources) t 0 ≡ sourceAt tb t
   read = let k = g .few in let i = inside in source-read tb t (g .long) (omega arith)
@@ -106,12 +103,12 @@ module _ {out₀ out s index : List ℕ} {tb : Tables} {from at number t n : ℕ
       let q : t + 1 ≡ suc t = omega arith in
       let z : sourceAt tb t < unreached = rw read at b in
       let j = g .rows t inside z in
-      let a : count ≡ length (structureIn s t .elements) = c ∙ sym (elements-are naming-laid) in
+      let a : count ≡ length (structureIn s t .elements) = c ∙ sym (elements-are laid) in
       let m : more ≡ fresh (keptIn number (length (structureIn s t .elements)) (rowAt tb t)) = y ∙ rw (x, a) in
       let v = new-count (structureIn s t) number (rowAt tb t) j in
       let k = fresh-few (keptIn number (length (structureIn s t .elements)) (rowAt tb t)) in
       let i = kept-length number (length (structureIn s t .elements)) (rowAt tb t) j in
-      let o = element-few naming-laid in
+      let o = element-few laid in
       record {
         put = rw (q, lt-ltb (sourceAt tb t) unreached z, ← (w .count), each-append, record-append) (then (w .put) (rw x at p));
         count = rw (q, lt-ltb (sourceAt tb t) unreached z, ← (w .count), length-append, v, ← (w .count), m);

@@ -4,6 +4,7 @@ use native.Mathlib.Omega.{arith}
 use native.Mathlib.Decide.{decLt}
 use mathlib.Core.Path.{_≡_, refl, ap, sym, _∙_}
 use mathlib.Core.Bool.{Bool, true, false}
+use mathlib.Core.Logic.{_⊎_, inl, inr}
 use mathlib.Core.Option.{Option, none, some}
 use mathlib.Core.List.{List, [], _++_}
 use lib.Dec.{eqb}
@@ -12,7 +13,7 @@ use borrow.Author.Tests.{eq-eqb, ne-eqb}
 use Rattle.definition.specs.Base.{pick, orDefault, each, joined}
 use Rattle.definition.specs.Limits.{structureLimit}
 use Rattle.definition.specs.Letters.{letterB}
-use Rattle.definition.specs.Rule.{Pair, MorphismKind, If, Noop}
+use Rattle.definition.specs.Rule.{Pair, MorphismKind}
 use Rattle.definition.specs.Group.{Variable, Statement}
 use Rattle.definition.specs.Signature.{Signature}
 use Rattle.definition.specs.Kinds.{Side, equalities}
@@ -33,6 +34,7 @@ use Rattle.flatten.specs.Tables.{Tables, unreached, sourceAt, rowAt, mas
 use Rattle.flatten.specs.Walks.{ReachedAt}
 use Rattle.flatten.specs.Ended.{Ended, Reaching, ReachedBy}
 use Rattle.flatten.proofs.Numbers.{source-read}
+use Rattle.kinds.proofs.TableLaws.{kind-some}
 use Rattle.flatten.proofs.Reaching.{given-more, is-reached}
 
 -- The number of the kind by which a structure was reached.
@@ -60,13 +62,10 @@ own-surj : (k : ℕ) (o : Option MorphismKind) (eqs said : List Statement) → k
 unfolding kindIn ownBy
 own-surj k o eqs said e q = rw (← q, e)
 
-own-if : (k : ℕ) (o : Option MorphismKind) (eqs said : List Statement) → k ≡ 0 → kindIn k ≡ o → ownBy o eqs said ≡ eqs ++ said
+own-both-by : (k : ℕ) (o : Option MorphismKind) (eqs said : List Statement) → (k ≡ 0) ⊎ (k ≡ 3) → kindIn k ≡ o → ownBy o eqs said ≡ eqs ++ said
 unfolding kindIn ownBy
-own-if k o eqs said e q = rw (← q, e)
-
-own-noop : (k : ℕ) (o : Option MorphismKind) (eqs said : List Statement) → k ≡ 3 → kindIn k ≡ o → ownBy o eqs said ≡ eqs ++ said
-unfolding kindIn ownBy
-own-noop k o eqs said e q = rw (← q, e)
+own-both-by k o eqs said (inl e) q = rw (← q, e)
+own-both-by k o eqs said (inr e) q = rw (← q, e)
 
 own-said : (k : ℕ) (o : Option MorphismKind) (eqs said : List Statement) → (k ≡ 1 → ⊥) → (k ≡ 0 → ⊥) → (k ≡ 3 → ⊥) → kindIn k ≡ o → ownBy o eqs said ≡ said
 unfolding kindIn ownBy
@@ -75,14 +74,6 @@ own-said (suc zero) o eqs said a b c q = absurd (a refl)
 own-said (suc (suc zero)) o eqs said a b c q = rw (← q)
 own-said (suc (suc (suc zero))) o eqs said a b c q = absurd (c refl)
 own-said (suc (suc (suc (suc k)))) o eqs said a b c q = rw (← q)
-
-kind-if : (k : ℕ) → k ≡ 0 → kindIn k ≡ some If
-unfolding kindIn
-kind-if k e = rw e
-
-kind-noop : (k : ℕ) → k ≡ 3 → kindIn k ≡ some Noop
-unfolding kindIn
-kind-noop k e = rw e
 
 reached-kind : (s : List ℕ) (tb : Tables) (t : ℕ) (kind : MorphismKind) → some kind ≡ reachedBy s tb t → kindOn s (sourceAt tb t) t ≡ some kind
 unfolding reachedBy
@@ -94,17 +85,26 @@ reached-kind s tb t kind q = go (eqb t 0) q
 
 -- A structure that was reached, and its source.
 module _ {s index types : List ℕ} {kinds : List (List ℕ)} {tb : Tables} {t : ℕ} (e : Ended s index types kinds tb) (h : Reaching s tb t) where
+  abbrev eqs : List Statement
+  eqs = equalitiesAt (e .sig) (e .state .variables) s tb t
+
+  abbrev own : List Statement
+  own = ownAt (e .sig) (e .state .variables) s tb t
+
   pub place-small : t < structureLimit
   place-small = let f = e .ground .few in let i = h .inside in omega arith
 
   at-slot : (r : Reached) × (getD (e .state .slots) t none ≡ some r) × ReachedAt (e .sig) (e .state .variables) s tb (e .state .slots) t r
   at-slot = is-reached (e .finished .ties) t (h .reached)
 
-  source-is : getD (tb .sources) t 0 ≡ sourceAt tb t
+  pub source-is : getD (tb .sources) t 0 ≡ sourceAt tb t
   source-is = source-read tb t (e .finished .ties .sources-long) place-small
 
   pub source-small : getD (tb .sources) t 0 < structureLimit
   source-small = let r = h .reached in let q = source-is in omega arith
+
+  pub both-small : (t < structureLimit) × (getD (tb .sources) t 0 < structureLimit)
+  both-small = (place-small, source-small)
 
   pub stands-at : Stands s index t
   stands-at = record { sig = e .sig; at = e .ground .sounds t (h .inside) }
@@ -131,18 +131,18 @@ module _ {s index types : List ℕ} {kinds : List (List ℕ)} {tb : Tables} {t :
       rw q (given-more {st = structureIn s t} {row = rowAt tb t} {n = length (e .state .variables)} {m = length types} (omega arith) (at-slot .2 .given))
 
   -- The kind by which it was reached, and the map.
-  kind-is : {kind : ℕ} → ReachedBy kind kinds (tb .sources) t → kindIn kind ≡ reachedBy s tb t
+  pub kind-is : {kind : ℕ} → ReachedBy kind kinds (tb .sources) t → kindIn kind ≡ reachedBy s tb t
   kind-is b = b .is s tb refl (e .tabled) (e .finished .ties .sources-long) (h .reached) place-small
 
-  kind-mapped : {kind : ℕ} (k : MorphismKind) → ReachedBy kind kinds (tb .sources) t → kindIn kind ≡ some k
-      → found (pairsBetween (ruleAt s .maps) (getD (tb .sources) t 0) t) ≡ true
-  kind-mapped k b q = rw source-is (e .ground .mapped (sourceAt tb t) t k (reached-kind s tb t k (sym q ∙ kind-is b)))
+  mapped : {kind : ℕ} → ReachedBy kind kinds (tb .sources) t → kind < 4 → found (pairsBetween (ruleAt s .maps) (getD (tb .sources) t 0) t) ≡ true
+  mapped {kind} b l = let k = kind-some kind l in rw source-is (e .ground .mapped (sourceAt tb t) t (k .0) (reached-kind s tb t (k .0) (sym (k .1) ∙ kind-is b)))
 
-  pub if-mapped : {kind : ℕ} → ReachedBy kind kinds (tb .sources) t → kind ≡ 0 → found (pairsBetween (ruleAt s .maps) (getD (tb .sources) t 0) t) ≡ true
-  if-mapped {kind} b q = kind-mapped If b (kind-if kind q)
+  pub surj-mapped : {kind : ℕ} → ReachedBy kind kinds (tb .sources) t → kind ≡ 1 → found (pairsBetween (ruleAt s .maps) (getD (tb .sources) t 0) t) ≡ true
+  surj-mapped b q = mapped b (omega arith)
 
-  pub noop-mapped : {kind : ℕ} → ReachedBy kind kinds (tb .sources) t → kind ≡ 3 → found (pairsBetween (ruleAt s .maps) (getD (tb .sources) t 0) t) ≡ true
-  noop-mapped {kind} b q = kind-mapped Noop b (kind-noop kind q)
+  pub both-mapped : {kind : ℕ} → ReachedBy kind kinds (tb .sources) t → (kind ≡ 0) ⊎ (kind ≡ 3) → found (pairsBetween (ruleAt s .maps) (getD (tb .sources) t 0) t) ≡ true
+  both-mapped b (inl q) = mapped b (omega arith)
+  both-mapped b (inr q) = mapped b (omega arith)
 
   -- What its masks mean.
   pub said-put : (letter : ℕ) {from r : ℕ} {out₀ out row : List ℕ} {ms : Masks} → row ≡ getD (tb .vars) t [] → ms ≡ masksOf (getD (tb .masks) t [])
@@ -158,49 +158,43 @@ module _ {s index types : List ℕ} {kinds : List (List ℕ)} {tb : Tables} {t :
           → Put out₀ out₁ (statementBytes letter (equalities sig table (sideIn s u row) target ps)) from at)
       → row′ ≡ getD (tb .vars) t [] → ms ≡ masksOf (getD (tb .masks) t [])
       → Put out₁ out₂ (statementBytes letter (saidBy (structureIn s t) (variablesIn (structureIn s t) row′) ms)) at r
-      → Put out₀ out₂ (statementBytes letter (equalitiesAt (e .sig) (e .state .variables) s tb t ++ saidAt s tb t)) from r
+      → Put out₀ out₂ (statementBytes letter (eqs ++ saidAt s tb t)) from r
   unfolding equalitiesAt rowAt pairsOn
   both-put letter {from} {at} {r} {u} {out₀} {out₁} {out₂} {row} {row′} {ps} {ms} q x o p y z w =
-      rw statements-append (then (eqs (p (e .sig) (e .state .variables) (sideIn s t (rowAt tb t)) (e .finished .types-are) refl)) (said-put letter y z w))
+      rw statements-append (then (of-map (p (e .sig) (e .state .variables) (sideIn s t (rowAt tb t)) (e .finished .types-are) refl)) (said-put letter y z w))
     where
-      eqs : Put out₀ out₁ (statementBytes letter (equalities (e .sig) (e .state .variables) (sideIn s u row) (sideIn s t (rowAt tb t)) ps)) from at
-          → Put out₀ out₁ (statementBytes letter (equalitiesAt (e .sig) (e .state .variables) s tb t)) from at
-      eqs p = rw (← source-is, ← q, o, ← x) p
+      of-map : Put out₀ out₁ (statementBytes letter (equalities (e .sig) (e .state .variables) (sideIn s u row) (sideIn s t (rowAt tb t)) ps)) from at
+          → Put out₀ out₁ (statementBytes letter eqs) from at
+      of-map p = rw (← source-is, ← q, o, ← x) p
 
   -- What it adds, by its kind.
   pub own-nothing : {kind from : ℕ} (out : List ℕ) → from ≤ countLimit → ReachedBy kind kinds (tb .sources) t → kind ≡ 1
-      → Put out out (statementBytes letterB (ownAt (e .sig) (e .state .variables) s tb t)) from from
+      → Put out out (statementBytes letterB own) from from
   unfolding ownAt statementBytes recordBytes joined each
   own-nothing {kind} {from} out l b q =
-      rw (own-surj kind (reachedBy s tb t) (equalitiesAt (e .sig) (e .state .variables) s tb t) (saidAt s tb t) q (kind-is b)) (nothing out from l)
+      rw (own-surj kind (reachedBy s tb t) eqs (saidAt s tb t) q (kind-is b)) (nothing out from l)
 
-  pub own-both-if : {kind from r : ℕ} {out₀ out : List ℕ} → ReachedBy kind kinds (tb .sources) t → kind ≡ 0
-      → Put out₀ out (statementBytes letterB (equalitiesAt (e .sig) (e .state .variables) s tb t ++ saidAt s tb t)) from r
-      → Put out₀ out (statementBytes letterB (ownAt (e .sig) (e .state .variables) s tb t)) from r
+  pub own-both : {kind from r : ℕ} {out₀ out : List ℕ} → ReachedBy kind kinds (tb .sources) t → (kind ≡ 0) ⊎ (kind ≡ 3)
+      → Put out₀ out (statementBytes letterB (eqs ++ saidAt s tb t)) from r
+      → Put out₀ out (statementBytes letterB own) from r
   unfolding ownAt
-  own-both-if {kind} b q p = rw (own-if kind (reachedBy s tb t) (equalitiesAt (e .sig) (e .state .variables) s tb t) (saidAt s tb t) q (kind-is b)) p
-
-  pub own-both-noop : {kind from r : ℕ} {out₀ out : List ℕ} → ReachedBy kind kinds (tb .sources) t → kind ≡ 3
-      → Put out₀ out (statementBytes letterB (equalitiesAt (e .sig) (e .state .variables) s tb t ++ saidAt s tb t)) from r
-      → Put out₀ out (statementBytes letterB (ownAt (e .sig) (e .state .variables) s tb t)) from r
-  unfolding ownAt
-  own-both-noop {kind} b q p = rw (own-noop kind (reachedBy s tb t) (equalitiesAt (e .sig) (e .state .variables) s tb t) (saidAt s tb t) q (kind-is b)) p
+  own-both {kind} b q p = rw (own-both-by kind (reachedBy s tb t) eqs (saidAt s tb t) q (kind-is b)) p
 
   pub own-only : {kind from r : ℕ} {out₀ out row : List ℕ} {ms : Masks} → ReachedBy kind kinds (tb .sources) t → (kind ≡ 1 → ⊥) → (kind ≡ 0 → ⊥) → (kind ≡ 3 → ⊥)
       → row ≡ getD (tb .vars) t [] → ms ≡ masksOf (getD (tb .masks) t [])
       → Put out₀ out (statementBytes letterB (saidBy (structureIn s t) (variablesIn (structureIn s t) row) ms)) from r
-      → Put out₀ out (statementBytes letterB (ownAt (e .sig) (e .state .variables) s tb t)) from r
+      → Put out₀ out (statementBytes letterB own) from r
   unfolding ownAt
   own-only {kind} b i j k x y p =
-      rw (own-said kind (reachedBy s tb t) (equalitiesAt (e .sig) (e .state .variables) s tb t) (saidAt s tb t) i j k (kind-is b)) (said-put letterB x y p)
+      rw (own-said kind (reachedBy s tb t) eqs (saidAt s tb t) i j k (kind-is b)) (said-put letterB x y p)
 
   -- Its statements are those of its source and its own.
-  statements-are : statementsAt (e .state .slots) t ≡ before (e .state .slots) tb t ++ ownAt (e .sig) (e .state .variables) s tb t
+  statements-are : statementsAt (e .state .slots) t ≡ before (e .state .slots) tb t ++ own
   unfolding statementsAt
   statements-are = ap statementsOf (at-slot .1) ∙ at-slot .2 .statements
 
   pub premise-first : {from r : ℕ} {out₀ out : List ℕ} → t ≡ 0
-      → Put out₀ out (statementBytes letterB (ownAt (e .sig) (e .state .variables) s tb t)) from r
+      → Put out₀ out (statementBytes letterB own) from r
       → Put out₀ out (statementBytes letterB (statementsAt (e .state .slots) t)) from r
   unfolding before
   premise-first {from} {r} {out₀} {out} q p =
@@ -212,7 +206,7 @@ module _ {s index types : List ℕ} {kinds : List (List ℕ)} {tb : Tables} {t :
 
   pub premise-later : {u from at r : ℕ} {out₀ out₁ out₂ : List ℕ} → (t ≡ 0 → ⊥) → u ≡ getD (tb .sources) t 0
       → Put out₀ out₁ (statementBytes letterB (statementsAt (e .state .slots) u)) from at
-      → Put out₁ out₂ (statementBytes letterB (ownAt (e .sig) (e .state .variables) s tb t)) at r
+      → Put out₁ out₂ (statementBytes letterB own) at r
       → Put out₀ out₂ (statementBytes letterB (statementsAt (e .state .slots) t)) from r
   unfolding before
   premise-later {u} {from} {at} {r} {out₀} {out₁} {out₂} d q p w =

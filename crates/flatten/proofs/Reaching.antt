@@ -1,30 +1,29 @@
 -- A map reaches a structure: the tables say of it what its slot says.
-use Prim.Native.Nat.{ℕ, zero, suc, _+_, _*_, _≤_, _<_}
+use Prim.Native.Nat.{ℕ, zero, suc, _≤_, _<_}
 use native.Mathlib.Omega.{arith}
 use native.Mathlib.Decide.{decLt, ℕ-discrete}
-use mathlib.Core.Path.{_≡_, refl, ap, sym, _∙_}
+use mathlib.Core.Path.{_≡_, refl, _∙_}
 use mathlib.Core.Bool.{Bool, true, false}
 use mathlib.Core.Option.{Option, none, some}
-use mathlib.Core.List.{List, [], _∷_, _++_, append-nil}
-use lib.Dec.{eqb, ltb}
+use mathlib.Core.List.{List, [], _++_, append-nil}
+use lib.Dec.{ltb}
 use lib.ListN.{length, getD, set, length-set, length-append}
 use lib.Seq.{getD-set-same, getD-set-other}
-use borrow.Author.Tests.{lt-ltb, le-ltb, ltb-true}
-use Rattle.definition.specs.Base.{pick, each, _∈_}
+use borrow.Author.Tests.{lt-ltb, ltb-true}
+use Rattle.definition.specs.Base.{pick, each}
 use Rattle.definition.specs.Limits.{structureLimit}
 use Rattle.definition.specs.Rule.{Structure}
-use Rattle.definition.specs.Group.{Variable, Statement}
+use Rattle.definition.specs.Group.{Variable}
 use Rattle.definition.specs.Signature.{Signature}
-use Rattle.definition.specs.Kinds.{Emitted}
-use Rattle.definition.specs.Walk.{Reached}
-use Rattle.theory.proofs.Lists.{bool-cases}
+use Rattle.definition.specs.Walk.{Reached, State}
 use Rattle.theory.proofs.StepForm.{emitted}
 use Rattle.rule.specs.Lookup.{ruleAt}
 use Rattle.naming.specs.Structures.{structureIn}
 use Rattle.naming.specs.Variables.{GivenOut, newIn}
-use Rattle.flatten.specs.Tables.{Tables, Keyed, unreached, sourceAt, rowAt, masksAt, ownAt, concludedAt, statementsAt, before, newsTo, emittedTo}
+use Rattle.flatten.specs.Tables.{Tables, unreached, sourceAt, concludedAt, before, newsTo, emittedTo}
 use Rattle.flatten.specs.Walks.{ReachedAt, Tie, Ties}
-use Rattle.flatten.proofs.Growing.{grown, source-other, source-same, row-other, row-same, own-stays, concluded-stays, statements-other, before-stays}
+use Rattle.flatten.proofs.Walkable.{Walkable}
+use Rattle.flatten.proofs.Growing.{grown, source-other, source-same, row-other, row-same, own-stays, concluded-stays, before-stays}
 
 -- What was given out below a number is below a larger one.
 pub given-more : {st : Structure} {row : List ℕ} {n m : ℕ} → n ≤ m → GivenOut st row n → GivenOut st row m
@@ -44,8 +43,27 @@ is-reached {sig} {table} {s} {tb} {slots} w u h = go (ℕ-in u)
     go (yes l) = at (getD slots u none) refl (w .each-one u l)
     go (no l) = let q = w .others u (omega arith) in absurd (omega arith)
 
-module _ (sig : Signature) (s : List ℕ) (keyed : Keyed s) (table news : List Variable) (tb : Tables) (slots : List (Option Reached)) (w : Ties sig table s tb slots)
-    (t u : ℕ) (ms row : List ℕ) (r : Reached) (inside : t < length (ruleAt s .structures)) (free : sourceAt tb t ≡ unreached) where
+-- A structure that nothing has reached has no new variables, and emits nothing.
+pub news-none : (s : List ℕ) (tb : Tables) (t : ℕ) → sourceAt tb t ≡ unreached → newsTo s tb (suc t) ≡ newsTo s tb t
+unfolding newsTo
+news-none s tb t e = rw (e, append-nil)
+
+pub emitted-none : (sig : Signature) (s : List ℕ) (tb : Tables) (state : State) (t : ℕ) → sourceAt tb t ≡ unreached
+    → emittedTo sig (state .variables) s tb (state .slots) (suc t) ≡ emittedTo sig (state .variables) s tb (state .slots) t
+unfolding emittedTo
+emitted-none sig s tb state t e = rw (e, append-nil)
+
+module _ {sig : Signature} {s index : List ℕ} {tb : Tables} {types : List ℕ} {next t u number : ℕ} (o : Walkable sig s index tb types next t u number)
+    (news : List Variable) (ms row : List ℕ) (r : Reached) where
+  abbrev table : List Variable
+  table = o .going .state .variables
+
+  abbrev slots : List (Option Reached)
+  slots = o .going .state .slots
+
+  abbrev w : Ties sig table s tb slots
+  w = o .going .walking .ties
+
   abbrev more : Tables
   more = grown tb t u ms row
 
@@ -53,7 +71,7 @@ module _ (sig : Signature) (s : List ℕ) (keyed : Keyed s) (table news : List V
   slots′ = set slots t (some r)
 
   apart : (k : ℕ) → sourceAt tb k < unreached → k ≡ t → ⊥
-  apart k h e = let q : sourceAt tb k ≡ unreached = rw e free in omega arith
+  apart k h e = let q : sourceAt tb k ≡ unreached = rw e (o .free) in omega arith
 
   -- Another structure that was reached is as it was.
   other-stays : (k : ℕ) (q : Reached) → ReachedAt sig table s tb slots k q → ReachedAt sig (table ++ news) s more slots′ k q
@@ -70,7 +88,7 @@ module _ (sig : Signature) (s : List ℕ) (keyed : Keyed s) (table news : List V
         row-long = a .row-long;
         variables = rw (row-other tb t u ms row k d) (a .variables);
         given = rw (row-other tb t u ms row k d) (given-more l (a .given));
-        statements = rw (before-stays slots tb t u ms row r k d e, own-stays sig s keyed table news tb t u ms row k d e g) (a .statements);
+        statements = rw (before-stays slots tb t u ms row r k d e, own-stays sig s (o .ground .keyed) table news tb t u ms row k d e g) (a .statements);
       }
 
   tie-stays : (k : ℕ) → (k ≡ t → ⊥) → (o : Option Reached) → Tie sig table s tb slots k o → Tie sig (table ++ news) s more slots′ k o
@@ -84,11 +102,11 @@ module _ (sig : Signature) (s : List ℕ) (keyed : Keyed s) (table news : List V
     vars-long = length-set (tb .vars) t row ∙ w .vars-long;
     slots-long = length-set slots t (some r) ∙ w .slots-long;
     each-one = λ k h. go k h (ℕ-discrete k t);
-    others = λ k h. source-other tb t u ms row k (λ e. omega arith) ∙ w .others k h;
+    others = λ k h. let i = o .met .target-in in source-other tb t u ms row k (λ e. omega arith) ∙ w .others k h;
   }
     where
       go : (k : ℕ) → k < length (ruleAt s .structures) → Dec (k ≡ t) → Tie sig (table ++ news) s more slots′ k (getD slots′ k none)
-      go k h (yes e) = let l = w .slots-long in rw (e, getD-set-same slots t (some r) none (omega arith)) new
+      go k h (yes e) = let l = w .slots-long in let i = o .met .target-in in rw (e, getD-set-same slots t (some r) none (omega arith)) new
       go k h (no d) = rw (getD-set-other slots t k (some r) none d) (tie-stays k d (getD slots k none) (w .each-one k h))
 
   -- The new variables, and the rules, of the structures before it.
@@ -112,17 +130,9 @@ module _ (sig : Signature) (s : List ℕ) (keyed : Keyed s) (table news : List V
           let x = apart m (a .2 .source-in) in
           let y = apart (sourceAt tb m) (a .2 .source-reached) in
           let g = is-reached w (sourceAt tb m) (a .2 .source-reached) .2 .given in
-          rw (before-stays slots tb t u ms row r m x y, concluded-stays sig s keyed table news tb t u ms row m x y g)
+          rw (before-stays slots tb t u ms row r m x y, concluded-stays sig s (o .ground .keyed) table news tb t u ms row m x y g)
 
   -- And with it.
-  pub news-open : newsTo s tb (suc t) ≡ newsTo s tb t
-  unfolding newsTo
-  news-open = rw (free, append-nil)
-
-  pub emitted-open : emittedTo sig table s tb slots (suc t) ≡ emittedTo sig table s tb slots t
-  unfolding emittedTo
-  emitted-open = rw (free, append-nil)
-
   pub news-grown : t < structureLimit → u < unreached → newsTo s more (suc t) ≡ newsTo s tb t ++ newIn (structureIn s t) (length (newsTo s tb t)) row
   unfolding newsTo
   news-grown h l =

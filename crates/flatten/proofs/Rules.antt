@@ -4,7 +4,7 @@ use native.Mathlib.Omega.{arith}
 use native.Mathlib.Nat.{zero-add}
 use mathlib.Core.Path.{_≡_, refl, ap, sym, _∙_}
 use mathlib.Core.Bool.{Bool, true, false, not}
-use mathlib.Core.Option.{Option, none, some}
+use mathlib.Core.Option.{Option}
 use mathlib.Core.List.{List, [], _∷_, _++_, append-nil}
 use lib.Dec.{eqb, ltb}
 use lib.ListN.{length, getD, length-append}
@@ -12,11 +12,11 @@ use borrow.Author.Tests.{lt-ltb, le-ltb, ne-eqb}
 use Rattle.definition.specs.Base.{pick, each, joined}
 use Rattle.definition.specs.Letters.{letterU, letterB, letterH, underscore}
 use Rattle.definition.specs.Limits.{structureLimit}
-use Rattle.definition.specs.Rule.{MorphismKind, SurjThen}
+use Rattle.definition.specs.Rule.{MorphismKind}
 use Rattle.definition.specs.Group.{Statement, FlatRule}
 use Rattle.definition.specs.Kinds.{Emitted}
 use Rattle.definition.specs.Names.{decimal}
-use Rattle.definition.specs.Walk.{groupName, namedRules, pairsBetween, found}
+use Rattle.definition.specs.Walk.{groupName, namedRules}
 use Rattle.definition.specs.Writer.{recordBytes, flatRuleFields}
 use Rattle.theory.proofs.Lists.{joined-append}
 use Rattle.theory.proofs.StepForm.{emitted}
@@ -27,11 +27,10 @@ use Rattle.rule.specs.Lookup.{ruleAt}
 use Rattle.naming.specs.Structures.{structureIn}
 use Rattle.naming.specs.Variables.{variablesIn}
 use Rattle.statements.specs.Said.{domainsBy}
-use Rattle.statements.specs.Structures.{Stands}
 use Rattle.kinds.specs.Table.{kindIn}
-use Rattle.flatten.specs.Tables.{Tables, unreached, sourceAt, rowAt, masksAt, kindOn, reachedBy, concludedBy, concludedAt, equalitiesAt, saidAt, domainsAt, statementsAt, before, emittedRule, emittedTo}
+use Rattle.flatten.specs.Tables.{Tables, unreached, sourceAt, rowAt, masksAt, reachedBy, concludedBy, concludedAt, equalitiesAt, saidAt, domainsAt, statementsAt, before, emittedRule, emittedTo}
 use Rattle.flatten.specs.Ended.{Ended, Reaching, ReachedBy, Emits}
-use Rattle.flatten.proofs.Reaching.{is-reached}
+use Rattle.flatten.proofs.Premises.{source-is, kind-is}
 use Rattle.flatten.proofs.Numbers.{source-read}
 
 -- The conclusions, by a kind's number.
@@ -88,59 +87,34 @@ module _ {kinds masks : List (List ℕ)} {sources : List ℕ} {k t : ℕ} (w : R
   emits-none d e = record { is = λ sig table s tb a b c l r i.
       rw (← (w .is s tb a c l r i)) (ap length (by-other (masksAt tb t .funcs) (equalitiesAt sig table s tb t) (saidAt s tb t) (domainsAt s tb t) k d e)) }
 
+-- The conclusions of a structure's map, at the end of the walk.
+abbrev concludedOf : {s index types : List ℕ} {kinds : List (List ℕ)} {tb : Tables} → Ended s index types kinds tb → ℕ → List (List Statement)
+concludedOf {s} {index} {types} {kinds} {tb} e t = concludedAt (e .sig) (e .state .variables) s tb t
+
 -- A structure that was reached, at the end of the walk.
 module _ {s index types : List ℕ} {kinds : List (List ℕ)} {tb : Tables} {t : ℕ} (e : Ended s index types kinds tb) (x : Reaching s tb t) where
-  pub ended-in : t < structureLimit
-  ended-in = let a = e .ground .few in let b = x .inside in omega arith
-
-  pub ended-source : getD (tb .sources) t 0 ≡ sourceAt tb t
-  ended-source = source-read tb t (e .finished .ties .sources-long) ended-in
-
-  pub ended-low : getD (tb .sources) t 0 < structureLimit
-  ended-low = rw ended-source (x .reached)
-
-  pub ended-stands : Stands s index t
-  ended-stands = record { sig = e .sig; at = e .ground .sounds t (x .inside) }
-
-  -- The source that it was reached from was reached too.
-  pub source-reaching : {u : ℕ} → u ≡ getD (tb .sources) t 0 → 0 < t → Reaching s tb u
-  source-reaching {u} q h =
-      let a = is-reached (e .finished .ties) t (x .reached) .2 in
-      let d = a .source-down h in let i = x .inside in
-      let y : u ≡ sourceAt tb t = q ∙ ended-source in
-      record { inside = omega arith; reached = rw y (a .source-reached) }
-
-  ended-kind : {k : ℕ} → ReachedBy k kinds (tb .sources) t → kindIn k ≡ reachedBy s tb t
-  ended-kind w = w .is s tb refl (e .tabled) (e .finished .ties .sources-long) (x .reached) ended-in
-
-  -- A map of SurjThen stands in the rule.
-  pub surj-found : {k : ℕ} → ReachedBy k kinds (tb .sources) t → k ≡ 1 → found (pairsBetween (ruleAt s .maps) (getD (tb .sources) t 0) t) ≡ true
-  unfolding reachedBy kindIn
-  surj-found w q = rw ended-source (go (eqb t 0) (rw q at (ended-kind w)))
-    where
-      go : (b : Bool) → some SurjThen ≡ pick b none (kindOn s (sourceAt tb t) t) → found (pairsBetween (ruleAt s .maps) (sourceAt tb t) t) ≡ true
-      go true a = let z : _≡_ {A = ℕ} 0 1 = cc in absurd (omega arith)
-      go false a = e .ground .mapped (sourceAt tb t) t SurjThen (sym a)
+  abbrev eqs : List Statement
+  eqs = equalitiesAt (e .sig) (e .state .variables) s tb t
 
   -- The conclusion.
   pub surj-put : {out₀ out : List ℕ} {from r k : ℕ} {conclusion : List Statement} → ReachedBy k kinds (tb .sources) t → k ≡ 1
-      → concludedAt (e .sig) (e .state .variables) s tb t ≡ conclusion ∷ []
-      → Put out₀ out (statementBytes letterH (equalitiesAt (e .sig) (e .state .variables) s tb t ++ saidAt s tb t)) from r
+      → concludedOf e t ≡ conclusion ∷ []
+      → Put out₀ out (statementBytes letterH (eqs ++ saidAt s tb t)) from r
       → Put out₀ out (statementBytes letterH conclusion) from r
   unfolding concludedAt
   surj-put {conclusion = conclusion} w q z p =
-      let a = by-surj (masksAt tb t .funcs) (equalitiesAt (e .sig) (e .state .variables) s tb t) (saidAt s tb t) (domainsAt s tb t) (ended-kind w) q in
-      let b : conclusion ≡ equalitiesAt (e .sig) (e .state .variables) s tb t ++ saidAt s tb t = ap (λ (l : List (List Statement)). getD l 0 []) (sym z ∙ a) in
+      let a = by-surj (masksAt tb t .funcs) eqs (saidAt s tb t) (domainsAt s tb t) (kind-is e x w) q in
+      let b : conclusion ≡ eqs ++ saidAt s tb t = ap (λ (l : List (List Statement)). getD l 0 []) (sym z ∙ a) in
       rw b p
 
   pub rows-put : {out₀ out : List ℕ} {from r k : ℕ} {conclusion : List Statement} → ReachedBy k kinds (tb .sources) t → (k ≡ 1 → ⊥)
-      → concludedAt (e .sig) (e .state .variables) s tb t ≡ conclusion ∷ []
+      → concludedOf e t ≡ conclusion ∷ []
       → Put out₀ out (statementBytes letterH (domainsBy (structureIn s t) (variablesIn (structureIn s t) (getD (tb .vars) t [])) (getD (getD (tb .masks) t []) 1 0))) from r
       → Put out₀ out (statementBytes letterH conclusion) from r
   unfolding concludedAt domainsAt masksAt rowAt
   rows-put {k = k} {conclusion = conclusion} w d z p =
-      let a : concludedBy (kindIn k) (masksAt tb t .funcs) (equalitiesAt (e .sig) (e .state .variables) s tb t) (saidAt s tb t) (domainsAt s tb t) ≡ conclusion ∷ [] = rw (ended-kind w) z in
-      let b : conclusion ≡ domainsAt s tb t = by-domains (masksAt tb t .funcs) (equalitiesAt (e .sig) (e .state .variables) s tb t) (saidAt s tb t) (domainsAt s tb t) k d a in
+      let a : concludedBy (kindIn k) (masksAt tb t .funcs) eqs (saidAt s tb t) (domainsAt s tb t) ≡ conclusion ∷ [] = rw (kind-is e x w) z in
+      let b : conclusion ≡ domainsAt s tb t = by-domains (masksAt tb t .funcs) eqs (saidAt s tb t) (domainsAt s tb t) k d a in
       rw b p
 
   -- The whole rule.
@@ -152,7 +126,7 @@ module _ {s index types : List ℕ} {kinds : List (List ℕ)} {tb : Tables} {t :
       → Put out₀ out₄ (recordBytes (flatRuleFields (emittedRule s (e .state .slots) tb t count conclusion))) from a₄
   unfolding before
   rule-put {u = u} count conclusion h l p q v b c =
-      let y : u ≡ sourceAt tb t = v ∙ ended-source in
+      let y : u ≡ sourceAt tb t = v ∙ source-is e x in
       let z : before (e .state .slots) tb t ≡ statementsAt (e .state .slots) (sourceAt tb t) = rw (ne-eqb t 0 (λ i. omega arith)) in
       rw (rule-bytes, field-bytes, z, ← y) (then (then (rw l at p) q) (then b c))
 
@@ -193,15 +167,15 @@ module _ {s index types : List ℕ} {kinds : List (List ℕ)} {tb : Tables} (e :
   rules-pass t h = let q : t + 1 ≡ suc t = omega arith in rw (q, le-ltb (sourceAt tb t) unreached h, append-nil)
 
   rules-more : (t : ℕ) → sourceAt tb t < unreached
-      → rulesTo e (t + 1) ≡ rulesTo e t ++ each (emitted (before (e .state .slots) tb t)) (concludedAt (e .sig) (e .state .variables) s tb t)
+      → rulesTo e (t + 1) ≡ rulesTo e t ++ each (emitted (before (e .state .slots) tb t)) (concludedOf e t)
   unfolding rulesTo emittedTo
   rules-more t h = let q : t + 1 ≡ suc t = omega arith in rw (q, lt-ltb (sourceAt tb t) unreached h)
 
-  rules-silent : (t : ℕ) → sourceAt tb t < unreached → concludedAt (e .sig) (e .state .variables) s tb t ≡ [] → rulesTo e (t + 1) ≡ rulesTo e t
+  rules-silent : (t : ℕ) → sourceAt tb t < unreached → concludedOf e t ≡ [] → rulesTo e (t + 1) ≡ rulesTo e t
   unfolding each
   rules-silent t h c = rules-more t h ∙ rw (c, append-nil)
 
-  rules-one : (t : ℕ) {c : List Statement} → sourceAt tb t < unreached → concludedAt (e .sig) (e .state .variables) s tb t ≡ c ∷ []
+  rules-one : (t : ℕ) {c : List Statement} → sourceAt tb t < unreached → concludedOf e t ≡ c ∷ []
       → rulesTo e (t + 1) ≡ rulesTo e t ++ (emitted (before (e .state .slots) tb t) c ∷ [])
   unfolding each
   rules-one t h c = rules-more t h ∙ rw c
@@ -242,14 +216,14 @@ module _ {out₀ out s index types : List ℕ} {kinds : List (List ℕ)} {tb : T
   ruling-reaching d = record { inside = omega arith; reached = rw read at d }
 
   concludes : {b : Bool} → getD (tb .sources) t 0 < unreached → Emits b kinds (tb .sources) (tb .masks) t → (e : Ended s index types kinds tb)
-      → length (concludedAt (e .sig) (e .state .variables) s tb t) ≡ pick b 1 0
+      → length (concludedOf e t) ≡ pick b 1 0
   concludes d y e = y .is (e .sig) (e .state .variables) s tb refl refl (e .tabled) (e .finished .ties .sources-long) (rw read at d) ruling-few
 
   pub ruling-silent : {b : Bool} → getD (tb .sources) t 0 < unreached → Emits b kinds (tb .sources) (tb .masks) t → b ≡ false → Ruling out₀ out s index types kinds tb from at count (t + 1)
   ruling-silent d y f = same-rules (λ e. rules-silent e t (rw read at d) (none-of _ (rw f at (concludes d y e))))
 
   pub ruling-next : {out′ : List ℕ} {b : Bool} {r : ℕ} → getD (tb .sources) t 0 < unreached → Emits b kinds (tb .sources) (tb .masks) t → b ≡ true
-      → ((e : Ended s index types kinds tb) (conclusion : List Statement) → concludedAt (e .sig) (e .state .variables) s tb t ≡ conclusion ∷ []
+      → ((e : Ended s index types kinds tb) (conclusion : List Statement) → concludedOf e t ≡ conclusion ∷ []
         → Put out out′ (recordBytes (flatRuleFields (emittedRule s (e .state .slots) tb t count conclusion))) at r)
       → r ≤ countLimit → Ruling out₀ out′ s index types kinds tb from r (count + 1) (t + 1)
   ruling-next {out′} {b} {r} d y f p l = record {
@@ -259,8 +233,8 @@ module _ {out₀ out s index types : List ℕ} {kinds : List (List ℕ)} {tb : T
       small = l;
     }
     where
-      one : (e : Ended s index types kinds tb) → (c : List Statement) × (concludedAt (e .sig) (e .state .variables) s tb t ≡ c ∷ [])
-      one e = one-of (concludedAt (e .sig) (e .state .variables) s tb t) (rw f at (concludes d y e))
+      one : (e : Ended s index types kinds tb) → (c : List Statement) × (concludedOf e t ≡ c ∷ [])
+      one e = one-of (concludedOf e t) (rw f at (concludes d y e))
       more : (e : Ended s index types kinds tb) → rulesTo e (t + 1) ≡ rulesTo e t ++ (emitted (before (e .state .slots) tb t) (one e .0) ∷ [])
       more e = rules-one e t (rw read at d) (one e .1)
 

@@ -1,49 +1,42 @@
 -- Structure 0: its rows are all flagged, and the walk begins.
-use Prim.Native.Nat.{ℕ, zero, suc, _+_, _*_, _≤_, _<_}
+use Prim.Native.Nat.{ℕ, zero, suc, _+_, _≤_, _<_}
 use native.Mathlib.Omega.{arith}
 use native.Mathlib.Decide.{ℕ-discrete}
 use native.Mathlib.Nat.{zero-add}
 use mathlib.Core.Path.{_≡_, refl, ap, sym, _∙_}
-use mathlib.Core.Bool.{Bool, true, false}
+use mathlib.Core.Bool.{true}
 use mathlib.Core.Option.{Option, none, some}
-use mathlib.Core.List.{List, [], _∷_, _++_, append-nil, List·Memᴰ·head, List·Memᴰ·tail}
-use lib.Dec.{eqb, ltb}
-use lib.ListN.{length, getD, set, replicate, length-set, length-append, length-replicate, getD-replicate}
+use mathlib.Core.List.{List, [], _∷_, List·Memᴰ·head, List·Memᴰ·tail}
+use lib.ListN.{length, getD, set, replicate, length-set, length-replicate}
 use lib.Seq.{sets, length-sets, getD-set-same, getD-set-other}
-use borrow.Author.Tests.{lt-ltb}
-use Rattle.definition.specs.Base.{pick, keep, each, all, span, placeFrom, _∈_}
+use Rattle.definition.specs.Base.{keep, each, all, span, placeFrom, _∈_}
 use Rattle.definition.specs.Limits.{structureLimit, fieldLimit, variableLimit}
-use Rattle.definition.specs.Rule.{Rule, Structure, Element, Row}
-use Rattle.definition.specs.Group.{Variable, Statement}
+use Rattle.definition.specs.Rule.{Structure, Element}
+use Rattle.definition.specs.Group.{Variable}
 use Rattle.definition.specs.Signature.{Signature}
-use Rattle.definition.specs.Names.{numbersOf, variableAt, numbered, newVariables}
-use Rattle.definition.specs.Rows.{members, rowsOf, lastElement, rowStatement, typeSets}
-use Rattle.definition.specs.Kinds.{Side, typeIn, initialStatements}
-use Rattle.definition.specs.Walk.{Reached, State, structureAt, sideOf, reach, untouched, nothingTaken, initialState, namedRules, groupName}
+use Rattle.definition.specs.Names.{numbersOf, numbered, newVariables}
+use Rattle.definition.specs.Rows.{members, rowsOf, lastElement}
+use Rattle.definition.specs.Kinds.{typeIn, initialStatements}
+use Rattle.definition.specs.Walk.{Reached, State, sideOf, reach, nothingTaken, initialState, namedRules, groupName}
 use Rattle.theory.proofs.Lists.{all-mem, each-mem, length-each, getD-each}
 use Rattle.theory.proofs.Numbering.{fresh, new-length, place-in}
 use Rattle.theory.proofs.RowLaws.{members-mem}
-use Rattle.theory.proofs.WalkLaws.{mem-at}
 use Rattle.rule.specs.Lookup.{ruleAt}
 use Rattle.rows.specs.Kernel.{TypesOf}
 use Rattle.rows.proofs.Kept.{member-last}
 use Rattle.rows.proofs.Whole.{keep-all}
 use Rattle.naming.specs.Structures.{structureIn}
-use Rattle.naming.specs.Variables.{noVar, rowOf, variablesIn, newIn}
+use Rattle.naming.specs.Variables.{noVar, rowOf, newIn}
 use Rattle.naming.proofs.Whole.{take-row, length-numbered}
 use Rattle.naming.proofs.Carrying.{nothing-below, length-nothing}
 use Rattle.naming.proofs.News.{typesOf}
 use Rattle.naming.proofs.Placed.{length-numbers-of}
 use Rattle.naming.proofs.Reached.{new-row, types-more}
 use Rattle.flags.specs.Flags.{flagAt}
-use Rattle.statements.specs.Said.{flaggedFrom, flagged, memberFlag, saidBy}
-use Rattle.flatten.specs.Tables.{Tables, unreached, sourceAt, rowAt, masksOf, masksAt, reachedBy, ownBy, saidAt, ownAt, concludedBy, concludedAt, before, newsTo, emittedTo}
+use Rattle.statements.specs.Said.{flaggedFrom, memberFlag, saidBy}
+use Rattle.flatten.specs.Tables.{Tables, unreached, sourceAt, rowAt, masksOf, allFlags, allMasks, masksAt, reachedBy, ownBy, saidAt, ownAt, concludedBy, concludedAt, before, newsTo, emittedTo}
 use Rattle.flatten.specs.Walks.{ReachedAt, Tie, Ties, Walking}
 use Rattle.flatten.proofs.Stepping.{numbered-given}
-
--- Every flag is set.
-abbrev pub allFlags : ℕ
-allFlags = 18446744073709551615
 
 span-mem : (k a i : ℕ) → a ≤ i → i < a + k → i ∈ span k a
 unfolding span
@@ -71,9 +64,6 @@ pub record FewRows (st : Structure) : Type 0 where
   pub preds : length (st .predRows) ≤ fieldLimit
   pub funcs : length (st .funcRows) ≤ fieldLimit
   pub elements : length (st .elements) ≤ fieldLimit
-
-abbrev pub allMasks : List ℕ
-allMasks = allFlags ∷ allFlags ∷ allFlags ∷ allFlags ∷ []
 
 members-flagged : (st : Structure) → length (st .elements) ≤ fieldLimit → keep (memberFlag st allFlags) (members st) ≡ members st
 unfolding memberFlag numbersOf
@@ -207,7 +197,9 @@ module _ (sig : Signature) (s : List ℕ) (rows : FewRows (structureIn s 0)) (so
     where
       go : (k : ℕ) → k < length (ruleAt s .structures) → Dec (k ≡ 0) → Tie sig news s tb slots k (getD slots k none)
       go k h (yes e) = rw (e, getD-set-same (each (λ (x : Structure). none) (ruleAt s .structures)) 0 (some after) none (rw length-each some-one)) first-one
-      go k h (no e) = rw (getD-set-other (each (λ (x : Structure). none) (ruleAt s .structures)) 0 k (some after) none e, getD-each {B = Option Reached} (λ (x : Structure). none) (ruleAt s .structures) k st none h) (other-source k (omega arith))
+      go k h (no e) =
+          rw (getD-set-other (each (λ (x : Structure). none) (ruleAt s .structures)) 0 k (some after) none e,
+            getD-each {B = Option Reached} (λ (x : Structure). none) (ruleAt s .structures) k st none h) (other-source k (omega arith))
 
   news-first : newsTo s tb 1 ≡ newIn st 0 row
   unfolding newsTo

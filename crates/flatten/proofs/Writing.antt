@@ -1,29 +1,27 @@
 -- The entry: what was measured and written, and what it means.
-use Prim.Native.Nat.{ℕ, zero, suc, _+_, _≤_, _<_, min}
+use Prim.Native.Nat.{ℕ, _≤_, _<_, min}
 use native.Mathlib.Omega.{arith}
 use native.Mathlib.Nat.{zero-add}
-use mathlib.Core.Bool.{Bool, true, false}
+use mathlib.Core.Bool.{true, false}
 use mathlib.Core.Path.{_≡_, refl, ap, sym, _∙_}
-use mathlib.Core.List.{List, [], _∷_, _++_}
+use mathlib.Core.List.{List, [], _++_}
 use lib.ListN.{length, getD, set, take, drop, replicate, length-append, length-drop, length-replicate}
 use lib.Seq.{take-at, drop-at, sets}
 use borrow.Author.Tests.{lt-ltb, le-ltb}
-use Rattle.definition.specs.Base.{Outcome, refused, accepted, onAccepted, pick}
+use Rattle.definition.specs.Base.{Outcome, refused, accepted, onAccepted}
 use Rattle.definition.specs.Flatten.{groupLeft, fitted, flattenOf}
 use Rattle.definition.specs.Writer.{groupBytesOf}
-use Rattle.definition.specs.Demands.{Demand3}
 use Rattle.definition.specs.Rule.{Rule, readRule, ruleOf, rulePart}
 use Rattle.definition.specs.Signature.{Signature, readSignature}
 use Rattle.definition.specs.Limits.{structureLimit, fieldLimit, variableLimit}
 use Rattle.definition.specs.Names.{numbered}
 use Rattle.definition.specs.Walk.{State, walkFrom, initialState, nothingTaken, walkOf, unmappedAuxiliary, unmappedKind, completed}
 use Rattle.theory.proofs.Theorems.{demand-3}
-use Rattle.records.specs.Buffer.{Put, capped}
-use Rattle.records.proofs.Tail.{measured}
+use Rattle.records.specs.Buffer.{Put}
 use Rattle.signature.specs.Index.{signatureAt}
 use Rattle.signature.specs.declared.ids.Counts.{Counts}
 use Rattle.rule.specs.Lookup.{ruleAt}
-use Rattle.reading.specs.Answers.{ruleAnswer, RuleUsable, Held}
+use Rattle.reading.specs.Answers.{ruleAnswer, RuleUsable}
 use Rattle.reading.specs.Verdicts.{ruleRead}
 use Rattle.reading.specs.declared.RuleReading.{RuleReading}
 use Rattle.reading.specs.declared.RuleReading.the-variants as reading
@@ -31,12 +29,13 @@ use Rattle.kinds.specs.Table.{Tabled}
 use Rattle.naming.specs.Structures.{structureIn}
 use Rattle.naming.specs.Variables.{noVar, rowOf, newIn}
 use Rattle.naming.proofs.News.{typesOf}
-use Rattle.flatten.specs.Tables.{Tables, tables, unreached}
+use Rattle.flatten.specs.Tables.{Tables, tables, unreached, allMasks}
 use Rattle.flatten.specs.Left.{Going}
 use Rattle.flatten.specs.Ended.{Ground, Ended}
 use Rattle.flatten.specs.Went.{wholeWalk, Walks}
 use Rattle.flatten.specs.Answers.{outcomeOf, sizeOf, Demanded, Writes, Readable, ruleOutcome, stopIn, numberIn}
-use Rattle.flatten.proofs.Starting.{FewRows, noMasks, allMasks, started}
+use Rattle.flatten.proofs.Starting.{noMasks, started}
+use Rattle.flatten.proofs.Grounds.{AllMapped, first-rows}
 use Rattle.flatten.proofs.Folding.{left-all}
 use Rattle.flatten.proofs.Going.{row-read}
 use Rattle.flatten.specs.declared.entry.Flattened.{Flattened}
@@ -44,11 +43,12 @@ use Rattle.flatten.specs.declared.entry.Flattened.the-variants.{Written,
 use Rattle.flatten.specs.declared.walk.Walked.{Walked}
 use Rattle.flatten.specs.declared.walk.Walked.the-variants as walked
 
-module _ {o p : List ℕ} {m : ℕ} (h : Put [] o p 0 m) (out : List ℕ) where
-  refuse-31 : fitted (length out) p ≡ refused 31 → Writes (Refused 31) out (o ++ out) (fitted (length out) p)
-  refuse-31 e = record { answer = sym e; fits = omega arith; rest = measured out h }
+-- The bytes were measured, and the buffer is as it was.
+module _ {none o p : List ℕ} {m : ℕ} (h : Put none o p 0 m) {out measure : List ℕ} (same : measure ≡ out) where
+  refuse-31 : fitted (length out) p ≡ refused 31 → Writes (Refused 31) out measure (fitted (length out) p)
+  refuse-31 e = record { answer = sym e; fits = omega arith; rest = same }
 
-  pub over : 65535 < m → Writes (Refused 31) out (o ++ out) (fitted (length out) p)
+  pub over : 65535 < m → Writes (Refused 31) out measure (fitted (length out) p)
   unfolding fitted
   over l = let k : min (length out) 65535 < length p = omega (arith, h .size) in refuse-31 (rw (lt-ltb _ _ k))
 
@@ -56,21 +56,17 @@ module _ {o p : List ℕ} {m : ℕ} (h : Put [] o p 0 m) (out : List ℕ) where
     exact : length p ≡ m
     exact = omega (arith, h .size)
 
-    pub no-room : length (o ++ out) < m → Writes (Refused 31) out (o ++ out) (fitted (length out) p)
+    pub no-room : length out < m → Writes (Refused 31) out measure (fitted (length out) p)
     unfolding fitted
     no-room r =
         let e : length p ≡ m = exact in
-        let z : o ++ out ≡ out = measured out h in
-        let k : length out < m = rw z at r in
         let q : min (length out) 65535 < length p = omega arith in refuse-31 (rw (lt-ltb _ _ q))
 
-    pub wrote-all : {fin : List ℕ} {k : ℕ} → m ≤ length (o ++ out) → Put (o ++ out) fin p 0 k → Writes (Written m) out fin (fitted (length out) p)
+    pub wrote-all : {fin : List ℕ} {k : ℕ} → m ≤ length out → Put measure fin p 0 k → Writes (Written m) out fin (fitted (length out) p)
     unfolding fitted
     wrote-all {fin} {k} r w =
         let e : length p ≡ m = exact in
-        let z : o ++ out ≡ out = measured out h in
-        let y : m ≤ length out = rw z at r in
-        let v : Put out fin p 0 k = rw z at w in
+        let v : Put out fin p 0 k = rw same at w in
         let f : fin ≡ p ++ drop m out = v .same (omega arith) (omega arith) ∙ rw (zero-add, e) in
         let q : length p ≤ min (length out) 65535 = omega arith in
         let t : take m fin ≡ p = rw f (take-at p (drop m out) m e) in
@@ -90,18 +86,24 @@ pub ended : {sig : Signature} {s index types : List ℕ} {kinds : List (List ℕ
 ended {sig} gr td walked.On w e = record { sig = sig; state = w .is .0; ground = gr; tabled = td; finished = w .is .2 }
 ended gr td (walked.Refused n) w e = let z : _≡_ {A = ℕ} 0 1 = cc in absurd (omega arith)
 
--- The walk's beginning.
-pub begin-going : {sig : Signature} {s index : List ℕ} → Ground sig s index → FewRows (structureIn s 0) → {vars : List (List ℕ)} {types : List ℕ}
-    → vars ≡ set (replicate structureLimit (replicate fieldLimit noVar)) 0 (rowOf (numbered 0 (nothingTaken (structureIn s 0))))
-    → types ≡ sets (replicate variableLimit 0) 0 (typesOf (newIn (structureIn s 0) 0 (getD vars 0 [])))
-    → Going sig s (tables (set (replicate structureLimit unreached) 0 0) (set (replicate structureLimit noMasks) 0 allMasks) vars) types (length (structureIn s 0 .elements)) 0 0
-begin-going {sig} {s} gr rows {vars} {types} e f =
-    let blank : List (List ℕ) = replicate structureLimit (replicate fieldLimit noVar) in
-    let r : getD vars 0 [] ≡ rowOf (numbered 0 (nothingTaken (structureIn s 0))) = row-read blank _ e (length-replicate structureLimit (replicate fieldLimit noVar)) (omega arith) in
+-- The walk's beginning: no structure has a row of variables,
+abbrev noRows : List (List ℕ)
+noRows = replicate structureLimit (replicate fieldLimit noVar)
+
+-- then structure 0 has.
+pub begin-going : {sig : Signature} {s index : List ℕ} → Ground sig s index → {row types first : List ℕ}
+    → row ≡ rowOf (numbered 0 (nothingTaken (structureIn s 0)))
+    → types ≡ sets (replicate variableLimit 0) 0 (typesOf (newIn (structureIn s 0) 0 (getD (set noRows 0 row) 0 [])))
+    → first ≡ allMasks
+    → Going sig s (tables (set (replicate structureLimit unreached) 0 0) (set (replicate structureLimit noMasks) 0 first) (set noRows 0 row))
+      types (length (structureIn s 0 .elements)) 0 0
+begin-going {sig} {s} gr {row} {types} e f m =
+    let r : getD (set noRows 0 row) 0 [] ≡ rowOf (numbered 0 (nothingTaken (structureIn s 0))) =
+      row-read noRows row {t = 0} refl (length-replicate structureLimit (replicate fieldLimit noVar)) (omega arith) ∙ e in
     let g : types ≡ sets (replicate variableLimit 0) 0 (typesOf (newIn (structureIn s 0) 0 (rowOf (numbered 0 (nothingTaken (structureIn s 0)))))) = f ∙ rw r in
     record {
       state = initialState (ruleAt s);
-      walking = rw e (started sig s rows (gr .some-one) g);
+      walking = rw (e, m) (started sig s (first-rows gr) (gr .some-one) g);
       rest = ap (walkFrom sig (ruleAt s) (initialState (ruleAt s))) (left-all s (gr .once) (gr .some-one));
     }
 
@@ -115,24 +117,25 @@ module _ (sig : Signature) (s : List ℕ) (room : ℕ) where
   unfolding ruleOutcome walkOf
   refused-22 a e = rw (a, e)
 
-  module _ (a : unmappedAuxiliary (ruleAt s) ≡ false) (b : unmappedKind (ruleAt s) ≡ false) where
+  module _ (a : AllMapped s) where
     walk-refused : {n : ℕ} → wholeWalk sig s ≡ refused n → ruleOutcome sig s room ≡ refused n
     unfolding ruleOutcome walkOf
-    walk-refused e = rw (a, b, e)
+    walk-refused e = rw (a .0, a .1, e)
 
     walk-accepted : {state : State} → wholeWalk sig s ≡ accepted state → ruleOutcome sig s room ≡ fitted room (groupBytesOf (groupLeft (ruleAt s) state))
     unfolding ruleOutcome walkOf
-    walk-accepted e = rw (a, b, e)
+    walk-accepted e = rw (a .0, a .1, e)
 
     pub stopped-walk : {tb : Tables} {types : List ℕ} {k n : ℕ} (r : Walked) → Walks r sig s tb types → r ≡ walked.Refused n → k ≡ stopIn r → ruleOutcome sig s room ≡ refused k
     stopped-walk walked.On w e f = let z : _≡_ {A = ℕ} 0 1 = cc in absurd (omega arith)
     stopped-walk (walked.Refused n) w e f = rw f (walk-refused (w .is))
 
-    pub ended-writes : {index types : List ℕ} {kinds : List (List ℕ)} {tb : Tables} (gr : Ground sig s index) (td : Tabled kinds (completed (ruleAt s .maps) (ruleAt s .kinds) (ruleAt s .auxiliaries)))
-        (r : Walked) (w : Walks r sig s tb types) (e : r ≡ walked.On) {q : Flattened} {out₀ out : List ℕ}
-        → Writes q out₀ out (fitted room (groupBytesOf (groupLeft (ruleAt s) (ended gr td r w e .state)))) → Writes q out₀ out (ruleOutcome sig s room)
+    -- The group is written for the state that the walk ended in.
+    pub ended-writes : {index types : List ℕ} {kinds : List (List ℕ)} {tb : Tables} {q : Flattened} {out₀ out : List ℕ}
+        → Ground sig s index → Tabled kinds (completed (ruleAt s .maps) (ruleAt s .kinds) (ruleAt s .auxiliaries)) → (r : Walked) → Walks r sig s tb types → r ≡ walked.On
+        → ((e : Ended s index types kinds tb) → Writes q out₀ out (fitted room (groupBytesOf (groupLeft (ruleAt s) (e .state))))) → Writes q out₀ out (ruleOutcome sig s room)
     unfolding ended
-    ended-writes gr td walked.On w e v = rw (walk-accepted (w .is .1)) v
+    ended-writes gr td walked.On w e v = rw (walk-accepted (w .is .1)) (v (ended gr td walked.On w e))
     ended-writes gr td (walked.Refused n) w e v = let z : _≡_ {A = ℕ} 0 1 = cc in absurd (omega arith)
 
 -- The reading.

@@ -45,6 +45,13 @@ rowAt tb t = getD (tb .vars) t []
 abbrev pub masksOf : List ℕ → Masks
 masksOf row = record { preds = getD row 0 0; funcs = getD row 1 0; members = getD row 2 0; free = getD row 3 0 }
 
+-- Every flag set; the masks of a structure that says all that it has.
+abbrev pub allFlags : ℕ
+allFlags = 18446744073709551615
+
+abbrev pub allMasks : List ℕ
+allMasks = allFlags ∷ allFlags ∷ allFlags ∷ allFlags ∷ []
+
 unfoldable pub masksAt : Tables → ℕ → Masks
 masksAt tb t = masksOf (getD (tb .masks) t [])
 

@@ -10,8 +10,8 @@ ghost use Rattle.flatten.specs.Tables.{tables};
 ghost use Rattle.flatten.specs.Ended.{Ended};
 ghost use Rattle.flatten.specs.Answers.{Readable, Writes, outcomeOf, sizeOf, Demanded, ruleOutcome, numberIn, stopIn};
 use crate::output::put_group;
-use crate::tables::ALL;
 use crate::tables::UNREACHED;
+use crate::tables::initial_matching_stmts;
 use crate::walk::Walked;
 use crate::walk::flatten_morphisms;
 use kinds::sources::unmapped_auxiliary;
@@ -19,9 +19,10 @@ use kinds::sources::unmapped_kind;
 use kinds::table::kind_table;
 use naming::assign::initial_el_vars;
 use naming::types::type_variables;
+use naming::variables::NO_VAR;
 use naming::variables::VARIABLES;
 use reading::RuleReading;
-use reading::read_rule;
+use reading::read_rule_into;
 use rule::ids::RULE_INDEX;
 use signature::ids::Counts;
 use signature::ids::INDEX;
@@ -52,11 +53,12 @@ fn write_group(
     ensures { λ r. ⌜ ((e : Ended (now (s .entry)) (now (index .entry)) (now (types .entry)) (now (kinds .entry)) (tables (now (sources .entry)) (now (masks .entry)) (now (vars .entry))))
         → Writes r (now (out .entry)) (now (out .exit)) (fitted (length (now (out .entry))) (groupBytesOf (groupLeft (ruleAt (now (s .entry))) (e .state))))) ⌝ }
 {
+    let room = out.len();
     let size = put_group(&mut out[..0], s, index, n, kinds, sources, masks, vars, types);
     if ANSWER < size {
         return Flattened::Refused(31);
     }
-    if out.len() < size {
+    if room < size {
         return Flattened::Refused(31);
     }
     put_group(out, s, index, n, kinds, sources, masks, vars, types);
@@ -93,15 +95,16 @@ pub fn flatten_rule(
         return Flattened::Refused(22);
     }
     let kinds = kind_table(s, index);
-    let mut vars = initial_el_vars(s, index);
+    let mut vars = [[NO_VAR; 64]; 32];
+    vars[0] = initial_el_vars(s, index);
     let mut sources = [UNREACHED; 32];
     sources[0] = 0;
     let mut masks = [[0u64; 4]; 32];
-    masks[0] = [ALL, ALL, ALL, ALL];
+    masks[0] = initial_matching_stmts();
     let mut types = [0u16; VARIABLES];
     type_variables(&mut types, s, index, 0, vars[0], 0);
     let w = flatten_morphisms(
-        sig, arities, counts, s, index, n, kinds, &mut vars, &mut sources, &mut masks, &mut types,
+        sig, arities, counts, s, index, n, &kinds, &mut vars, &mut sources, &mut masks, &mut types,
     );
     let Walked::On = w else {
         return Flattened::Refused(stopped(w));
@@ -127,7 +130,7 @@ pub fn flatten(sig: &[u8], rule: &[u8], out: &mut [u8]) -> Flattened
 {
     let mut symbols = [0u16; INDEX];
     let mut index = [0u16; RULE_INDEX];
-    let r = read_rule(sig, rule, &mut symbols, &mut index);
+    let r = read_rule_into(sig, rule, &mut symbols, &mut index);
     let RuleReading::Sound { counts, structures } = r else {
         return Flattened::Refused(number(r));
     };

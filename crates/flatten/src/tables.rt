@@ -3,14 +3,21 @@ ghost use mathlib.Core.List.{[]};
 ghost use mathlib.Core.Path.{_≡_};
 ghost use Prim.Native.Nat.{_<_};
 ghost use lib.ListN.{getD};
-ghost use Rattle.flatten.specs.Tables.{masksOf};
+ghost use Rattle.flatten.specs.Tables.{masksOf, allMasks};
 use statements::masks::Masks;
 
 // The source of a structure that no map has reached yet.
 pub const UNREACHED: u8 = 32;
 
 // Every flag is set.
-pub const ALL: u64 = 18446744073709551615;
+const ALL: u64 = 18446744073709551615;
+
+// The masks of structure 0: its premise has all that it says, every row and every TypeSet.
+pub fn initial_matching_stmts() -> [u64; 4]
+    ensures { λ r. ⌜ r ≡ allMasks ⌝ }
+{
+    [ALL, ALL, ALL, ALL]
+}
 
 // A structure's number as an index.
 pub fn place(k: u8) -> usize

@@ -33,9 +33,9 @@ use rule::ids::RULE_INDEX;
 use signature::ids::Counts;
 use signature::ids::INDEX;
 use steps::step::Step;
-use steps::kinds::flatten_if_arbitrary;
-use steps::kinds::flatten_non_surj_then;
-use steps::kinds::flatten_surj_then;
+use steps::morphisms::flatten_if_arbitrary;
+use steps::morphisms::flatten_non_surj_then;
+use steps::morphisms::flatten_surj_then;
 
 // The walk goes on, or is refused.
 pub enum Walked {
@@ -128,14 +128,12 @@ fn walk_map(
     };
     let m = map_between(s, index, u, t);
     let first = *next;
-    let table = *vars;
-    let grown = assign_el_vars(table, s, index, u, t, m, first);
-    let target = grown[t];
-    let r = flatten_map(sig, arities, counts, s, index, kind, u, t, m, table[u], target, first, types);
+    *vars = assign_el_vars(*vars, s, index, u, t, m, first);
+    let target = vars[t];
+    let r = flatten_map(sig, arities, counts, s, index, kind, u, t, m, vars[u], target, first, types);
     let Step::Adds(added) = r else {
         return Walked::Refused(number(r));
     };
-    *vars = grown;
     type_variables(types, s, index, t, target, first);
     sources[t] = u as u8;
     masks[t] = [added.preds, added.funcs, added.members, added.free];
@@ -151,14 +149,14 @@ pub fn flatten_morphisms(
     s: &[u8],
     index: &[u16; RULE_INDEX],
     n: usize,
-    kinds: [[u8; 32]; 32],
+    kinds: &[[u8; 32]; 32],
     vars: &mut [[u16; 64]; 32],
     sources: &mut [u8; 32],
     masks: &mut [[u64; 4]; 32],
     types: &mut [u16; VARIABLES],
 ) -> Walked
     requires { ⌜ Indexed (now sig) (now arities) counts × Ground (signatureAt (now sig) (now arities) counts) (now s) (now index) ⌝ }
-    requires { ⌜ (n ≡ length (ruleAt (now s) .structures)) × Tabled kinds (completed (ruleAt (now s) .maps) (ruleAt (now s) .kinds) (ruleAt (now s) .auxiliaries)) ⌝ }
+    requires { ⌜ (n ≡ length (ruleAt (now s) .structures)) × Tabled (now kinds) (completed (ruleAt (now s) .maps) (ruleAt (now s) .kinds) (ruleAt (now s) .auxiliaries)) ⌝ }
     requires { ⌜ Going (signatureAt (now sig) (now arities) counts) (now s) (tables (now sources) (now masks) (now vars)) (now types) (length (structureIn (now s) 0 .elements)) 0 0 ⌝ }
     ensures { λ r. ⌜ Walks r (signatureAt (now (sig .entry)) (now (arities .entry)) counts) (now (s .entry))
         (tables (now (sources .exit)) (now (masks .exit)) (now (vars .exit))) (now (types .exit)) ⌝ }

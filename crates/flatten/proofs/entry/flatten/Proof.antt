@@ -8,11 +8,11 @@ use Rattle.flatten.proofs.entry.flatten.Reads as reads
 use Rattle.flatten.proofs.entry.flatten.Lts as lts
 use Rattle.flatten.proofs.entry.flatten_rule.Reads as flatten-rule-reads
 use Rattle.flatten.proofs.entry.number.Reads as number-reads
-use Rattle.reading.proofs.read_rule.Reads as read-rule-reads
+use Rattle.reading.proofs.read_rule_into.Reads as read-rule-into-reads
 
 -- src/entry.rt:130:9
-read-rule-requires : tie.Need-read-rule-requires
-read-rule-requires c κs = search needs
+read-rule-into-requires : tie.Need-read-rule-into-requires
+read-rule-into-requires c κs = search needs
 
 -- src/entry.rt:131:30
 enum-known-r : tie.Need-enum-known-r
@@ -28,11 +28,13 @@ number-requires c κs = search needs
 
 -- src/entry.rt:132:9
 returns : tie.Need-returns
-returns c = let u = unread _ _ _ _ (c .before .before .before .read-rule .ensures .0) (c .before .enum-told .given .1) (c .number .ensures) in (sym u, ((omega arith, refl), tt))
+returns c =
+    let u = unread _ _ _ _ (c .before .before .before .read-rule-into .ensures .0) (c .before .enum-told .given .1) (c .number .ensures) in
+    (sym u, ((omega arith, refl), tt))
 
 -- src/entry.rt:134:5
 flatten-rule-requires : tie.Need-flatten-rule-requires
-flatten-rule-requires c κs = readable _ _ _ _ _ (c .before .before .before .before .before .before .read-rule .ensures .0) (c .before .before .before .before .before .before .read-rule .ensures .1) (c .before .before .before .before .r .given .1)
+flatten-rule-requires c κs = let r = c .before .before .before .before in let w = r .before .before .read-rule-into .ensures in readable _ _ _ _ _ (w .0) (w .1) (r .r .given .1)
 
 -- src/entry.rt:123:1
 same-length : tie.Need-same-length
@@ -40,13 +42,15 @@ same-length c = search needs
 
 -- src/entry.rt:123:1
 returns-2 : tie.Need-returns-2
-returns-2 c = all-said _ _ _ (c .before .before .flatten-rule .ensures) (flatten-read _ _ _ _ _ (readable _ _ _ _ _ (c .before .before .before .before .before .before .before .before .before .read-rule .ensures .0) (c .before .before .before .before .before .before .before .before .before .read-rule .ensures .1) (c .before .before .before .before .before .before .before .r .given .1)))
+returns-2 c =
+    let r = c .before .before .before .before .before .before .before in let w = r .before .before .read-rule-into .ensures in
+    all-said _ _ _ (c .before .before .flatten-rule .ensures) (flatten-read _ _ _ _ _ (readable _ _ _ _ _ (w .0) (w .1) (r .r .given .1)))
 
 pub flatten-spec : {M : Type 1} → statement M
 flatten-spec =
     tie.close
     (tie.spec
-    read-rule-requires
+    read-rule-into-requires
     enum-known-r
     enum-told
     number-requires

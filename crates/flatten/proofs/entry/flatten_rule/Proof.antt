@@ -1,5 +1,7 @@
 use mathlib.Core.Path.{refl, sym, _∙_}
-use Rattle.flatten.proofs.Grounds.{ready, counted, ground, few-rows}
+use Rattle.signature.specs.Index.{signatureAt}
+use Rattle.flatten.specs.Ended.{Ground}
+use Rattle.flatten.proofs.Grounds.{AllMapped, ready, counted, ground, first-laid}
 use Rattle.flatten.proofs.Writing.{begin-going, ended, ended-writes, refused-at-once, refused-21, refused-22, stopped-walk}
 use borrow.Author.Needs.{needs}
 use native.Mathlib.Omega.{arith}
@@ -16,6 +18,19 @@ use Rattle.kinds.proofs.table.kind_table.Reads as kind-table-reads
 use Rattle.naming.proofs.assign.initial_el_vars.Reads as initial-el-vars-reads
 use Rattle.naming.proofs.types.type_variables.Reads as type-variables-reads
 
+abbrev S : tie.Else2 → tie.Start
+S c = c .before .before .before .before .before .before .before
+
+abbrev K : tie.After-enum-told → tie.After-kind-table
+K c = c .before .before .before .before .before .before .before .before .before .before .before .before .before
+
+-- Behind 21 and 22.
+all-mapped : (c : tie.Else2) → AllMapped (S c .args .s .now)
+all-mapped c = (sym (c .before .before .before .unmapped-auxiliary .ensures) ∙ c .before .before .if1 .left, sym (c .before .unmapped-kind .ensures) ∙ c .if2 .left)
+
+gr : (c : tie.Else2) → Ground (signatureAt (S c .args .sig .now) (S c .args .arities .now) (S c .args .counts)) (S c .args .s .now) (S c .args .index .now)
+gr c = ground (S c .pre) (all-mapped c)
+
 -- src/entry.rt:89:8
 unmapped-auxiliary-requires : tie.Need-unmapped-auxiliary-requires
 unmapped-auxiliary-requires c κs = ready (c .before .before .before .pre)
@@ -30,19 +45,27 @@ unmapped-kind-requires c κs = ready (c .before .before .before .before .before 
 
 -- src/entry.rt:93:9
 returns-2 : tie.Need-returns-2
-returns-2 c = refused-at-once _ (refused-22 _ _ _ (sym (c .before .before .before .unmapped-auxiliary .ensures) ∙ c .before .before .if1 .left) (sym (c .before .unmapped-kind .ensures) ∙ c .if2 .taken))
+returns-2 c = refused-at-once _ (refused-22 _ _ _
+    (sym (c .before .before .before .unmapped-auxiliary .ensures) ∙ c .before .before .if1 .left) (sym (c .before .unmapped-kind .ensures) ∙ c .if2 .taken))
 
 -- src/entry.rt:95:17
 kind-table-requires : tie.Need-kind-table-requires
-kind-table-requires c κs = ready (c .before .before .before .before .before .before .before .pre)
+kind-table-requires c κs = ready (S c .pre)
 
 -- src/entry.rt:96:20
 initial-el-vars-requires : tie.Need-initial-el-vars-requires
-initial-el-vars-requires c κs = (ground (c .before .before .before .before .before .before .before .before .pre) (sym (c .before .before .before .before .unmapped-auxiliary .ensures) ∙ c .before .before .before .if1 .left) (sym (c .before .before .unmapped-kind .ensures) ∙ c .before .if2 .left)) .sounds 0 ((ground (c .before .before .before .before .before .before .before .before .pre) (sym (c .before .before .before .before .unmapped-auxiliary .ensures) ∙ c .before .before .before .if1 .left) (sym (c .before .before .unmapped-kind .ensures) ∙ c .before .if2 .left)) .some-one) .laid
+initial-el-vars-requires c κs = first-laid (gr (c .before))
+
+array-set-from-vars : tie.Need-array-set-from-vars
+array-set-from-vars c = search needs
 
 -- src/entry.rt:98:5
 array-write-sources : tie.Need-array-write-sources
 array-write-sources c = search needs
+
+-- src/entry.rt:100:16
+initial-matching-stmts-requires : tie.Need-initial-matching-stmts-requires
+initial-matching-stmts-requires c κs = search needs
 
 -- src/entry.rt:100:5
 array-set-from-masks : tie.Need-array-set-from-masks
@@ -54,11 +77,15 @@ array-copy-out-type-variables c = search needs
 
 -- src/entry.rt:102:5
 type-variables-requires : tie.Need-type-variables-requires
-type-variables-requires c κs = ((ground (c .before .before .before .before .before .before .before .before .before .before .before .pre) (sym (c .before .before .before .before .before .before .before .unmapped-auxiliary .ensures) ∙ c .before .before .before .before .before .before .if1 .left) (sym (c .before .before .before .before .before .unmapped-kind .ensures) ∙ c .before .before .before .before .if2 .left)) .sounds 0 ((ground (c .before .before .before .before .before .before .before .before .before .before .before .pre) (sym (c .before .before .before .before .before .before .before .unmapped-auxiliary .ensures) ∙ c .before .before .before .before .before .before .if1 .left) (sym (c .before .before .before .before .before .unmapped-kind .ensures) ∙ c .before .before .before .before .if2 .left)) .some-one) .laid, (search needs, search needs))
+type-variables-requires c κs = (first-laid (gr (c .before .before .before .before .before)), (search needs, search needs))
 
 -- src/entry.rt:103:9
 flatten-morphisms-requires : tie.Need-flatten-morphisms-requires
-flatten-morphisms-requires c κs = ((c .before .before .before .before .before .before .before .before .before .before .before .before .before .before .before .before .pre .signature-indexed, (ground (c .before .before .before .before .before .before .before .before .before .before .before .before .before .before .before .before .pre) (sym (c .before .before .before .before .before .before .before .before .before .before .before .before .unmapped-auxiliary .ensures) ∙ c .before .before .before .before .before .before .before .before .before .before .before .if1 .left) (sym (c .before .before .before .before .before .before .before .before .before .before .unmapped-kind .ensures) ∙ c .before .before .before .before .before .before .before .before .before .if2 .left))), ((counted (c .before .before .before .before .before .before .before .before .before .before .before .before .before .before .before .before .pre), c .before .before .before .before .before .before .before .before .kind-table .ensures), begin-going (ground (c .before .before .before .before .before .before .before .before .before .before .before .before .before .before .before .before .pre) (sym (c .before .before .before .before .before .before .before .before .before .before .before .before .unmapped-auxiliary .ensures) ∙ c .before .before .before .before .before .before .before .before .before .before .before .if1 .left) (sym (c .before .before .before .before .before .before .before .before .before .before .unmapped-kind .ensures) ∙ c .before .before .before .before .before .before .before .before .before .if2 .left)) (few-rows ((ground (c .before .before .before .before .before .before .before .before .before .before .before .before .before .before .before .before .pre) (sym (c .before .before .before .before .before .before .before .before .before .before .before .before .unmapped-auxiliary .ensures) ∙ c .before .before .before .before .before .before .before .before .before .before .before .if1 .left) (sym (c .before .before .before .before .before .before .before .before .before .before .unmapped-kind .ensures) ∙ c .before .before .before .before .before .before .before .before .before .if2 .left)) .sounds 0 ((ground (c .before .before .before .before .before .before .before .before .before .before .before .before .before .before .before .before .pre) (sym (c .before .before .before .before .before .before .before .before .before .before .before .before .unmapped-auxiliary .ensures) ∙ c .before .before .before .before .before .before .before .before .before .before .before .if1 .left) (sym (c .before .before .before .before .before .before .before .before .before .before .unmapped-kind .ensures) ∙ c .before .before .before .before .before .before .before .before .before .if2 .left)) .some-one))) (c .before .before .before .before .before .before .before .initial-el-vars .ensures) (c .before .before .before .before .type-variables .ensures)))
+flatten-morphisms-requires c κs =
+    let i = c .before .before .before .before .before .before .before .before in let k = i .before .before in
+    let w = S (k .before) .pre in let g = gr (k .before) in
+    ((w .signature-indexed, g), ((counted w, k .kind-table .ensures),
+      begin-going g (i .before .initial-el-vars .ensures) (c .before .before .before .before .before .type-variables .ensures) (i .initial-matching-stmts .ensures)))
 
 enum-told : tie.Need-enum-told
 enum-told c = search needs
@@ -73,11 +100,16 @@ stopped-requires c κs = search needs
 
 -- src/entry.rt:107:9
 returns-3 : tie.Need-returns-3
-returns-3 c = refused-at-once _ (stopped-walk _ _ _ (sym (c .before .before .before .before .before .before .before .before .before .before .before .before .before .before .before .before .unmapped-auxiliary .ensures) ∙ c .before .before .before .before .before .before .before .before .before .before .before .before .before .before .before .if1 .left) (sym (c .before .before .before .before .before .before .before .before .before .before .before .before .before .before .unmapped-kind .ensures) ∙ c .before .before .before .before .before .before .before .before .before .before .before .before .before .if2 .left) _ (c .before .before .before .flatten-morphisms .ensures) (c .before .enum-told2 .given .1) (c .stopped .ensures))
+returns-3 c =
+    let w = c .before .before .before in
+    refused-at-once _ (stopped-walk _ _ _ (all-mapped (w .before .before .before .before .before .before .before .before .before .before .before .before)) _
+      (w .flatten-morphisms .ensures) (c .before .enum-told2 .given .1) (c .stopped .ensures))
 
 -- src/entry.rt:109:5
 write-group-requires : tie.Need-write-group-requires
-write-group-requires c κs = (counted (c .before .before .before .before .before .before .before .before .before .before .before .before .before .before .before .before .before .before .before .before .before .before .before .before .before .pre), ended (ground (c .before .before .before .before .before .before .before .before .before .before .before .before .before .before .before .before .before .before .before .before .before .before .before .before .before .pre) (sym (c .before .before .before .before .before .before .before .before .before .before .before .before .before .before .before .before .before .before .before .before .before .unmapped-auxiliary .ensures) ∙ c .before .before .before .before .before .before .before .before .before .before .before .before .before .before .before .before .before .before .before .before .if1 .left) (sym (c .before .before .before .before .before .before .before .before .before .before .before .before .before .before .before .before .before .before .before .unmapped-kind .ensures) ∙ c .before .before .before .before .before .before .before .before .before .before .before .before .before .before .before .before .before .before .if2 .left)) (c .before .before .before .before .before .before .before .before .before .before .before .before .before .before .before .before .before .kind-table .ensures) _ (c .before .before .before .before .before .before .before .before .flatten-morphisms .ensures) (c .before .before .before .before .before .before .enum-told .given .1))
+write-group-requires c κs =
+    let e = c .before .before .before .before .before .before in let k = K e in
+    (counted (S (k .before) .pre), ended (gr (k .before)) (k .kind-table .ensures) _ (e .before .before .flatten-morphisms .ensures) (e .enum-told .given .1))
 
 -- src/entry.rt:77:1
 same-length : tie.Need-same-length
@@ -85,7 +117,10 @@ same-length c = search needs
 
 -- src/entry.rt:77:1
 returns-4 : tie.Need-returns-4
-returns-4 c = ended-writes _ _ _ (sym (c .before .before .before .before .before .before .before .before .before .before .before .before .before .before .before .before .before .before .before .before .before .before .before .before .unmapped-auxiliary .ensures) ∙ c .before .before .before .before .before .before .before .before .before .before .before .before .before .before .before .before .before .before .before .before .before .before .before .if1 .left) (sym (c .before .before .before .before .before .before .before .before .before .before .before .before .before .before .before .before .before .before .before .before .before .before .unmapped-kind .ensures) ∙ c .before .before .before .before .before .before .before .before .before .before .before .before .before .before .before .before .before .before .before .before .before .if2 .left) (ground (c .before .before .before .before .before .before .before .before .before .before .before .before .before .before .before .before .before .before .before .before .before .before .before .before .before .before .before .before .pre) (sym (c .before .before .before .before .before .before .before .before .before .before .before .before .before .before .before .before .before .before .before .before .before .before .before .before .unmapped-auxiliary .ensures) ∙ c .before .before .before .before .before .before .before .before .before .before .before .before .before .before .before .before .before .before .before .before .before .before .before .if1 .left) (sym (c .before .before .before .before .before .before .before .before .before .before .before .before .before .before .before .before .before .before .before .before .before .before .unmapped-kind .ensures) ∙ c .before .before .before .before .before .before .before .before .before .before .before .before .before .before .before .before .before .before .before .before .before .if2 .left)) (c .before .before .before .before .before .before .before .before .before .before .before .before .before .before .before .before .before .before .before .before .kind-table .ensures) _ (c .before .before .before .before .before .before .before .before .before .before .before .flatten-morphisms .ensures) (c .before .before .before .before .before .before .before .before .before .enum-told .given .1) (c .before .before .write-group .ensures (ended (ground (c .before .before .before .before .before .before .before .before .before .before .before .before .before .before .before .before .before .before .before .before .before .before .before .before .before .before .before .before .pre) (sym (c .before .before .before .before .before .before .before .before .before .before .before .before .before .before .before .before .before .before .before .before .before .before .before .before .unmapped-auxiliary .ensures) ∙ c .before .before .before .before .before .before .before .before .before .before .before .before .before .before .before .before .before .before .before .before .before .before .before .if1 .left) (sym (c .before .before .before .before .before .before .before .before .before .before .before .before .before .before .before .before .before .before .before .before .before .before .unmapped-kind .ensures) ∙ c .before .before .before .before .before .before .before .before .before .before .before .before .before .before .before .before .before .before .before .before .before .if2 .left)) (c .before .before .before .before .before .before .before .before .before .before .before .before .before .before .before .before .before .before .before .before .kind-table .ensures) _ (c .before .before .before .before .before .before .before .before .before .before .before .flatten-morphisms .ensures) (c .before .before .before .before .before .before .before .before .before .enum-told .given .1)))
+returns-4 c =
+    let e = c .before .before .before .before .before .before .before .before .before in let k = K e in
+    ended-writes _ _ _ (all-mapped (k .before)) (gr (k .before)) (k .kind-table .ensures) _
+      (e .before .before .flatten-morphisms .ensures) (e .enum-told .given .1) (c .before .before .write-group .ensures)
 
 pub flatten-rule-spec : {M : Type 1} → statement M
 flatten-rule-spec =
@@ -97,7 +132,9 @@ flatten-rule-spec =
     returns-2
     kind-table-requires
     initial-el-vars-requires
+    array-set-from-vars
     array-write-sources
+    initial-matching-stmts-requires
     array-set-from-masks
     array-copy-out-type-variables
     type-variables-requires

@@ -1,3 +1,5 @@
+use lib.Seq.{length-take-le}
+use Rattle.records.proofs.Tail.{measured}
 use Rattle.flatten.proofs.Writing.{over, no-room, wrote-all}
 use borrow.Author.Needs.{needs}
 use native.Mathlib.Omega.{arith}
@@ -13,7 +15,7 @@ slice-relend-prefix-put-group c = search needs
 
 -- src/entry.rt:55:26
 slice-aggregate-put-group : tie.Need-slice-aggregate-put-group
-slice-aggregate-put-group c = search needs
+slice-aggregate-put-group c = search (needs, length-take-le)
 
 -- src/entry.rt:55:9
 put-group-requires : tie.Need-put-group-requires
@@ -25,7 +27,7 @@ same-length c = search needs
 
 -- src/entry.rt:57:9
 returns : tie.Need-returns
-returns c = λ e. over (c .before .before .before .put-group .ensures .0 e) _ (c .if1 .taken)
+returns c = λ e. let put = c .before .before .before .put-group .ensures .0 e in over put (measured _ put) (c .if1 .taken)
 
 -- src/entry.rt:60:9
 same-length-2 : tie.Need-same-length-2
@@ -33,7 +35,7 @@ same-length-2 c = search needs
 
 -- src/entry.rt:60:9
 returns-2 : tie.Need-returns-2
-returns-2 c = λ e. no-room (c .before .before .before .before .put-group .ensures .0 e) _ (c .before .if1 .left) (c .if2 .taken)
+returns-2 c = λ e. let put = c .before .before .before .before .put-group .ensures .0 e in no-room put (measured _ put) (c .before .if1 .left) (c .if2 .taken)
 
 -- src/entry.rt:62:5
 put-group-requires-2 : tie.Need-put-group-requires-2
@@ -45,7 +47,10 @@ same-length-3 c = search needs
 
 -- src/entry.rt:39:1
 returns-3 : tie.Need-returns-3
-returns-3 c = λ e. wrote-all (c .before .before .before .before .before .before .before .before .put-group .ensures .0 e) _ (c .before .before .before .before .before .if1 .left) (c .before .before .before .before .if2 .left) (c .before .before .put-group2 .ensures .0 e)
+returns-3 c =
+    let b = c .before .before .before .before in
+    λ e. let put = b .before .before .before .before .put-group .ensures .0 e in
+    wrote-all put (measured _ put) (b .before .if1 .left) (b .if2 .left) (c .before .before .put-group2 .ensures .0 e)
 
 pub write-group-spec : {M : Type 1} → statement M
 write-group-spec =

@@ -1,4 +1,5 @@
-use Rattle.flatten.proofs.Rules.{ended-in, ended-low, ended-stands, surj-found, surj-put, rows-put}
+use Rattle.flatten.proofs.Premises.{both-small, stands-at, surj-mapped}
+use Rattle.flatten.proofs.Rules.{surj-put, rows-put}
 use borrow.Author.Needs.{needs}
 use native.Mathlib.Omega.{arith}
 use Rattle.flatten.proofs.output.put_conclusion.Statement.{statement}
@@ -11,11 +12,13 @@ use Rattle.statements.proofs.writer.put_domains.Reads as put-domains-reads
 
 -- src/group.rt:75:9
 reached-by-requires : tie.Need-reached-by-requires
-reached-by-requires c κs = (ended-in (c .before .before .pre .1 .0) (c .before .before .pre .1 .1), ended-low (c .before .before .pre .1 .0) (c .before .before .pre .1 .1))
+reached-by-requires c κs = let w = c .before .before .pre .1 in both-small (w .0) (w .1)
 
 -- src/group.rt:77:9
 put-both-requires : tie.Need-put-both-requires
-put-both-requires c κs = ((c .before .before .before .before .before .pre .0, surj-found (c .before .before .before .before .before .pre .1 .0) (c .before .before .before .before .before .pre .1 .1) (c .before .before .reached-by .ensures) (c .before .if1 .taken)), (c .before .before .before .before .before .pre .1 .0, c .before .before .before .before .before .pre .1 .1))
+put-both-requires c κs =
+    let w = c .before .before .before .before .before .pre in
+    ((w .0, surj-mapped (w .1 .0) (w .1 .1) (c .before .before .reached-by .ensures) (c .before .if1 .taken)), w .1)
 
 -- src/group.rt:77:9
 same-length : tie.Need-same-length
@@ -23,7 +26,9 @@ same-length c = search needs
 
 -- src/group.rt:77:9
 returns : tie.Need-returns
-returns c = (λ e x q. surj-put e (c .before .before .before .before .before .before .before .before .pre .1 .1) (c .before .before .before .before .before .reached-by .ensures) (c .before .before .before .before .if1 .taken) q (c .before .before .put-both .ensures .0 e), c .before .before .put-both .ensures .1)
+returns c =
+    let a = c .before .before .before .before in let o = c .before .before .put-both .ensures in
+    (λ e x q. surj-put e (a .before .before .before .before .pre .1 .1) (a .before .reached-by .ensures) (a .if1 .taken) q (o .0 e), o .1)
 
 -- src/group.rt:91:15
 mul-row : tie.Need-mul-row
@@ -47,7 +52,7 @@ array-read-put-domains c = search needs
 
 -- src/group.rt:92:5
 put-domains-requires : tie.Need-put-domains-requires
-put-domains-requires c κs = (c .before .before .before .before .before .before .before .pre .0, ended-stands (c .before .before .before .before .before .before .before .pre .1 .0) (c .before .before .before .before .before .before .before .pre .1 .1))
+put-domains-requires c κs = let w = c .before .before .before .before .before .before .before .pre in (w .0, stands-at (w .1 .0) (w .1 .1))
 
 -- src/group.rt:54:1
 same-length-2 : tie.Need-same-length-2
@@ -55,7 +60,9 @@ same-length-2 c = search needs
 
 -- src/group.rt:54:1
 returns-2 : tie.Need-returns-2
-returns-2 c = (λ e x q. rows-put e (c .before .before .before .before .before .before .before .before .before .before .pre .1 .1) (c .before .before .before .before .before .before .before .reached-by .ensures) (c .before .before .before .before .before .before .if1 .left) q (c .before .before .put-domains .ensures), omega (arith, c .before .before .put-domains .ensures .size))
+returns-2 c =
+    let a = c .before .before .before .before .before .before in let o = c .before .before .put-domains .ensures in
+    (λ e x q. rows-put e (a .before .before .before .before .pre .1 .1) (a .before .reached-by .ensures) (a .if1 .left) q o, omega (arith, o .size))
 
 pub put-conclusion-spec : {M : Type 1} → statement M
 put-conclusion-spec =

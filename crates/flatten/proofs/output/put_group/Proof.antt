@@ -25,7 +25,9 @@ put-group-name-requires c κs = search needs
 
 -- src/group.rt:179:9
 put-all-variables-requires : tie.Need-put-all-variables-requires
-put-all-variables-requires c κs = ((omega (arith, c .before .before .before .put-group-name .ensures .size), c .before .before .before .before .before .before .before .before .before .before .before .before .pre .0), ended-numbered (c .before .before .before .before .before .before .before .before .before .before .before .before .pre .1))
+put-all-variables-requires c κs =
+    let w = c .before .before .before .before .before .before .before .before .before .before .before .before .pre in
+    ((omega (arith, c .before .before .before .put-group-name .ensures .size), w .0), ended-numbered (w .1))
 
 -- src/group.rt:180:5
 put-rules-requires : tie.Need-put-rules-requires
@@ -37,7 +39,10 @@ same-length c = search needs
 
 -- src/group.rt:160:1
 returns : tie.Need-returns
-returns c = (λ e. group-put e (c .before .before .before .before .before .before .before .before .before .before .before .before .before .before .before .before .before .before .before .pre .0) (c .before .before .before .before .before .before .before .before .before .before .before .before .before .before .before .group-name-length .ensures .0) (c .before .before .before .before .before .before .before .before .before .before .before .before .before .before .put-field-head .ensures) (c .before .before .before .before .before .before .before .before .before .before .put-group-name .ensures) (c .before .before .before .before .before .before .put-all-variables .ensures) (c .before .before .put-rules .ensures .0 e), c .before .before .put-rules .ensures .1)
+returns c =
+    let o = c .before .before in let v = o .before .before .before .before in let n = v .before .before .before .before in let h = n .before .before .before .before in
+    (λ e. group-put e (h .before .before .before .before .before .pre .0) (h .before .group-name-length .ensures .0) (h .put-field-head .ensures) (n .put-group-name .ensures)
+      (v .put-all-variables .ensures) (o .put-rules .ensures .0 e), o .put-rules .ensures .1)
 
 pub put-group-spec : {M : Type 1} → statement M
 put-group-spec =

@@ -1,4 +1,5 @@
-use Rattle.flatten.proofs.Rules.{source-reaching, rule-put}
+use Rattle.flatten.proofs.Premises.{source-reaching}
+use Rattle.flatten.proofs.Rules.{rule-put}
 use borrow.Author.Needs.{needs}
 use native.Mathlib.Omega.{arith}
 use Rattle.flatten.proofs.output.put_rule.Statement.{statement}
@@ -34,7 +35,9 @@ place-requires c κs = search needs
 
 -- src/group.rt:121:9
 put-premise-requires : tie.Need-put-premise-requires
-put-premise-requires c κs = (omega (arith, c .before .before .before .before .before .put-rule-name .ensures .size), (c .before .before .before .before .before .before .before .before .before .before .before .before .before .before .pre .1 .0, source-reaching (c .before .before .before .before .before .before .before .before .before .before .before .before .before .before .pre .1 .0) (c .before .before .before .before .before .before .before .before .before .before .before .before .before .before .pre .1 .1) (c .before .place .ensures .0) (c .before .before .before .before .before .before .before .before .before .before .before .before .before .before .pre .0 .1)))
+put-premise-requires c κs =
+    let w = c .before .before .before .before .before .before .before .before .before .before .before .before .before .before .pre .1 in
+    (omega (arith, c .before .before .before .before .before .put-rule-name .ensures .size), (w .0, source-reaching (w .0) (w .1) (c .before .place .ensures .0)))
 
 -- src/group.rt:122:5
 put-conclusion-requires : tie.Need-put-conclusion-requires
@@ -46,7 +49,11 @@ same-length c = search needs
 
 -- src/group.rt:96:1
 returns : tie.Need-returns
-returns c = (λ e x q. rule-put e (c .before .before .before .before .before .before .before .before .before .before .before .before .before .before .before .before .before .before .before .before .before .pre .1 .1) _ x (c .before .before .before .before .before .before .before .before .before .before .before .before .before .before .before .before .before .before .before .before .before .pre .0 .1) (c .before .before .before .before .before .before .before .before .before .before .before .before .before .before .before .before .before .rule-name-length .ensures .0) (c .before .before .before .before .before .before .before .before .before .before .before .before .before .before .before .before .put-field-head .ensures) (c .before .before .before .before .before .before .before .before .before .before .before .before .put-rule-name .ensures) (c .before .before .before .before .before .before .before .before .place .ensures .0) (c .before .before .before .before .before .before .put-premise .ensures .0 e) (c .before .before .put-conclusion .ensures .0 e x q), c .before .before .put-conclusion .ensures .1)
+returns c =
+    let o = c .before .before in let p = o .before .before .before .before in let u = p .before .before in let n = u .before .before .before .before in
+    let h = n .before .before .before .before in let w = h .before .before .before .before .before .pre in
+    (λ e x q. rule-put e (w .1 .1) _ x (w .0 .1) (h .before .rule-name-length .ensures .0) (h .put-field-head .ensures) (n .put-rule-name .ensures)
+      (u .place .ensures .0) (p .put-premise .ensures .0 e) (o .put-conclusion .ensures .0 e x q), o .put-conclusion .ensures .1)
 
 pub put-rule-spec : {M : Type 1} → statement M
 put-rule-spec =

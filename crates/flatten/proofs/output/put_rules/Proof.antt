@@ -1,4 +1,5 @@
-use Rattle.flatten.proofs.Rules.{ended-in, ended-low, Ruling, ruling-start, ruling-pass, ruling-reaching, ruling-silent, ruling-next, ruling-all}
+use Rattle.flatten.proofs.Premises.{both-small}
+use Rattle.flatten.proofs.Rules.{Ruling, ruling-start, ruling-pass, ruling-reaching, ruling-silent, ruling-next, ruling-all}
 use Rattle.flatten.specs.Tables.{tables}
 use Prim.Native.Nat.{_≤_, _-_}
 use mathlib.Core.Logic.{⊎-elim}
@@ -27,15 +28,21 @@ element-copy-out-if1 c = let k = c .before .before .before .before .pre .1 .grou
 
 -- src/group.rt:149:16
 emits-requires : tie.Need-emits-requires Inv-loop μ-loop
-emits-requires c κs = let x = ruling-reaching (c .before .before .before .loop .inv .1) (c .before .before .before .before .before .before .pre .1) (c .before .before .before .before .before .before .pre .0 .1) (c .before .before .loop-test .taken) (c .if1 .taken) in (ended-in (c .before .before .before .before .before .before .pre .1) x, ended-low (c .before .before .before .before .before .before .pre .1) x)
+emits-requires c κs =
+    let l = c .before .before in let w = l .before .before .before .before .pre in
+    both-small (w .1) (ruling-reaching (l .before .loop .inv .1) (w .1) (w .0 .1) (l .loop-test .taken) (c .if1 .taken))
 
 -- src/group.rt:150:17
 put-rule-requires : tie.Need-put-rule-requires Inv-loop μ-loop
-put-rule-requires c κs = ((c .before .before .before .before .before .before .loop .inv .1 .small, omega (arith, c .before .before .before .before .before .before .loop .inv .1 .few)), (c .before .before .before .before .before .before .before .before .before .pre .1, ruling-reaching (c .before .before .before .before .before .before .loop .inv .1) (c .before .before .before .before .before .before .before .before .before .pre .1) (c .before .before .before .before .before .before .before .before .before .pre .0 .1) (c .before .before .before .before .before .loop-test .taken) (c .before .before .before .if1 .taken)))
+put-rule-requires c κs =
+    let l = c .before .before .before .before .before in let w = l .before .before .before .before .pre in let r = l .before .loop .inv .1 in
+    ((r .small, omega (arith, r .few)), (w .1, ruling-reaching r (w .1) (w .0 .1) (l .loop-test .taken) (c .before .before .before .if1 .taken)))
 
 -- src/group.rt:151:17
 add-k : tie.Need-add-k Inv-loop μ-loop
-add-k c = let f = c .before .before .before .before .before .before .before .before .before .loop .inv .1 .few in let n = c .before .before .before .before .before .before .before .before .before .before .before .before .pre .1 .ground .few in search needs
+add-k c =
+    let l = c .before .before .before .before .before .before .before .before .before in
+    let f = l .loop .inv .1 .few in let n = l .before .before .before .pre .1 .ground .few in search needs
 
 -- src/group.rt:154:9
 add-t : tie.Need-add-t Inv-loop μ-loop
@@ -47,7 +54,14 @@ loop-less c = search needs
 
 -- src/group.rt:147:5
 loop-again : tie.Need-loop-again Inv-loop μ-loop
-loop-again c = (search needs, ⊎-elim (λ w. rw (w .7, w .8, w .9) (ruling-next (c .before .before .before .loop .inv .1) (c .before .before .before .before .before .before .pre .1) (c .before .before .before .before .before .before .pre .0 .1) (c .before .before .loop-test .taken) (w .0 .taken) (w .1 .ensures) (w .2 .taken) (w .4 .ensures .0) (w .4 .ensures .1))) (λ v. ⊎-elim (λ w. rw (w .3, w .4, w .5) (ruling-silent (c .before .before .before .loop .inv .1) (c .before .before .before .before .before .before .pre .1) (c .before .before .before .before .before .before .pre .0 .1) (c .before .before .loop-test .taken) (w .0 .taken) (w .1 .ensures) (w .2 .left))) (λ w. rw (w .1, w .2, w .3) (ruling-pass (c .before .before .before .loop .inv .1) (c .before .before .before .before .before .before .pre .1) (c .before .before .before .before .before .before .pre .0 .1) (c .before .before .loop-test .taken) (w .0 .left))) v) (c .if1 .came))
+loop-again c =
+    let l = c .before .before in let p = l .before .before .before .before .pre in let r = l .before .loop .inv .1 in let h = l .loop-test .taken in
+    (search needs, ⊎-elim
+      (λ w. rw (w .7, w .8, w .9) (ruling-next r (p .1) (p .0 .1) h (w .0 .taken) (w .1 .ensures) (w .2 .taken) (w .4 .ensures .0) (w .4 .ensures .1)))
+      (λ v. ⊎-elim
+        (λ w. rw (w .3, w .4, w .5) (ruling-silent r (p .1) (p .0 .1) h (w .0 .taken) (w .1 .ensures) (w .2 .left)))
+        (λ w. rw (w .1, w .2, w .3) (ruling-pass r (p .1) (p .0 .1) h (w .0 .left))) v)
+      (c .if1 .came))
 
 -- src/group.rt:126:1
 same-length : tie.Need-same-length Inv-loop μ-loop

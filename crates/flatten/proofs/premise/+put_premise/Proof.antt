@@ -23,116 +23,61 @@ abbrev put-premise-below : ℕ → In 8 put-premise-kinds.ps
 put-premise-below t =
     and 8 put-premise-kinds.ps (falls 8 put-premise-kinds.ps _<_ μ-put-premise t) put-premise.Pre
 
--- src/premise.rt:117:9
-put-premise-put-own-requires : (t : ℕ) → put-premise-lts.Need-put-own-requires (
-  put-own-reads.Asked,
-  put-own-reads.Learnt,
-  place-reads.Asked,
-  place-reads.Learnt,
-  put-premise-below t,
-  put-premise.Post,
-) (put-premise-at t) put-premise.Post
-put-premise-put-own-requires t c κs = let z = c .before .if1 .taken in (c .before .before .before .before .pre .1 .0, (c .before .before .before .before .pre .1 .1 .0, rw (← z) (c .before .before .before .before .pre .1 .1 .1)))
+-- What is said of the functions that are called.
+abbrev called : ℕ → put-premise-lts.Claims
+called t =
+    (put-own-reads.Asked, put-own-reads.Learnt, place-reads.Asked, place-reads.Learnt, put-premise-below t, put-premise.Post)
 
 -- src/premise.rt:117:9
-put-premise-same-length : (t : ℕ) → put-premise-lts.Need-same-length (
-  put-own-reads.Asked,
-  put-own-reads.Learnt,
-  place-reads.Asked,
-  place-reads.Learnt,
-  put-premise-below t,
-  put-premise.Post,
-) (put-premise-at t) put-premise.Post
+put-premise-put-own-requires : (t : ℕ) → put-premise-lts.Need-put-own-requires (called t) (put-premise-at t) put-premise.Post
+put-premise-put-own-requires t c κs =
+    let w = c .before .before .before .before .pre .1 in let z = c .before .if1 .taken in
+    (w .0, (w .1 .0, rw (← z) (w .1 .1)))
+
+-- src/premise.rt:117:9
+put-premise-same-length : (t : ℕ) → put-premise-lts.Need-same-length (called t) (put-premise-at t) put-premise.Post
 put-premise-same-length t c = search needs
 
 -- src/premise.rt:117:9
-put-premise-returns : (t : ℕ) → put-premise-lts.Need-returns (
-  put-own-reads.Asked,
-  put-own-reads.Learnt,
-  place-reads.Asked,
-  place-reads.Learnt,
-  put-premise-below t,
-  put-premise.Post,
-) (put-premise-at t) put-premise.Post
-put-premise-returns t c = let z = c .before .before .before .before .if1 .taken in (λ e. premise-first e (c .before .before .before .before .before .before .before .pre .1 .1 .1) z (rw z (c .before .before .put-own .ensures .0 e)), c .before .before .put-own .ensures .1)
+put-premise-returns : (t : ℕ) → put-premise-lts.Need-returns (called t) (put-premise-at t) put-premise.Post
+put-premise-returns t c =
+    let a = c .before .before .before .before in let o = c .before .before .put-own .ensures in let z = a .if1 .taken in
+    (λ e. premise-first e (a .before .before .before .pre .1 .1 .1) z (rw z (o .0 e)), o .1)
 
 -- src/premise.rt:119:19
-put-premise-element-copy-out-place : (t : ℕ) → put-premise-lts.Need-element-copy-out-place (
-  put-own-reads.Asked,
-  put-own-reads.Learnt,
-  place-reads.Asked,
-  place-reads.Learnt,
-  put-premise-below t,
-  put-premise.Post,
-) (put-premise-at t) put-premise.Post
-put-premise-element-copy-out-place t c = let p = place-small (c .before .before .before .pre .1 .1 .0) (c .before .before .before .pre .1 .1 .1) in search needs
+put-premise-element-copy-out-place : (t : ℕ) → put-premise-lts.Need-element-copy-out-place (called t) (put-premise-at t) put-premise.Post
+put-premise-element-copy-out-place t c = let w = c .before .before .before .pre .1 .1 in let p = place-small (w .0) (w .1) in search needs
 
 -- src/premise.rt:119:9
-put-premise-place-requires : (t : ℕ) → put-premise-lts.Need-place-requires (
-  put-own-reads.Asked,
-  put-own-reads.Learnt,
-  place-reads.Asked,
-  place-reads.Learnt,
-  put-premise-below t,
-  put-premise.Post,
-) (put-premise-at t) put-premise.Post
+put-premise-place-requires : (t : ℕ) → put-premise-lts.Need-place-requires (called t) (put-premise-at t) put-premise.Post
 put-premise-place-requires t c κs = search needs
 
 -- src/premise.rt:120:9
-put-premise-put-premise-requires : (t : ℕ) → put-premise-lts.Need-put-premise-requires (
-  put-own-reads.Asked,
-  put-own-reads.Learnt,
-  place-reads.Asked,
-  place-reads.Learnt,
-  put-premise-below t,
-  put-premise.Post,
-) (put-premise-at t) put-premise.Post
-put-premise-put-premise-requires t c κs = let l = source-below (c .before .before .before .before .before .before .pre .1 .1 .0) (c .before .before .before .before .before .before .pre .1 .1 .1) (c .before .place .ensures .0) (c .before .before .before .if1 .left) in (omega (arith, c .before .before .before .before .before .before .pre .0), (c .before .before .before .before .before .before .pre .1 .0, (c .before .before .before .before .before .before .pre .1 .1 .0, source-reaching (c .before .before .before .before .before .before .pre .1 .1 .0) (c .before .before .before .before .before .before .pre .1 .1 .1) (c .before .place .ensures .0))))
+put-premise-put-premise-requires : (t : ℕ) → put-premise-lts.Need-put-premise-requires (called t) (put-premise-at t) put-premise.Post
+put-premise-put-premise-requires t c κs =
+    let w = c .before .before .before .before .before .before .pre in let e = w .1 .1 .0 in let r = w .1 .1 .1 in let p = c .before .place .ensures .0 in
+    let l = source-below e r p (c .before .before .before .if1 .left) in
+    (omega (arith, w .0), (w .1 .0, (e, source-reaching e r p)))
 
 -- src/premise.rt:121:5
-put-premise-put-own-requires-2 : (t : ℕ) → put-premise-lts.Need-put-own-requires-2 (
-  put-own-reads.Asked,
-  put-own-reads.Learnt,
-  place-reads.Asked,
-  place-reads.Learnt,
-  put-premise-below t,
-  put-premise.Post,
-) (put-premise-at t) put-premise.Post
-put-premise-put-own-requires-2 t c κs = (c .before .before .before .put-premise .ensures .1, c .before .before .before .before .before .before .before .before .before .before .pre .1 .1)
+put-premise-put-own-requires-2 : (t : ℕ) → put-premise-lts.Need-put-own-requires-2 (called t) (put-premise-at t) put-premise.Post
+put-premise-put-own-requires-2 t c κs =
+    let a = c .before .before .before .before .before in let w = a .before .before .before .before .before .pre .1 .1 in
+    let k = source-reaching (w .0) (w .1) (a .place .ensures .0) in search needs
 
 -- src/premise.rt:97:1
-put-premise-same-length-2 : (t : ℕ) → put-premise-lts.Need-same-length-2 (
-  put-own-reads.Asked,
-  put-own-reads.Learnt,
-  place-reads.Asked,
-  place-reads.Learnt,
-  put-premise-below t,
-  put-premise.Post,
-) (put-premise-at t) put-premise.Post
+put-premise-same-length-2 : (t : ℕ) → put-premise-lts.Need-same-length-2 (called t) (put-premise-at t) put-premise.Post
 put-premise-same-length-2 t c = search needs
 
 -- src/premise.rt:97:1
-put-premise-returns-2 : (t : ℕ) → put-premise-lts.Need-returns-2 (
-  put-own-reads.Asked,
-  put-own-reads.Learnt,
-  place-reads.Asked,
-  place-reads.Learnt,
-  put-premise-below t,
-  put-premise.Post,
-) (put-premise-at t) put-premise.Post
-put-premise-returns-2 t c = (λ e. premise-later e (c .before .before .before .before .before .before .before .before .before .before .before .before .before .pre .1 .1 .1) (c .before .before .before .before .before .before .before .before .before .before .if1 .left) (c .before .before .before .before .before .before .before .before .place .ensures .0) (c .before .before .before .before .before .before .put-premise .ensures .0 e) (c .before .before .put-own2 .ensures .0 e), c .before .before .put-own2 .ensures .1)
+put-premise-returns-2 : (t : ℕ) → put-premise-lts.Need-returns-2 (called t) (put-premise-at t) put-premise.Post
+put-premise-returns-2 t c =
+    let a = c .before .before .before .before .before .before .before .before in let o = c .before .before .put-own2 .ensures in
+    (λ e. premise-later e (a .before .before .before .before .before .pre .1 .1 .1) (a .before .before .if1 .left) (a .place .ensures .0)
+      (c .before .before .before .before .before .before .put-premise .ensures .0 e) (o .0 e), o .1)
 
 pub +put-premise-spec : {M : Type 1} → statement M
-+put-premise-spec = close μ-put-premise λ t. put-premise-lts.spec (
-  put-own-reads.Asked,
-  put-own-reads.Learnt,
-  place-reads.Asked,
-  place-reads.Learnt,
-  put-premise-below t,
-  put-premise.Post,
-)
-    (put-premise-at t)
-    put-premise.Post
++put-premise-spec = close μ-put-premise λ t. put-premise-lts.spec (called t) (put-premise-at t) put-premise.Post
     (put-premise-put-own-requires t)
     (put-premise-same-length t)
     (put-premise-returns t)

@@ -13,7 +13,7 @@ use Rattle.statements.proofs.writer.put_said.Reads as put-said-reads
 
 -- src/premise.rt:60:19
 element-copy-out-place : tie.Need-element-copy-out-place
-element-copy-out-place c = let p = place-small (c .before .before .pre .1 .0) (c .before .before .pre .1 .1) in search needs
+element-copy-out-place c = let w = c .before .before .pre .1 in let p = place-small (w .0) (w .1) in search needs
 
 -- src/premise.rt:60:9
 place-requires : tie.Need-place-requires
@@ -21,35 +21,43 @@ place-requires c κs = search needs
 
 -- src/premise.rt:61:9
 map-between-requires : tie.Need-map-between-requires
-map-between-requires c κs = (c .before .before .before .before .pre .1 .0 .ground .ready, rw (c .place .ensures .0) (c .before .before .before .before .pre .0 .1))
+map-between-requires c κs = let w = c .before .before .before .before .pre in (w .1 .0 .ground .ready, rw (c .place .ensures .0) (w .0 .1))
 
 -- src/premise.rt:62:64
 mul-put-equalities : tie.Need-mul-put-equalities
-mul-put-equalities c = let p = source-small (c .before .before .before .before .before .before .pre .1 .0) (c .before .before .before .before .before .before .pre .1 .1) in let q = c .before .before .place .ensures .0 in search needs
+mul-put-equalities c =
+    let w = c .before .before .before .before .before .before .pre .1 in let p = source-small (w .0) (w .1) in let q = c .before .before .place .ensures .0 in search needs
 
 -- src/premise.rt:62:64
 element-copy-out-put-equalities : tie.Need-element-copy-out-put-equalities
-element-copy-out-put-equalities c = let p = source-small (c .before .before .before .before .before .before .pre .1 .0) (c .before .before .before .before .before .before .pre .1 .1) in let q = c .before .before .place .ensures .0 in search needs
+element-copy-out-put-equalities c =
+    let w = c .before .before .before .before .before .before .pre .1 in let p = source-small (w .0) (w .1) in let q = c .before .before .place .ensures .0 in search needs
 
 -- src/premise.rt:62:9
 put-equalities-requires : tie.Need-put-equalities-requires
-put-equalities-requires c κs = let g = source-reaching (c .before .before .before .before .before .before .before .before .pre .1 .0) (c .before .before .before .before .before .before .before .before .pre .1 .1) (c .before .before .before .before .place .ensures .0) in (c .before .before .before .before .before .before .before .before .pre .0 .0, ((stands-at (c .before .before .before .before .before .before .before .before .pre .1 .0) g, stands-at (c .before .before .before .before .before .before .before .before .pre .1 .0) (c .before .before .before .before .before .before .before .before .pre .1 .1)), (c .before .before .before .map-between .ensures .1, row-given (c .before .before .before .before .before .before .before .before .pre .1 .0) g refl)))
+put-equalities-requires c κs =
+    let p = c .before .before .before .before in let w = p .before .before .before .before .pre in let e = w .1 .0 in let g = source-reaching e (w .1 .1) (p .place .ensures .0) in
+    (w .0 .0, ((stands-at e g, stands-at e (w .1 .1)), (c .before .before .before .map-between .ensures .1, row-given e g refl)))
 
 -- src/premise.rt:63:44
 mul-put-said : tie.Need-mul-put-said
-mul-put-said c = let p = place-small (c .before .before .before .before .before .before .before .before .before .before .before .before .pre .1 .0) (c .before .before .before .before .before .before .before .before .before .before .before .before .pre .1 .1) in search needs
+mul-put-said c =
+    let w = c .before .before .before .before .before .before .before .before .before .before .before .before .pre .1 in let p = place-small (w .0) (w .1) in search needs
 
 -- src/premise.rt:63:44
 element-copy-out-put-said : tie.Need-element-copy-out-put-said
-element-copy-out-put-said c = let p = place-small (c .before .before .before .before .before .before .before .before .before .before .before .before .pre .1 .0) (c .before .before .before .before .before .before .before .before .before .before .before .before .pre .1 .1) in search needs
+element-copy-out-put-said c =
+    let w = c .before .before .before .before .before .before .before .before .before .before .before .before .pre .1 in let p = place-small (w .0) (w .1) in search needs
 
 -- src/premise.rt:63:53
 masks-at-requires : tie.Need-masks-at-requires
-masks-at-requires c κs = place-small (c .before .before .before .before .before .before .before .before .before .before .before .before .before .pre .1 .0) (c .before .before .before .before .before .before .before .before .before .before .before .before .before .pre .1 .1)
+masks-at-requires c κs = let w = c .before .before .before .before .before .before .before .before .before .before .before .before .before .pre .1 in place-small (w .0) (w .1)
 
 -- src/premise.rt:63:5
 put-said-requires : tie.Need-put-said-requires
-put-said-requires c κs = (c .before .before .before .before .before .put-equalities .ensures .1, stands-at (c .before .before .before .before .before .before .before .before .before .before .before .before .before .before .pre .1 .0) (c .before .before .before .before .before .before .before .before .before .before .before .before .before .before .pre .1 .1))
+put-said-requires c κs =
+    let q = c .before .before .before .before .before in let w = q .before .before .before .before .before .before .before .before .before .pre .1 in
+    (q .put-equalities .ensures .1, stands-at (w .0) (w .1))
 
 -- src/premise.rt:39:1
 same-length : tie.Need-same-length
@@ -57,7 +65,10 @@ same-length c = search needs
 
 -- src/premise.rt:39:1
 returns : tie.Need-returns
-returns c = (λ e. both-put e (c .before .before .before .before .before .before .before .before .before .before .before .before .before .before .before .before .before .pre .1 .1) _ (c .before .before .before .before .before .before .before .before .before .before .before .before .before .place .ensures .0) refl (c .before .before .before .before .before .before .before .before .before .before .before .before .map-between .ensures .0) (c .before .before .before .before .before .before .before .before .put-equalities .ensures .0) refl (c .before .before .before .masks-at .ensures) (c .before .before .put-said .ensures), search needs)
+returns c =
+    let o = c .before .before in let q = o .before .before .before .before .before .before in let m = q .before .before .before .before in
+    (λ e. both-put e (m .before .before .before .before .before .pre .1 .1) _ (m .before .place .ensures .0) refl (m .map-between .ensures .0) (q .put-equalities .ensures .0)
+      refl (o .before .masks-at .ensures) (o .put-said .ensures), search needs)
 
 pub put-both-spec : {M : Type 1} → statement M
 put-both-spec =

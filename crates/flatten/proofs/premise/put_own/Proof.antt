@@ -1,7 +1,7 @@
-use mathlib.Core.Logic.{⊎-elim}
+use mathlib.Core.Logic.{⊎-elim, inl, inr}
 use mathlib.Core.Path.{refl}
 use borrow.Author.Tests.{eqb-true, eqb-false}
-use Rattle.flatten.proofs.Premises.{place-small, source-small, stands-at, if-mapped, noop-mapped, own-nothing, own-both-if, own-both-noop, own-only}
+use Rattle.flatten.proofs.Premises.{place-small, both-small, stands-at, both-mapped, own-nothing, own-both, own-only}
 use borrow.Author.Needs.{needs}
 use Rattle.flatten.proofs.premise.put_own.Statement.{statement}
 use Rattle.flatten.proofs.premise.put_own.Tie as tie
@@ -14,15 +14,18 @@ use Rattle.statements.proofs.writer.put_said.Reads as put-said-reads
 
 -- src/premise.rt:86:9
 reached-by-requires : tie.Need-reached-by-requires
-reached-by-requires c κs = (place-small (c .before .before .pre .1 .0) (c .before .before .pre .1 .1), source-small (c .before .before .pre .1 .0) (c .before .before .pre .1 .1))
+reached-by-requires c κs = let w = c .before .before .pre .1 in both-small (w .0) (w .1)
 
 -- src/premise.rt:88:9
 returns : tie.Need-returns
-returns c = (λ e. own-nothing e (c .before .before .before .before .pre .1 .1) _ (c .before .before .before .before .pre .0) (c .before .reached-by .ensures) (c .if1 .taken), c .before .before .before .before .pre .0)
+returns c = let w = c .before .before .before .before .pre in (λ e. own-nothing e (w .1 .1) _ (w .0) (c .before .reached-by .ensures) (c .if1 .taken), w .0)
 
 -- src/premise.rt:91:9
 put-both-requires : tie.Need-put-both-requires
-put-both-requires c κs = ((c .before .before .before .before .before .before .pre .0, ⊎-elim (λ w. if-mapped (c .before .before .before .before .before .before .pre .1 .0) (c .before .before .before .before .before .before .pre .1 .1) (c .before .before .before .reached-by .ensures) (w .taken)) (λ w. noop-mapped (c .before .before .before .before .before .before .pre .1 .0) (c .before .before .before .before .before .before .pre .1 .1) (c .before .before .before .reached-by .ensures) (eqb-true _ _ (w .1 .taken))) (c .before .if2 .came)), c .before .before .before .before .before .before .pre .1)
+put-both-requires c κs =
+    let w = c .before .before .before .before .before .before .pre in
+    ((w .0, both-mapped (w .1 .0) (w .1 .1) (c .before .before .before .reached-by .ensures)
+      (⊎-elim (λ w. inl (w .taken)) (λ w. inr (eqb-true _ _ (w .1 .taken))) (c .before .if2 .came))), w .1)
 
 -- src/premise.rt:91:9
 same-length : tie.Need-same-length
@@ -30,23 +33,26 @@ same-length c = search needs
 
 -- src/premise.rt:91:9
 returns-2 : tie.Need-returns-2
-returns-2 c = (λ e. ⊎-elim (λ w. own-both-if e (c .before .before .before .before .before .before .before .before .before .pre .1 .1) (c .before .before .before .before .before .before .reached-by .ensures) (w .taken) (c .before .before .put-both .ensures .0 e)) (λ w. own-both-noop e (c .before .before .before .before .before .before .before .before .before .pre .1 .1) (c .before .before .before .before .before .before .reached-by .ensures) (eqb-true _ _ (w .1 .taken)) (c .before .before .put-both .ensures .0 e)) (c .before .before .before .before .if2 .came), c .before .before .put-both .ensures .1)
+returns-2 c =
+    let a = c .before .before .before .before in let o = c .before .before .put-both .ensures in
+    (λ e. own-both e (a .before .before .before .before .before .pre .1 .1) (a .before .before .reached-by .ensures)
+      (⊎-elim (λ w. inl (w .taken)) (λ w. inr (eqb-true _ _ (w .1 .taken))) (a .if2 .came)) (o .0 e), o .1)
 
 -- src/premise.rt:93:44
 mul-put-said : tie.Need-mul-put-said
-mul-put-said c = let p = place-small (c .before .before .before .before .before .before .before .pre .1 .0) (c .before .before .before .before .before .before .before .pre .1 .1) in search needs
+mul-put-said c = let w = c .before .before .before .before .before .before .before .pre .1 in let p = place-small (w .0) (w .1) in search needs
 
 -- src/premise.rt:93:44
 element-copy-out-put-said : tie.Need-element-copy-out-put-said
-element-copy-out-put-said c = let p = place-small (c .before .before .before .before .before .before .before .pre .1 .0) (c .before .before .before .before .before .before .before .pre .1 .1) in search needs
+element-copy-out-put-said c = let w = c .before .before .before .before .before .before .before .pre .1 in let p = place-small (w .0) (w .1) in search needs
 
 -- src/premise.rt:93:53
 masks-at-requires : tie.Need-masks-at-requires
-masks-at-requires c κs = place-small (c .before .before .before .before .before .before .before .before .pre .1 .0) (c .before .before .before .before .before .before .before .before .pre .1 .1)
+masks-at-requires c κs = let w = c .before .before .before .before .before .before .before .before .pre .1 in place-small (w .0) (w .1)
 
 -- src/premise.rt:93:5
 put-said-requires : tie.Need-put-said-requires
-put-said-requires c κs = (c .before .before .before .before .before .before .before .before .before .pre .0, stands-at (c .before .before .before .before .before .before .before .before .before .pre .1 .0) (c .before .before .before .before .before .before .before .before .before .pre .1 .1))
+put-said-requires c κs = let w = c .before .before .before .before .before .before .before .before .before .pre in (w .0, stands-at (w .1 .0) (w .1 .1))
 
 -- src/premise.rt:67:1
 same-length-2 : tie.Need-same-length-2
@@ -54,7 +60,10 @@ same-length-2 c = search needs
 
 -- src/premise.rt:67:1
 returns-3 : tie.Need-returns-3
-returns-3 c = (λ e. own-only e (c .before .before .before .before .before .before .before .before .before .before .before .before .pre .1 .1) (c .before .before .before .before .before .before .before .before .before .reached-by .ensures) (c .before .before .before .before .before .before .before .before .if1 .left) (c .before .before .before .before .before .before .before .if2 .left) (eqb-false _ _ (c .before .before .before .before .before .before .if3 .left)) refl (c .before .before .before .masks-at .ensures) (c .before .before .put-said .ensures), search needs)
+returns-3 c =
+    let o = c .before .before in let a = o .before .before .before .before in let k = a .before .before .before in
+    (λ e. own-only e (k .before .before .before .pre .1 .1) (k .reached-by .ensures) (a .before .before .if1 .left) (a .before .if2 .left) (eqb-false _ _ (a .if3 .left))
+      refl (o .before .masks-at .ensures) (o .put-said .ensures), search needs)
 
 pub put-own-spec : {M : Type 1} → statement M
 put-own-spec =

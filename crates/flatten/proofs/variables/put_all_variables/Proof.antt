@@ -3,7 +3,7 @@ use mathlib.Core.List.{[]}
 use mathlib.Core.Path.{_≡_, refl}
 use Prim.Native.Nat.{_≤_, _-_}
 use Rattle.flatten.specs.Tables.{tables}
-use Rattle.flatten.proofs.Numbers.{Naming, naming-start, naming-at, naming-laid, naming-room, count-few, fresh-room, naming-pass, naming-next}
+use Rattle.flatten.proofs.Numbers.{Naming, naming-start, naming-asks, count-small, fresh-room, naming-pass, naming-next}
 use borrow.Author.Needs.{needs}
 use native.Mathlib.Omega.{arith}
 use Rattle.flatten.proofs.variables.put_all_variables.Statement.{statement}
@@ -38,7 +38,8 @@ element-copy-out-row c = search needs
 
 -- src/variables.rt:38:13
 put-variables-requires : tie.Need-put-variables-requires Inv-loop μ-loop
-put-variables-requires c κs = (naming-at (c .before .before .before .before .before .before .before .before .pre .1) (c .before .before .before .before .before .before .before .before .pre .0 .1) (c .before .before .before .before .loop-test .taken) (c .before .before .before .before .before .loop .inv .1), (naming-laid (c .before .before .before .before .before .before .before .before .pre .1) (c .before .before .before .before .before .before .before .before .pre .0 .1) (c .before .before .before .before .loop-test .taken) (c .before .before .before .before .before .loop .inv .1), naming-room (c .before .before .before .before .before .before .before .before .pre .1) (c .before .before .before .before .before .before .before .before .pre .0 .1) (c .before .before .before .before .loop-test .taken) (c .before .before .before .before .before .loop .inv .1)))
+put-variables-requires c κs =
+    let l = c .before .before .before .before in let w = l .before .before .before .before .pre in naming-asks (w .1) (w .0 .1) (l .loop-test .taken) (l .before .loop .inv .1)
 
 -- src/variables.rt:39:34
 element-count-requires : tie.Need-element-count-requires Inv-loop μ-loop
@@ -46,11 +47,16 @@ element-count-requires c κs = search needs
 
 -- src/variables.rt:39:23
 fresh-requires : tie.Need-fresh-requires Inv-loop μ-loop
-fresh-requires c κs = count-few (c .before .before .before .before .before .before .before .before .before .before .before .before .pre .1) (c .before .before .before .before .before .before .before .before .before .before .before .before .pre .0 .1) (c .before .before .before .before .before .before .before .before .loop-test .taken) (c .before .before .before .before .before .before .before .before .before .loop .inv .1) (c .element-count .ensures)
+fresh-requires c κs =
+    let l = c .before .before .before .before .before .before .before .before in let w = l .before .before .before .before .pre in
+    count-small (naming-asks (w .1) (w .0 .1) (l .loop-test .taken) (l .before .loop .inv .1) .1 .0) (c .element-count .ensures)
 
 -- src/variables.rt:39:13
 add-number : tie.Need-add-number Inv-loop μ-loop
-add-number c = let h = fresh-room _ _ (c .fresh .ensures) (count-few (c .before .before .before .before .before .before .before .before .before .before .before .before .before .pre .1) (c .before .before .before .before .before .before .before .before .before .before .before .before .before .pre .0 .1) (c .before .before .before .before .before .before .before .before .before .loop-test .taken) (c .before .before .before .before .before .before .before .before .before .before .loop .inv .1) (c .before .element-count .ensures)) (naming-room (c .before .before .before .before .before .before .before .before .before .before .before .before .before .pre .1) (c .before .before .before .before .before .before .before .before .before .before .before .before .before .pre .0 .1) (c .before .before .before .before .before .before .before .before .before .loop-test .taken) (c .before .before .before .before .before .before .before .before .before .before .loop .inv .1)) in search needs
+add-number c =
+    let l = c .before .before .before .before .before .before .before .before .before in let w = l .before .before .before .before .pre in
+    let a = naming-asks (w .1) (w .0 .1) (l .loop-test .taken) (l .before .loop .inv .1) in
+    let h = fresh-room _ _ (c .fresh .ensures) (count-small (a .1 .0) (c .before .element-count .ensures)) (a .1 .1) in search needs
 
 -- src/variables.rt:41:9
 add-t : tie.Need-add-t Inv-loop μ-loop
@@ -62,7 +68,12 @@ loop-less c = search needs
 
 -- src/variables.rt:35:5
 loop-again : tie.Need-loop-again Inv-loop μ-loop
-loop-again c = (search needs, ⊎-elim (λ w. rw (w .8, w .9, w .10) (naming-next (c .before .before .before .before .before .before .pre .1) (c .before .before .before .before .before .before .pre .0 .1) (c .before .before .loop-test .taken) (c .before .before .before .loop .inv .1) (w .0 .taken) refl (w .6 .ensures) (w .3 .ensures) (w .7 .ensures))) (λ w. rw (w .1, w .2, w .3) (naming-pass (c .before .before .before .before .before .before .pre .1) (c .before .before .before .before .before .before .pre .0 .1) (c .before .before .loop-test .taken) (c .before .before .before .loop .inv .1) (w .0 .left))) (c .if1 .came))
+loop-again c =
+    let l = c .before .before in let p = l .before .before .before .before .pre in let h = l .loop-test .taken in let n = l .before .loop .inv .1 in
+    (search needs, ⊎-elim
+      (λ w. rw (w .8, w .9, w .10) (naming-next (p .1) (p .0 .1) h n (w .0 .taken) refl (w .6 .ensures) (w .3 .ensures) (w .7 .ensures)))
+      (λ w. rw (w .1, w .2, w .3) (naming-pass (p .1) (p .0 .1) h n (w .0 .left)))
+      (c .if1 .came))
 
 -- src/variables.rt:19:1
 same-length : tie.Need-same-length Inv-loop μ-loop
@@ -70,7 +81,9 @@ same-length c = search needs
 
 -- src/variables.rt:19:1
 returns : tie.Need-returns Inv-loop μ-loop
-returns c = let e = c .before .loop .inv .0 in let f = c .loop-test .left in let q : c .before .before .before .before .args .n ≡ c .before .loop .t = omega arith in rw q (c .before .loop .inv .1 .put)
+returns c =
+    let e = c .before .loop .inv .0 in let f = c .loop-test .left in
+    let q : c .before .before .before .before .args .n ≡ c .before .loop .t = omega arith in rw q (c .before .loop .inv .1 .put)
 
 pub put-all-variables-spec : {M : Type 1} → statement M
 put-all-variables-spec =

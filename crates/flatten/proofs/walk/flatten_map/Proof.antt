@@ -5,9 +5,9 @@ use Rattle.flatten.proofs.walk.flatten_map.Statement.{statement}
 use Rattle.flatten.proofs.walk.flatten_map.Tie as tie
 use Rattle.flatten.proofs.walk.flatten_map.Reads as reads
 use Rattle.flatten.proofs.walk.flatten_map.Lts as lts
-use Rattle.steps.proofs.kinds.flatten_if_arbitrary.Reads as flatten-if-arbitrary-reads
-use Rattle.steps.proofs.kinds.flatten_non_surj_then.Reads as flatten-non-surj-then-reads
-use Rattle.steps.proofs.kinds.flatten_surj_then.Reads as flatten-surj-then-reads
+use Rattle.steps.proofs.morphisms.flatten_if_arbitrary.Reads as flatten-if-arbitrary-reads
+use Rattle.steps.proofs.morphisms.flatten_non_surj_then.Reads as flatten-non-surj-then-reads
+use Rattle.steps.proofs.morphisms.flatten_surj_then.Reads as flatten-surj-then-reads
 
 -- src/walk.rt:83:9
 flatten-surj-then-requires : tie.Need-flatten-surj-then-requires
@@ -31,7 +31,9 @@ flatten-if-arbitrary-requires c κs = search needs
 
 -- src/walk.rt:61:1
 returns-3 : tie.Need-returns-3
-returns-3 c = λ table k y h. let d = c .flatten-if-arbitrary .ensures table y in if-does _ _ _ _ _ _ _ _ _ _ (d .0) (d .1) (c .before .before .before .if1 .left) (c .before .before .if2 .left) h
+returns-3 c =
+    λ table k y h. let d = c .flatten-if-arbitrary .ensures table y in
+    if-does _ _ _ _ _ _ _ _ _ _ (d .0) (d .1) (c .before .before .before .if1 .left) (c .before .before .if2 .left) h
 
 pub flatten-map-spec : {M : Type 1} → statement M
 flatten-map-spec =

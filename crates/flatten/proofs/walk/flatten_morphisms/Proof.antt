@@ -1,10 +1,11 @@
 use mathlib.Core.Logic.{⊎-elim}
-use Prim.Native.Nat.{_-_, _*_, _≤_, _<_}
+use Prim.Native.Nat.{_+_, _-_, _*_, _≤_, _<_}
 use Rattle.signature.specs.Index.{signatureAt}
 use Rattle.flatten.specs.Tables.{tables}
 use Rattle.flatten.specs.Left.{Going}
-use Rattle.flatten.proofs.Going.{count-small}
-use Rattle.flatten.proofs.Ending.{within, met, skip, went-going, stopped, next-target, walked-all, begin-walk, left-turn, left-step}
+use Rattle.flatten.proofs.Grounds.{first-laid}
+use Rattle.flatten.proofs.Numbers.{count-small}
+use Rattle.flatten.proofs.Ending.{Standing, within, met, skip, went-going, stopped, next-target, walked-all, begin-walk, left-turn, left-step}
 use borrow.Author.Needs.{needs}
 use native.Mathlib.Omega.{arith}
 use Rattle.flatten.proofs.walk.flatten_morphisms.Statement.{statement}
@@ -22,33 +23,64 @@ abbrev μ-loop : tie.MeasureT-loop
 μ-loop sig arities counts s index n vars₀ sources₀ masks₀ types₀ kinds next₀ t₀ u₀ vars sources masks types next t u =
     (n - t) * n - u
 
+abbrev S : tie.In-loop Inv-loop μ-loop → tie.Start Inv-loop μ-loop
+S c = c .before .before .before .before .before
+
+abbrev At : tie.In-loop Inv-loop μ-loop → Type 0
+At c = let a = S c .args in
+    Standing (signatureAt (a .sig .now) (a .arities .now) (a .counts)) (a .s .now) (a .index .now) (a .kinds .now) (a .n) (c .before .loop .t) (c .before .loop .u)
+
+stands : (c : tie.In-loop Inv-loop μ-loop) → At c
+stands c = let w = S c .pre in record {
+  ground = w .0 .1;
+  counted = w .1 .0 .0;
+  tabled = w .1 .0 .1;
+  target-in = c .loop-test .taken;
+  source-in = c .before .loop .inv .1;
+}
+
+-- Behind the pair, walked or without a kind.
+abbrev Behind : tie.Joined1 Inv-loop μ-loop → Type 0
+Behind c = let a = S (c .before .before) .args in let l = c .before .before .before .loop in
+    Going (signatureAt (a .sig .now) (a .arities .now) (a .counts)) (a .s .now) (tables (c .if1 .sources) (c .if1 .masks) (c .if1 .vars)) (c .if1 .types) (c .if1 .next) (l .t) (l .u + 1)
+
+behind : (c : tie.Joined1 Inv-loop μ-loop) → Behind c
+behind c = ⊎-elim
+    (λ w. rw (w .9, w .10, w .11, w .12, w .13) (went-going _ (w .6 .ensures) (w .8 .given .1)))
+    (λ w. rw (w .1, w .2, w .3, w .4, w .5) (skip (stands (c .before .before)) (w .0 .left) (c .before .before .before .loop .inv .2)))
+    (c .if1 .came)
+
 -- src/walk.rt:162:20
 element-count-requires : tie.Need-element-count-requires Inv-loop μ-loop
 element-count-requires c κs = search needs
 
 -- src/walk.rt:162:20
 cast-next : tie.Need-cast-next Inv-loop μ-loop
-cast-next c = let h = count-small (c .before .before .before .pre .0 .1 .sounds _ (c .before .before .before .pre .0 .1 .some-one) .laid) (c .element-count .ensures) in search needs
+cast-next c = let h = count-small (first-laid (c .before .before .before .pre .0 .1)) (c .element-count .ensures) in search needs
 
 -- src/walk.rt:165:5
 loop-holds : tie.Need-loop-holds Inv-loop μ-loop
-loop-holds c = let e = c .before .before .before .pre .1 .0 .0 in let h = c .before .before .before .pre .0 .1 .some-one in (search needs, omega arith, begin-walk (c .before .before .before .pre .0 .1) (c .element-count .ensures) (c .before .before .before .pre .1 .1))
+loop-holds c =
+    let w = c .before .before .before .pre in let e = w .1 .0 .0 in let h = w .0 .1 .some-one in
+    (search needs, omega arith, begin-walk (w .0 .1) (c .element-count .ensures) (w .1 .1))
 
 -- src/walk.rt:166:20
 mul-kind : tie.Need-mul-kind Inv-loop μ-loop
-mul-kind c = let h = within (c .before .before .before .before .before .pre .0 .1) (c .before .before .before .before .before .pre .1 .0 .0) (c .before .before .before .before .before .pre .1 .0 .1) (c .loop-test .taken) (c .before .loop .inv .1) .0 in let k = within (c .before .before .before .before .before .pre .0 .1) (c .before .before .before .before .before .pre .1 .0 .0) (c .before .before .before .before .before .pre .1 .0 .1) (c .loop-test .taken) (c .before .loop .inv .1) .1 in search needs
+mul-kind c = let h = within (stands c) .0 in let k = within (stands c) .1 in search needs
 
 -- src/walk.rt:166:20
 index-1-kind : tie.Need-index-1-kind Inv-loop μ-loop
-index-1-kind c = let h = within (c .before .before .before .before .before .pre .0 .1) (c .before .before .before .before .before .pre .1 .0 .0) (c .before .before .before .before .before .pre .1 .0 .1) (c .loop-test .taken) (c .before .loop .inv .1) .0 in let k = within (c .before .before .before .before .before .pre .0 .1) (c .before .before .before .before .before .pre .1 .0 .0) (c .before .before .before .before .before .pre .1 .0 .1) (c .loop-test .taken) (c .before .loop .inv .1) .1 in search needs
+index-1-kind c = let h = within (stands c) .0 in let k = within (stands c) .1 in search needs
 
 -- src/walk.rt:166:20
 index-2-kind : tie.Need-index-2-kind Inv-loop μ-loop
-index-2-kind c = let h = within (c .before .before .before .before .before .pre .0 .1) (c .before .before .before .before .before .pre .1 .0 .0) (c .before .before .before .before .before .pre .1 .0 .1) (c .loop-test .taken) (c .before .loop .inv .1) .0 in let k = within (c .before .before .before .before .before .pre .0 .1) (c .before .before .before .before .before .pre .1 .0 .0) (c .before .before .before .before .before .pre .1 .0 .1) (c .loop-test .taken) (c .before .loop .inv .1) .1 in search needs
+index-2-kind c = let h = within (stands c) .0 in let k = within (stands c) .1 in search needs
 
 -- src/walk.rt:168:17
 walk-map-requires : tie.Need-walk-map-requires Inv-loop μ-loop
-walk-map-requires c κs = (within (c .before .before .before .before .before .before .before .before .before .before .before .before .pre .0 .1) (c .before .before .before .before .before .before .before .before .before .before .before .before .pre .1 .0 .0) (c .before .before .before .before .before .before .before .before .before .before .before .before .pre .1 .0 .1) (c .before .before .before .before .before .before .before .loop-test .taken) (c .before .before .before .before .before .before .before .before .loop .inv .1), (c .before .before .before .before .before .before .before .before .before .before .before .before .pre .0, (met (c .before .before .before .before .before .before .before .before .before .before .before .before .pre .0 .1) (c .before .before .before .before .before .before .before .before .before .before .before .before .pre .1 .0 .0) (c .before .before .before .before .before .before .before .before .before .before .before .before .pre .1 .0 .1) (c .before .before .before .before .before .before .before .loop-test .taken) (c .before .before .before .before .before .before .before .before .loop .inv .1) (c .before .before .before .before .before .if1 .taken), c .before .before .before .before .before .before .before .before .loop .inv .2)))
+walk-map-requires c κs =
+    let l = c .before .before .before .before .before .before .before in
+    (within (stands l), (S l .pre .0, (met (stands l) (c .before .before .before .before .before .if1 .taken), l .before .loop .inv .2)))
 
 enum-told : tie.Need-enum-told Inv-loop μ-loop
 enum-told c = search needs
@@ -63,31 +95,37 @@ returns c = stopped _ (c .before .before .walk-map .ensures) (c .enum-told2 .giv
 
 -- src/walk.rt:175:9
 add-u : tie.Need-add-u Inv-loop μ-loop
-add-u c = let h = within (c .before .before .before .before .before .before .before .pre .0 .1) (c .before .before .before .before .before .before .before .pre .1 .0 .0) (c .before .before .before .before .before .before .before .pre .1 .0 .1) (c .before .before .loop-test .taken) (c .before .before .before .loop .inv .1) .0 in search needs
+add-u c = let h = within (stands (c .before .before)) .0 in search needs
 
 -- src/walk.rt:178:13
 add-t : tie.Need-add-t Inv-loop μ-loop
-add-t c = let h = within (c .before .before .before .before .before .before .before .before .pre .0 .1) (c .before .before .before .before .before .before .before .before .pre .1 .0 .0) (c .before .before .before .before .before .before .before .before .pre .1 .0 .1) (c .before .before .before .loop-test .taken) (c .before .before .before .before .loop .inv .1) .1 in search needs
+add-t c = let h = within (stands (c .before .before .before)) .1 in search needs
 
 -- src/walk.rt:165:5
 loop-less : tie.Need-loop-less Inv-loop μ-loop
-loop-less c = left-turn _ _ _ (c .before .before .before .loop-test .taken) (c .before .before .before .before .loop .inv .1)
+loop-less c = let l = c .before .before .before in left-turn _ _ _ (l .loop-test .taken) (l .before .loop .inv .1)
 
 -- src/walk.rt:165:5
 loop-again : tie.Need-loop-again Inv-loop μ-loop
-loop-again c = let h = c .before .before .before .loop-test .taken in let l = c .before .before .before .before .loop .inv .1 in (omega arith, omega arith, next-target (c .before .before .before .before .before .before .before .before .pre .1 .0 .0) (c .before .before .before .loop-test .taken) (c .if2 .taken) (⊎-elim (λ w. rw (w .9, w .10, w .11, w .12, w .13) (went-going _ (w .6 .ensures) (w .8 .given .1))) (λ w. rw (w .1, w .2, w .3, w .4, w .5) (skip (c .before .before .before .before .before .before .before .before .pre .0 .1) (c .before .before .before .before .before .before .before .before .pre .1 .0 .0) (c .before .before .before .before .before .before .before .before .pre .1 .0 .1) (c .before .before .before .loop-test .taken) (c .before .before .before .before .loop .inv .1) (w .0 .left) (c .before .before .before .before .loop .inv .2))) (c .before .if1 .came)))
+loop-again c =
+    let a = stands (c .before .before .before) in let h = a .target-in in let l = a .source-in in
+    (omega arith, omega arith, next-target (a .counted) h (c .if2 .taken) (behind (c .before)))
 
 -- src/walk.rt:165:5
 loop-less-2 : tie.Need-loop-less-2 Inv-loop μ-loop
-loop-less-2 c = left-step _ _ _ (c .before .before .before .loop-test .taken) (c .before .before .before .before .loop .inv .1)
+loop-less-2 c = let l = c .before .before .before in left-step _ _ _ (l .loop-test .taken) (l .before .loop .inv .1)
 
 -- src/walk.rt:165:5
 loop-again-2 : tie.Need-loop-again-2 Inv-loop μ-loop
-loop-again-2 c = let h = c .before .before .before .loop-test .taken in let l = c .before .before .before .before .loop .inv .1 in let d = c .if2 .left in (omega arith, omega arith, (⊎-elim (λ w. rw (w .9, w .10, w .11, w .12, w .13) (went-going _ (w .6 .ensures) (w .8 .given .1))) (λ w. rw (w .1, w .2, w .3, w .4, w .5) (skip (c .before .before .before .before .before .before .before .before .pre .0 .1) (c .before .before .before .before .before .before .before .before .pre .1 .0 .0) (c .before .before .before .before .before .before .before .before .pre .1 .0 .1) (c .before .before .before .loop-test .taken) (c .before .before .before .before .loop .inv .1) (w .0 .left) (c .before .before .before .before .loop .inv .2))) (c .before .if1 .came)))
+loop-again-2 c =
+    let a = stands (c .before .before .before) in let h = a .target-in in let l = a .source-in in let d = c .if2 .left in
+    (omega arith, omega arith, behind (c .before))
 
 -- src/walk.rt:143:1
 returns-2 : tie.Need-returns-2 Inv-loop μ-loop
-returns-2 c = walked-all (c .before .before .before .before .before .pre .0 .1) (c .before .before .before .before .before .pre .1 .0 .0) (c .before .loop .inv .0) (c .loop-test .left) (c .before .loop .inv .2)
+returns-2 c =
+    let w = c .before .before .before .before .before .pre in
+    walked-all (w .0 .1) (w .1 .0 .0) (c .before .loop .inv .0) (c .loop-test .left) (c .before .loop .inv .2)
 
 pub flatten-morphisms-spec : {M : Type 1} → statement M
 flatten-morphisms-spec =
