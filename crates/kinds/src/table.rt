@@ -98,7 +98,12 @@ fn stored(s: &[u8], index: &[u16; RULE_INDEX]) -> [[u8; 32]; 32]
             return table;
         };
         let kind = kind_number(kind_at(s, start, len));
-        add(&mut table, source_at(s, start, len), target_at(s, start, len), kind);
+        add(
+            &mut table,
+            source_at(s, start, len),
+            target_at(s, start, len),
+            kind,
+        );
         at = next;
     }
     table

@@ -54,14 +54,7 @@ fn most_fields(from: usize, end: usize) -> usize
 }
 
 // Which rows from `start` to `stop` are no images of those from `from` to `end`.
-fn new_between(
-    s: &[u8],
-    from: usize,
-    end: usize,
-    m: Map,
-    start: usize,
-    stop: usize,
-) -> Flagged
+fn new_between(s: &[u8], from: usize, end: usize, m: Map, start: usize, stop: usize) -> Flagged
     requires { ⌜ MapIn (now s) m ⌝ }
     requires { ⌜ RowsFrom (now s) from end ⌝ }
     requires { ⌜ RowsFrom (now s) start stop ⌝ }
