@@ -10,6 +10,7 @@ ghost use Rattle.flatten.specs.Tables.{tables};
 ghost use Rattle.flatten.specs.Ended.{Ended};
 ghost use Rattle.flatten.specs.Answers.{Readable, Writes, outcomeOf, sizeOf, Demanded, ruleOutcome, numberIn, stopIn};
 use crate::output::put_group;
+use crate::tables::SORTS;
 use crate::tables::UNREACHED;
 use crate::tables::initial_matching_stmts;
 use crate::walk::Walked;
@@ -23,7 +24,9 @@ use naming::variables::NO_VAR;
 use naming::variables::VARIABLES;
 use reading::RuleReading;
 use reading::read_rule_into;
+use rule::ids::FIELDS;
 use rule::ids::RULE_INDEX;
+use rule::ids::STRUCTURES;
 use signature::ids::Counts;
 use signature::ids::INDEX;
 
@@ -42,10 +45,10 @@ fn write_group(
     s: &[u8],
     index: &[u16; RULE_INDEX],
     n: usize,
-    kinds: &[[u8; 32]; 32],
-    sources: &[u8; 32],
-    masks: &[[u64; 4]; 32],
-    vars: &[[u16; 64]; 32],
+    kinds: &[[u8; STRUCTURES]; STRUCTURES],
+    sources: &[u8; STRUCTURES],
+    masks: &[[u64; SORTS]; STRUCTURES],
+    vars: &[[u16; FIELDS]; STRUCTURES],
     types: &[u16; VARIABLES],
 ) -> Flattened
     requires { ⌜ n ≡ length (ruleAt (now s) .structures) ⌝ }
@@ -95,11 +98,11 @@ pub fn flatten_rule(
         return Flattened::Refused(22);
     }
     let kinds = kind_table(s, index);
-    let mut vars = [[NO_VAR; 64]; 32];
+    let mut vars = [[NO_VAR; FIELDS]; STRUCTURES];
     vars[0] = initial_el_vars(s, index);
-    let mut sources = [UNREACHED; 32];
+    let mut sources = [UNREACHED; STRUCTURES];
     sources[0] = 0;
-    let mut masks = [[0u64; 4]; 32];
+    let mut masks = [[0u64; SORTS]; STRUCTURES];
     masks[0] = initial_matching_stmts();
     let mut types = [0u16; VARIABLES];
     type_variables(&mut types, s, index, 0, vars[0], 0);

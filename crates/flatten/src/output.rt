@@ -8,6 +8,7 @@ ghost use Rattle.definition.specs.Group as definition;
 ghost use Rattle.definition.specs.Letters.{letterH};
 ghost use Rattle.definition.specs.Writer.{recordBytes, flatRuleFields, groupBytesOf};
 ghost use Rattle.definition.specs.Flatten.{groupLeft};
+ghost use Rattle.definition.specs.Limits.{structureLimit};
 ghost use Rattle.theory.proofs.ByteForm.{statementBytes};
 ghost use Rattle.records.specs.Buffer.{Put, countLimit};
 ghost use Rattle.rule.specs.Lookup.{ruleAt};
@@ -16,6 +17,7 @@ ghost use Rattle.flatten.specs.Ended.{Ended, Reaching, Emits};
 use crate::premise::put_both;
 use crate::premise::put_premise;
 use crate::premise::reached_by;
+use crate::tables::SORTS;
 use crate::tables::UNREACHED;
 use crate::tables::place;
 use crate::variables::put_all_variables;
@@ -27,7 +29,9 @@ use naming::writer::put_group_name;
 use naming::writer::put_rule_name;
 use naming::writer::rule_name_length;
 use records::write::put_field_head;
+use rule::ids::FIELDS;
 use rule::ids::RULE_INDEX;
+use rule::ids::STRUCTURES;
 use statements::writer::put_domains;
 
 const LETTER_G: u8 = b'G';
@@ -35,8 +39,8 @@ const LETTER_G: u8 = b'G';
 const LETTER_U: u8 = b'U';
 
 // Does the map that reached a structure emit a rule? SurjThen does; NonSurjThen does where it has a new element.
-fn emits(kinds: &[[u8; 32]; 32], sources: &[u8; 32], masks: &[[u64; 4]; 32], t: usize) -> bool
-    requires { ⌜ (t < 32) × (getD (now sources) t 0 < 32) ⌝ }
+fn emits(kinds: &[[u8; STRUCTURES]; STRUCTURES], sources: &[u8; STRUCTURES], masks: &[[u64; SORTS]; STRUCTURES], t: usize) -> bool
+    requires { ⌜ (t < structureLimit) × (getD (now sources) t 0 < structureLimit) ⌝ }
     ensures { λ r. ⌜ Emits r (now (kinds .entry)) (now (sources .entry)) (now (masks .entry)) t ⌝ }
 {
     let kind = reached_by(kinds, sources, t);
@@ -56,10 +60,10 @@ fn put_conclusion(
     from: usize,
     s: &[u8],
     index: &[u16; RULE_INDEX],
-    kinds: &[[u8; 32]; 32],
-    sources: &[u8; 32],
-    masks: &[[u64; 4]; 32],
-    vars: &[[u16; 64]; 32],
+    kinds: &[[u8; STRUCTURES]; STRUCTURES],
+    sources: &[u8; STRUCTURES],
+    masks: &[[u64; SORTS]; STRUCTURES],
+    vars: &[[u16; FIELDS]; STRUCTURES],
     types: &[u16; VARIABLES],
     t: usize,
 ) -> usize
@@ -98,10 +102,10 @@ fn put_rule(
     from: usize,
     s: &[u8],
     index: &[u16; RULE_INDEX],
-    kinds: &[[u8; 32]; 32],
-    sources: &[u8; 32],
-    masks: &[[u64; 4]; 32],
-    vars: &[[u16; 64]; 32],
+    kinds: &[[u8; STRUCTURES]; STRUCTURES],
+    sources: &[u8; STRUCTURES],
+    masks: &[[u64; SORTS]; STRUCTURES],
+    vars: &[[u16; FIELDS]; STRUCTURES],
     types: &[u16; VARIABLES],
     t: usize,
     count: u16,
@@ -129,10 +133,10 @@ fn put_rules(
     s: &[u8],
     index: &[u16; RULE_INDEX],
     n: usize,
-    kinds: &[[u8; 32]; 32],
-    sources: &[u8; 32],
-    masks: &[[u64; 4]; 32],
-    vars: &[[u16; 64]; 32],
+    kinds: &[[u8; STRUCTURES]; STRUCTURES],
+    sources: &[u8; STRUCTURES],
+    masks: &[[u64; SORTS]; STRUCTURES],
+    vars: &[[u16; FIELDS]; STRUCTURES],
     types: &[u16; VARIABLES],
 ) -> usize
     requires { ⌜ (from ≤ countLimit) × (n ≡ length (ruleAt (now s) .structures)) ⌝ }
@@ -162,10 +166,10 @@ pub fn put_group(
     s: &[u8],
     index: &[u16; RULE_INDEX],
     n: usize,
-    kinds: &[[u8; 32]; 32],
-    sources: &[u8; 32],
-    masks: &[[u64; 4]; 32],
-    vars: &[[u16; 64]; 32],
+    kinds: &[[u8; STRUCTURES]; STRUCTURES],
+    sources: &[u8; STRUCTURES],
+    masks: &[[u64; SORTS]; STRUCTURES],
+    vars: &[[u16; FIELDS]; STRUCTURES],
     types: &[u16; VARIABLES],
 ) -> usize
     requires { ⌜ n ≡ length (ruleAt (now s) .structures) ⌝ }

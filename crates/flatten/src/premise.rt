@@ -6,11 +6,13 @@ ghost use Prim.Native.Nat.{_≤_, _<_};
 ghost use lib.ListN.{getD};
 ghost use Rattle.definition.specs.Letters.{letterB};
 ghost use Rattle.definition.specs.Walk.{pairsBetween, found};
+ghost use Rattle.definition.specs.Limits.{structureLimit};
 ghost use Rattle.theory.proofs.ByteForm.{statementBytes};
 ghost use Rattle.records.specs.Buffer.{Put, countLimit};
 ghost use Rattle.rule.specs.Lookup.{ruleAt};
 ghost use Rattle.flatten.specs.Tables.{tables, equalitiesAt, saidAt, ownAt, statementsAt};
 ghost use Rattle.flatten.specs.Ended.{Ended, Reaching, ReachedBy};
+use crate::tables::SORTS;
 use crate::tables::masks_at;
 use crate::tables::place;
 use kinds::maps::map_between;
@@ -19,13 +21,15 @@ use kinds::table::NO_KIND;
 use kinds::table::NOOP;
 use kinds::table::SURJ_THEN;
 use naming::variables::VARIABLES;
+use rule::ids::FIELDS;
 use rule::ids::RULE_INDEX;
+use rule::ids::STRUCTURES;
 use statements::equalities::put_equalities;
 use statements::writer::put_said;
 
 // The number of the kind by which a structure was reached; structure 0 was reached by none.
-pub fn reached_by(kinds: &[[u8; 32]; 32], sources: &[u8; 32], t: usize) -> u8
-    requires { ⌜ (t < 32) × (getD (now sources) t 0 < 32) ⌝ }
+pub fn reached_by(kinds: &[[u8; STRUCTURES]; STRUCTURES], sources: &[u8; STRUCTURES], t: usize) -> u8
+    requires { ⌜ (t < structureLimit) × (getD (now sources) t 0 < structureLimit) ⌝ }
     ensures { λ r. ⌜ ReachedBy r (now (kinds .entry)) (now (sources .entry)) t ⌝ }
 {
     if t == 0 {
@@ -42,10 +46,10 @@ pub fn put_both(
     letter: u8,
     s: &[u8],
     index: &[u16; RULE_INDEX],
-    kinds: &[[u8; 32]; 32],
-    sources: &[u8; 32],
-    masks: &[[u64; 4]; 32],
-    vars: &[[u16; 64]; 32],
+    kinds: &[[u8; STRUCTURES]; STRUCTURES],
+    sources: &[u8; STRUCTURES],
+    masks: &[[u64; SORTS]; STRUCTURES],
+    vars: &[[u16; FIELDS]; STRUCTURES],
     types: &[u16; VARIABLES],
     t: usize,
 ) -> usize
@@ -69,10 +73,10 @@ fn put_own(
     from: usize,
     s: &[u8],
     index: &[u16; RULE_INDEX],
-    kinds: &[[u8; 32]; 32],
-    sources: &[u8; 32],
-    masks: &[[u64; 4]; 32],
-    vars: &[[u16; 64]; 32],
+    kinds: &[[u8; STRUCTURES]; STRUCTURES],
+    sources: &[u8; STRUCTURES],
+    masks: &[[u64; SORTS]; STRUCTURES],
+    vars: &[[u16; FIELDS]; STRUCTURES],
     types: &[u16; VARIABLES],
     t: usize,
 ) -> usize
@@ -99,10 +103,10 @@ pub fn put_premise(
     from: usize,
     s: &[u8],
     index: &[u16; RULE_INDEX],
-    kinds: &[[u8; 32]; 32],
-    sources: &[u8; 32],
-    masks: &[[u64; 4]; 32],
-    vars: &[[u16; 64]; 32],
+    kinds: &[[u8; STRUCTURES]; STRUCTURES],
+    sources: &[u8; STRUCTURES],
+    masks: &[[u64; SORTS]; STRUCTURES],
+    vars: &[[u16; FIELDS]; STRUCTURES],
     types: &[u16; VARIABLES],
     t: usize,
 ) -> usize

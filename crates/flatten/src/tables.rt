@@ -3,17 +3,22 @@ ghost use mathlib.Core.List.{[]};
 ghost use mathlib.Core.Path.{_≡_};
 ghost use Prim.Native.Nat.{_<_};
 ghost use lib.ListN.{getD};
+ghost use Rattle.definition.specs.Limits.{structureLimit};
 ghost use Rattle.flatten.specs.Tables.{masksOf, allMasks};
+use rule::ids::STRUCTURES;
 use statements::masks::Masks;
 
 // The source of a structure that no map has reached yet.
-pub const UNREACHED: u8 = 32;
+pub const UNREACHED: u8 = STRUCTURES as u8;
+
+// A mask for each sort of what a structure says: R rows, A rows, members, TypeSets.
+pub const SORTS: usize = 4;
 
 // Every flag is set.
 const ALL: u64 = 18446744073709551615;
 
 // The masks of structure 0: its premise has all that it says, every row and every TypeSet.
-pub fn initial_matching_stmts() -> [u64; 4]
+pub fn initial_matching_stmts() -> [u64; SORTS]
     ensures { λ r. ⌜ r ≡ allMasks ⌝ }
 {
     [ALL, ALL, ALL, ALL]
@@ -27,8 +32,8 @@ pub fn place(k: u8) -> usize
 }
 
 // The masks of a structure.
-pub fn masks_at(masks: &[[u64; 4]; 32], t: usize) -> Masks
-    requires { ⌜ t < 32 ⌝ }
+pub fn masks_at(masks: &[[u64; SORTS]; STRUCTURES], t: usize) -> Masks
+    requires { ⌜ t < structureLimit ⌝ }
     ensures { λ r. ⌜ r ≡ masksOf (getD (now (masks .entry)) t []) ⌝ }
 {
     let row = masks[t];

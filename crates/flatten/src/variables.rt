@@ -13,7 +13,9 @@ use crate::tables::UNREACHED;
 use naming::variables::fresh;
 use naming::writer::put_variables;
 use rule::elements::element_count;
+use rule::ids::FIELDS;
 use rule::ids::RULE_INDEX;
+use rule::ids::STRUCTURES;
 
 // Structures are reached in their order, so their new variables stand in the order of their numbers.
 pub fn put_all_variables(
@@ -22,8 +24,8 @@ pub fn put_all_variables(
     s: &[u8],
     index: &[u16; RULE_INDEX],
     n: usize,
-    sources: &[u8; 32],
-    vars: &[[u16; 64]; 32],
+    sources: &[u8; STRUCTURES],
+    vars: &[[u16; FIELDS]; STRUCTURES],
 ) -> usize
     requires { ⌜ (from ≤ countLimit) × (n ≡ length (ruleAt (now s) .structures)) ⌝ }
     requires { ⌜ Numbered (now s) (now index) (tables (now sources) [] (now vars)) ⌝ }

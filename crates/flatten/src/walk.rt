@@ -7,6 +7,7 @@ ghost use lib.ListN.{length};
 ghost use Rattle.definition.specs.Group as definition;
 ghost use Rattle.definition.specs.Rule as rules;
 ghost use Rattle.definition.specs.Walk.{completed};
+ghost use Rattle.definition.specs.Limits.{structureLimit};
 ghost use Rattle.signature.specs.Index.{signatureAt, Indexed};
 ghost use Rattle.rule.specs.Lookup.{ruleAt};
 ghost use Rattle.rows.specs.Kernel.{TypesOf};
@@ -18,6 +19,7 @@ ghost use Rattle.flatten.specs.Tables.{tables, kindOn};
 ghost use Rattle.flatten.specs.Left.{Going};
 ghost use Rattle.flatten.specs.Ended.{Ground};
 ghost use Rattle.flatten.specs.Went.{Ends, Does, Met, numberOf, Went, Walks};
+use crate::tables::SORTS;
 use crate::tables::UNREACHED;
 use kinds::maps::map_between;
 use kinds::table::NO_KIND;
@@ -29,7 +31,9 @@ use naming::variables::VARIABLES;
 use naming::variables::fresh;
 use rows::maps::Map;
 use rule::elements::element_count;
+use rule::ids::FIELDS;
 use rule::ids::RULE_INDEX;
+use rule::ids::STRUCTURES;
 use signature::ids::Counts;
 use signature::ids::INDEX;
 use steps::step::Step;
@@ -44,8 +48,8 @@ pub enum Walked {
 }
 
 // 23: the source has no statements yet; 24: the target already has statements.
-fn ends(sources: &[u8; 32], u: usize, t: usize) -> Walked
-    requires { ⌜ (u < 32) × (t < 32) ⌝ }
+fn ends(sources: &[u8; STRUCTURES], u: usize, t: usize) -> Walked
+    requires { ⌜ (u < structureLimit) × (t < structureLimit) ⌝ }
     ensures { λ r. ⌜ Ends r (now (sources .entry)) u t ⌝ }
 {
     if sources[u] >= UNREACHED {
@@ -68,8 +72,8 @@ fn flatten_map(
     u: usize,
     t: usize,
     m: Map,
-    source: [u16; 64],
-    target: [u16; 64],
+    source: [u16; FIELDS],
+    target: [u16; FIELDS],
     first: u16,
     types: &[u16; VARIABLES],
 ) -> Step
@@ -109,13 +113,13 @@ fn walk_map(
     sig: &[u8], arities: &[u16; INDEX], counts: Counts,
     s: &[u8], index: &[u16; RULE_INDEX],
     kind: u8, u: usize, t: usize,
-    vars: &mut [[u16; 64]; 32],
-    sources: &mut [u8; 32],
-    masks: &mut [[u64; 4]; 32],
+    vars: &mut [[u16; FIELDS]; STRUCTURES],
+    sources: &mut [u8; STRUCTURES],
+    masks: &mut [[u64; SORTS]; STRUCTURES],
     types: &mut [u16; VARIABLES],
     next: &mut u16,
 ) -> Walked
-    requires { ⌜ (u < 32) × (t < 32) ⌝ }
+    requires { ⌜ (u < structureLimit) × (t < structureLimit) ⌝ }
     requires { ⌜ Indexed (now sig) (now arities) counts × Ground (signatureAt (now sig) (now arities) counts) (now s) (now index) ⌝ }
     requires { ⌜ Met (now s) u t kind ⌝ }
     requires { ⌜ Going (signatureAt (now sig) (now arities) counts) (now s) (tables (now sources) (now masks) (now vars)) (now types) (now next) t u ⌝ }
@@ -149,10 +153,10 @@ pub fn flatten_morphisms(
     s: &[u8],
     index: &[u16; RULE_INDEX],
     n: usize,
-    kinds: &[[u8; 32]; 32],
-    vars: &mut [[u16; 64]; 32],
-    sources: &mut [u8; 32],
-    masks: &mut [[u64; 4]; 32],
+    kinds: &[[u8; STRUCTURES]; STRUCTURES],
+    vars: &mut [[u16; FIELDS]; STRUCTURES],
+    sources: &mut [u8; STRUCTURES],
+    masks: &mut [[u64; SORTS]; STRUCTURES],
     types: &mut [u16; VARIABLES],
 ) -> Walked
     requires { ⌜ Indexed (now sig) (now arities) counts × Ground (signatureAt (now sig) (now arities) counts) (now s) (now index) ⌝ }

@@ -14,6 +14,7 @@ use records::fields::read_field;
 use rule::ids::PLACE_K;
 use rule::ids::PLACE_X;
 use rule::ids::RULE_INDEX;
+use rule::ids::STRUCTURES;
 use rule::lookup::MorphismKind;
 use rule::lookup::class_at;
 use rule::lookup::kind_at;
@@ -68,7 +69,7 @@ fn lowest_source(s: &[u8], index: &[u16; RULE_INDEX], t: usize) -> usize
 }
 
 // A pair's kind into the table, unless the pair has one by then.
-fn add(table: &mut [[u8; 32]; 32], u: usize, t: usize, kind: u8)
+fn add(table: &mut [[u8; STRUCTURES]; STRUCTURES], u: usize, t: usize, kind: u8)
     requires { ⌜ (u < structureLimit) × (t < structureLimit) ⌝ }
     ensures { λ r. ⌜ Adds (now (table .entry)) (now (table .exit)) u t kind ⌝ }
 {
@@ -79,12 +80,12 @@ fn add(table: &mut [[u8; 32]; 32], u: usize, t: usize, kind: u8)
 }
 
 // The kinds of K.
-fn stored(s: &[u8], index: &[u16; RULE_INDEX]) -> [[u8; 32]; 32]
+fn stored(s: &[u8], index: &[u16; RULE_INDEX]) -> [[u8; STRUCTURES]; STRUCTURES]
     requires { ⌜ Ready (now s) (now index) ⌝ }
     ensures { λ r. ⌜ Tabled r (ruleAt (now (s .entry)) .kinds) ⌝ }
 {
     let kinds = section_behind(s, index, PLACE_K);
-    let mut table = [[NO_KIND; 32]; 32];
+    let mut table = [[NO_KIND; STRUCTURES]; STRUCTURES];
     let mut at = kinds.from;
     while at < kinds.to {
         let f = read_field(s, at);
@@ -110,7 +111,7 @@ fn stored(s: &[u8], index: &[u16; RULE_INDEX]) -> [[u8; 32]; 32]
 }
 
 // Behind the kinds of a table those that the X add, in order.
-fn complete(s: &[u8], index: &[u16; RULE_INDEX], table: &mut [[u8; 32]; 32])
+fn complete(s: &[u8], index: &[u16; RULE_INDEX], table: &mut [[u8; STRUCTURES]; STRUCTURES])
     requires { ⌜ Ready (now s) (now index) ⌝ }
     requires { ⌜ Tabled (now table) (ruleAt (now s) .kinds) ⌝ }
     ensures { λ r. ⌜ Tabled (now (table .exit)) (completed (ruleAt (now (s .entry)) .maps) (ruleAt (now (s .entry)) .kinds) (ruleAt (now (s .entry)) .auxiliaries)) ⌝ }
@@ -136,7 +137,7 @@ fn complete(s: &[u8], index: &[u16; RULE_INDEX], table: &mut [[u8; 32]; 32])
 }
 
 // The kind of each pair of structures, by its source, then its target.
-pub fn kind_table(s: &[u8], index: &[u16; RULE_INDEX]) -> [[u8; 32]; 32]
+pub fn kind_table(s: &[u8], index: &[u16; RULE_INDEX]) -> [[u8; STRUCTURES]; STRUCTURES]
     requires { ⌜ Ready (now s) (now index) ⌝ }
     ensures { λ r. ⌜ Tabled r (completed (ruleAt (now (s .entry)) .maps) (ruleAt (now (s .entry)) .kinds) (ruleAt (now (s .entry)) .auxiliaries)) ⌝ }
 {

@@ -19,23 +19,25 @@ use rows::maps::pair_key;
 use rule::elements::Found;
 use rule::elements::element_count;
 use rule::elements::find_element;
+use rule::ids::FIELDS;
 use rule::ids::RULE_INDEX;
+use rule::ids::STRUCTURES;
 
 // What each element of the target takes over: by ascending key, the image takes the key's variable, a later key replacing.
 // The variables are those of the source's elements. Keys and images are elements, so each of them is found.
 pub fn carried(
     s: &[u8],
     index: &[u16; RULE_INDEX],
-    vars: [u16; 64],
+    vars: [u16; FIELDS],
     src: usize,
     tgt: usize,
     m: Map,
-) -> [u16; 64]
+) -> [u16; FIELDS]
     requires { ⌜ Laid (now s) (now index) src × Laid (now s) (now index) tgt ⌝ }
     requires { ⌜ MapIn (now s) m × Joins (now s) src tgt m ⌝ }
     ensures { λ r. ⌜ r ≡ rowOf (each entryOf (takenOver (now (s .entry)) vars src tgt m)) ⌝ }
 {
-    let mut row = [NO_VAR; 64];
+    let mut row = [NO_VAR; FIELDS];
     let mut p: usize = 0;
     while p < m.pairs {
         let from = find_element(s, index, src, pair_key(s, m, p));
@@ -54,14 +56,14 @@ pub fn carried(
 
 // The table with the target's variables: those taken over from the source, and the next numbers for the others.
 pub fn assign_el_vars(
-    mut table: [[u16; 64]; 32],
+    mut table: [[u16; FIELDS]; STRUCTURES],
     s: &[u8],
     index: &[u16; RULE_INDEX],
     src: usize,
     tgt: usize,
     m: Map,
     next: u16,
-) -> [[u16; 64]; 32]
+) -> [[u16; FIELDS]; STRUCTURES]
     requires { ⌜ Laid (now s) (now index) src × Laid (now s) (now index) tgt ⌝ }
     requires { ⌜ MapIn (now s) m × Joins (now s) src tgt m ⌝ }
     requires { ⌜ GivenOut (structureIn (now s) src) (getD table src []) next ⌝ }
@@ -74,9 +76,9 @@ pub fn assign_el_vars(
 }
 
 // The variables of structure 0, whose elements take nothing over.
-pub fn initial_el_vars(s: &[u8], index: &[u16; RULE_INDEX]) -> [u16; 64]
+pub fn initial_el_vars(s: &[u8], index: &[u16; RULE_INDEX]) -> [u16; FIELDS]
     requires { ⌜ Laid (now s) (now index) 0 ⌝ }
     ensures { λ r. ⌜ r ≡ rowOf (numbered 0 (nothingTaken (structureIn (now (s .entry)) 0))) ⌝ }
 {
-    assign_structure_el_vars([NO_VAR; 64], element_count(index, 0), 0)
+    assign_structure_el_vars([NO_VAR; FIELDS], element_count(index, 0), 0)
 }

@@ -12,6 +12,7 @@ use crate::variables::VARIABLES;
 use records::fields::place;
 use rows::elements::read_element;
 use rule::elements::element_count;
+use rule::ids::FIELDS;
 use rule::ids::RULE_INDEX;
 
 // The new variables of a numbered row, those from `first` on, get the types of their elements.
@@ -20,7 +21,7 @@ pub fn type_variables(
     s: &[u8],
     index: &[u16; RULE_INDEX],
     k: usize,
-    row: [u16; 64],
+    row: [u16; FIELDS],
     first: u16,
 )
     requires { ⌜ Laid (now s) (now index) k ⌝ }

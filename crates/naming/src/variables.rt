@@ -9,15 +9,17 @@ ghost use Rattle.definition.specs.Names.{numbered};
 ghost use Rattle.definition.specs.Rows.{given};
 ghost use Rattle.theory.proofs.Numbering as numbering;
 ghost use Rattle.naming.specs.Variables.{takenIn, keptIn};
+use rule::ids::FIELDS;
+use rule::ids::STRUCTURES;
 
 // Stands for the variable of an element that takes nothing over.
 pub const NO_VAR: u16 = 65535;
 
-// Variables are numbered below this: 64 elements in each of 32 structures.
-pub const VARIABLES: usize = 2048;
+// Variables are numbered below this: each element of each structure may have one of its own.
+pub const VARIABLES: usize = FIELDS * STRUCTURES;
 
 // The elements without a variable get the next numbers; entries behind the structure's elements stay as they are.
-pub fn assign_structure_el_vars(row: [u16; 64], count: usize, next: u16) -> [u16; 64]
+pub fn assign_structure_el_vars(row: [u16; FIELDS], count: usize, next: u16) -> [u16; FIELDS]
     requires { ⌜ (count ≤ fieldLimit) × (next + count ≤ variableLimit) ⌝ }
     ensures { λ r. ⌜ r ≡ numbered next (takenIn count row) ++ drop count row ⌝ }
 {
@@ -35,7 +37,7 @@ pub fn assign_structure_el_vars(row: [u16; 64], count: usize, next: u16) -> [u16
 }
 
 // How many elements of a numbered row have a new variable: one from `first` on.
-pub fn fresh(row: [u16; 64], count: usize, first: u16) -> u16
+pub fn fresh(row: [u16; FIELDS], count: usize, first: u16) -> u16
     requires { ⌜ count ≤ fieldLimit ⌝ }
     ensures { λ r. ⌜ r ≡ numbering.fresh (keptIn first count row) ⌝ }
 {
@@ -51,11 +53,11 @@ pub fn fresh(row: [u16; 64], count: usize, first: u16) -> u16
 }
 
 // Which elements of a numbered row are images, so that they took a variable over.
-pub fn image_els(row: [u16; 64], count: usize, first: u16) -> [bool; 64]
+pub fn image_els(row: [u16; FIELDS], count: usize, first: u16) -> [bool; FIELDS]
     requires { ⌜ count ≤ fieldLimit ⌝ }
     ensures { λ r. ⌜ take count r ≡ each given (keptIn first count row) ⌝ }
 {
-    let mut flags = [false; 64];
+    let mut flags = [false; FIELDS];
     let mut i: usize = 0;
     while i < count {
         flags[i] = row[i] < first;

@@ -29,6 +29,7 @@ use records::write::put_num;
 use records::write::rest_at;
 use rows::elements::read_element;
 use rule::elements::element_count;
+use rule::ids::FIELDS;
 use rule::ids::RULE_INDEX;
 use signature::ids::TypeId;
 
@@ -100,7 +101,7 @@ pub fn put_variables(
     s: &[u8],
     index: &[u16; RULE_INDEX],
     k: usize,
-    row: [u16; 64],
+    row: [u16; FIELDS],
     first: u16,
 ) -> usize
     requires { ⌜ from ≤ countLimit ⌝ }

@@ -20,6 +20,7 @@ use crate::maps::pair_image;
 use crate::maps::pair_key;
 use rule::elements::Found;
 use rule::elements::find_element;
+use rule::ids::FIELDS;
 use rule::ids::RULE_INDEX;
 
 // A variable's number as a place.
@@ -30,14 +31,14 @@ fn variable(v: u16) -> usize
 }
 
 // The variables of a map's keys, in the keys' order; `row` has those of the source's elements, by their places.
-pub fn key_vars(s: &[u8], index: &[u16; RULE_INDEX], k: usize, row: &[u16; 64], m: Map) -> [u16; 64]
+pub fn key_vars(s: &[u8], index: &[u16; RULE_INDEX], k: usize, row: &[u16; FIELDS], m: Map) -> [u16; FIELDS]
     requires { ⌜ MapIn (now s) m ⌝ }
     requires { ⌜ k < structureLimit ⌝ }
     requires { ⌜ Elements (now s) (now index) k ⌝ }
     requires { ⌜ KeysIn (elementNumbers (now s) (now index) k) (pairsIn (now s) m) ⌝ }
     ensures { λ r. ⌜ ((source : Side) → SideAt (elementNumbers (now (s .entry)) (now (index .entry)) k) (now (row .entry)) source → KeyVars source (pairsIn (now (s .entry)) m) r) ⌝ }
 {
-    let mut vars = [0u16; 64];
+    let mut vars = [0u16; FIELDS];
     let mut p: usize = 0;
     while p < m.pairs {
         let f = find_element(s, index, k, pair_key(s, m, p));
@@ -58,7 +59,7 @@ pub fn has_kernel_pairs(s: &[u8], index: &[u16; RULE_INDEX], tgt: usize, m: Map)
     ensures { λ r. ⌜ ((target : Structure) → numbersOf target ≡ elementNumbers (now (s .entry)) (now (index .entry)) tgt → ImagesIn target (pairsIn (now (s .entry)) m)
         → r ≡ not (empty (kernelPairs (pairsIn (now (s .entry)) m) target))) ⌝ }
 {
-    let mut seen = [false; 64];
+    let mut seen = [false; FIELDS];
     let mut p: usize = 0;
     while p < m.pairs {
         let f = find_element(s, index, tgt, pair_image(s, m, p));
@@ -75,7 +76,7 @@ pub fn has_kernel_pairs(s: &[u8], index: &[u16; RULE_INDEX], tgt: usize, m: Map)
 }
 
 // Does the variable of a key differ in type from that of a later key of the same image?
-fn clashes_later(s: &[u8], m: Map, vars: &[u16; 64], types: &[u16], p: usize) -> bool
+fn clashes_later(s: &[u8], m: Map, vars: &[u16; FIELDS], types: &[u16], p: usize) -> bool
     requires { ⌜ MapIn (now s) m ⌝ }
     requires { ⌜ p < m .pairs ⌝ }
     requires { ⌜ Typed m (now vars) (length (now types)) ⌝ }
@@ -98,7 +99,7 @@ fn clashes_later(s: &[u8], m: Map, vars: &[u16; 64], types: &[u16], p: usize) ->
 }
 
 // 25: do two variables of a kernel pair differ in type?
-pub fn kernel_clash(s: &[u8], m: Map, vars: &[u16; 64], types: &[u16]) -> bool
+pub fn kernel_clash(s: &[u8], m: Map, vars: &[u16; FIELDS], types: &[u16]) -> bool
     requires { ⌜ MapIn (now s) m ⌝ }
     requires { ⌜ Typed m (now vars) (length (now types)) ⌝ }
     ensures { λ r. ⌜ ((sig : Signature) (table : List Variable) (source target : Side) → KeyVars source (pairsIn (now (s .entry)) m) (now (vars .entry))

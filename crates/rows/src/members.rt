@@ -19,7 +19,6 @@ use crate::elements::read_element;
 use crate::maps::Image;
 use crate::maps::Map;
 use crate::maps::image_of;
-use crate::table::COLUMNS;
 use crate::table::Images;
 use crate::table::Mapped;
 use crate::table::ROWS;
@@ -28,6 +27,7 @@ use crate::table::map_elements;
 use crate::table::same_elements;
 use rule::elements::element_count;
 use rule::ids::RULE_INDEX;
+use signature::ids::COLUMNS;
 
 // The image of an element's member row, into the table from a place on.
 fn map_member(s: &[u8], e: Element, m: Map, els: &mut [u16; TABLE], at: usize) -> Mapped

@@ -19,11 +19,11 @@ use records::fields::Field;
 use records::fields::num;
 use records::fields::read_field;
 use rule::ids::ElId;
+use rule::ids::FIELDS;
+use signature::ids::COLUMNS;
 
-// Rows of a letter in a structure, columns of a row, and the table's places for elements.
-pub const ROWS: usize = 64;
-
-pub const COLUMNS: usize = 8;
+// Rows of a letter in a structure, and the table's places for their elements.
+pub const ROWS: usize = FIELDS;
 
 pub const TABLE: usize = ROWS * COLUMNS;
 

@@ -30,6 +30,7 @@ use rows::maps::pair_image;
 use rule::elements::element_count;
 use rule::elements::element_number;
 use rule::ids::ElId;
+use rule::ids::FIELDS;
 use rule::ids::RULE_INDEX;
 use signature::ids::EQUALITY;
 
@@ -67,7 +68,7 @@ fn put_later(
     letter: u8,
     s: &[u8],
     m: Map,
-    vars: &[u16; 64],
+    vars: &[u16; FIELDS],
     types: &[u16],
     p: usize,
 ) -> usize
@@ -97,7 +98,7 @@ fn put_fiber(
     letter: u8,
     s: &[u8],
     m: Map,
-    vars: &[u16; 64],
+    vars: &[u16; FIELDS],
     types: &[u16],
     e: ElId,
 ) -> usize
@@ -127,7 +128,7 @@ fn put_kernel_pairs(
     index: &[u16; RULE_INDEX],
     tgt: usize,
     m: Map,
-    vars: &[u16; 64],
+    vars: &[u16; FIELDS],
     types: &[u16],
 ) -> usize
     requires { ⌜ from ≤ countLimit ⌝ }
@@ -156,7 +157,7 @@ pub fn put_equalities(
     index: &[u16; RULE_INDEX],
     src: usize,
     tgt: usize,
-    row: [u16; 64],
+    row: [u16; FIELDS],
     m: Map,
     types: &[u16],
 ) -> usize

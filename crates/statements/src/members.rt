@@ -19,6 +19,7 @@ use records::fields::wide;
 use rows::elements::read_element;
 use rows::order::sorted_members;
 use rule::elements::element_count;
+use rule::ids::FIELDS;
 use rule::ids::RULE_INDEX;
 use signature::ids::MEMBER;
 use signature::ids::TYPE_SET;
@@ -32,7 +33,7 @@ fn put_element(
     s: &[u8],
     index: &[u16; RULE_INDEX],
     k: usize,
-    row: &[u16; 64],
+    row: &[u16; FIELDS],
     i: usize,
 ) -> usize
     requires { ⌜ (from ≤ countLimit) × (i < countAt (now index) k) ⌝ }
@@ -70,7 +71,7 @@ pub fn put_members(
     s: &[u8],
     index: &[u16; RULE_INDEX],
     k: usize,
-    row: &[u16; 64],
+    row: &[u16; FIELDS],
     mask: u64,
 ) -> usize
     requires { ⌜ from ≤ countLimit ⌝ }
@@ -103,7 +104,7 @@ fn put_type_set(
     s: &[u8],
     index: &[u16; RULE_INDEX],
     k: usize,
-    row: &[u16; 64],
+    row: &[u16; FIELDS],
     i: usize,
 ) -> usize
     requires { ⌜ (from ≤ countLimit) × (i < countAt (now index) k) ⌝ }
@@ -125,7 +126,7 @@ pub fn put_type_sets(
     s: &[u8],
     index: &[u16; RULE_INDEX],
     k: usize,
-    row: &[u16; 64],
+    row: &[u16; FIELDS],
     mask: u64,
 ) -> usize
     requires { ⌜ from ≤ countLimit ⌝ }

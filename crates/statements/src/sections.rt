@@ -22,6 +22,7 @@ use records::fields::read_field;
 use rule::elements::Found;
 use rule::elements::find_element;
 use rule::ids::ElId;
+use rule::ids::FIELDS;
 use rule::ids::LETTERS;
 use rule::ids::RULE_INDEX;
 use rule::reader::bound;
@@ -41,7 +42,7 @@ pub fn vars_of(
     s: &[u8],
     index: &[u16; RULE_INDEX],
     k: usize,
-    row: &[u16; 64],
+    row: &[u16; FIELDS],
     start: usize,
     count: usize,
 ) -> [u16; COLUMNS]
@@ -72,7 +73,7 @@ fn put_row(
     s: &[u8],
     index: &[u16; RULE_INDEX],
     k: usize,
-    row: &[u16; 64],
+    row: &[u16; FIELDS],
     start: usize,
     count: usize,
 ) -> usize
@@ -108,7 +109,7 @@ fn put_section(
     s: &[u8],
     index: &[u16; RULE_INDEX],
     k: usize,
-    row: &[u16; 64],
+    row: &[u16; FIELDS],
     chosen: Chosen,
 ) -> usize
     requires { ⌜ (from ≤ countLimit) × Chooses chosen ⌝ }
@@ -149,7 +150,7 @@ pub fn put_rows(
     s: &[u8],
     index: &[u16; RULE_INDEX],
     k: usize,
-    row: &[u16; 64],
+    row: &[u16; FIELDS],
     chosen: Chosen,
 ) -> usize
     requires { ⌜ (from ≤ countLimit) × Chooses chosen ⌝ }

@@ -11,6 +11,7 @@ use crate::members::put_members;
 use crate::members::put_type_sets;
 use crate::sections::Chosen;
 use crate::sections::put_rows;
+use rule::ids::FIELDS;
 use rule::ids::PLACE_A;
 use rule::ids::PLACE_R;
 use rule::ids::RULE_INDEX;
@@ -26,7 +27,7 @@ pub fn put_flat_rel_apps(
     s: &[u8],
     index: &[u16; RULE_INDEX],
     k: usize,
-    row: &[u16; 64],
+    row: &[u16; FIELDS],
     masks: Masks,
 ) -> usize
     requires { ⌜ from ≤ countLimit ⌝ }
@@ -58,7 +59,7 @@ pub fn put_said(
     s: &[u8],
     index: &[u16; RULE_INDEX],
     k: usize,
-    row: [u16; 64],
+    row: [u16; FIELDS],
     masks: Masks,
 ) -> usize
     requires { ⌜ from ≤ countLimit ⌝ }
@@ -77,7 +78,7 @@ pub fn put_domains(
     s: &[u8],
     index: &[u16; RULE_INDEX],
     k: usize,
-    row: [u16; 64],
+    row: [u16; FIELDS],
     mask: u64,
 ) -> usize
     requires { ⌜ from ≤ countLimit ⌝ }

@@ -11,6 +11,7 @@ ghost use Rattle.naming.specs.Variables.{keptIn};
 ghost use Rattle.steps.specs.Elements.{FreeOf, News};
 use flags::with_flag;
 use rows::table::ROWS;
+use rule::ids::FIELDS;
 
 // The new elements of a target: none, one at a place, or more.
 pub enum New {
@@ -20,7 +21,7 @@ pub enum New {
 }
 
 // The elements of a numbered row that are no images and have no mark.
-pub fn free_els(target: [u16; 64], count: usize, first: u16, marks: [bool; ROWS]) -> u64
+pub fn free_els(target: [u16; FIELDS], count: usize, first: u16, marks: [bool; ROWS]) -> u64
     requires { ⌜ count ≤ fieldLimit ⌝ }
     ensures { λ r. ⌜ ((p q : ℕ → Bool) (els : List ℕ) → count ≡ length els → each given (keptIn first count target) ≡ each p els → take count marks ≡ each q els → FreeOf r p q els) ⌝ }
 {
@@ -38,7 +39,7 @@ pub fn free_els(target: [u16; 64], count: usize, first: u16, marks: [bool; ROWS]
 }
 
 // Which elements of a numbered row are new.
-pub fn new_elements(target: [u16; 64], count: usize, first: u16) -> New
+pub fn new_elements(target: [u16; FIELDS], count: usize, first: u16) -> New
     requires { ⌜ count ≤ fieldLimit ⌝ }
     ensures { λ r. ⌜ ((p : ℕ → Bool) (els : List ℕ) → count ≡ length els → each given (keptIn first count target) ≡ each p els → News r p els) ⌝ }
 {

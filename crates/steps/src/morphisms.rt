@@ -41,6 +41,7 @@ use rows::maps::Map;
 use rows::table::ROWS;
 use rule::elements::element_count;
 use rule::elements::element_number;
+use rule::ids::FIELDS;
 use rule::ids::LETTERS;
 use rule::ids::RULE_INDEX;
 use rule::reader::bound;
@@ -55,7 +56,7 @@ fn clashes(
     src: usize,
     tgt: usize,
     m: Map,
-    source: [u16; 64],
+    source: [u16; FIELDS],
     types: &[u16],
 ) -> bool
     requires { ⌜ Between (now s) (now index) src tgt m ⌝ }
@@ -78,7 +79,7 @@ fn new_masks(
     src: usize,
     tgt: usize,
     m: Map,
-    source: [u16; 64],
+    source: [u16; FIELDS],
     types: &[u16],
     marks: [bool; ROWS],
 ) -> Step
@@ -105,8 +106,8 @@ pub fn flatten_if_arbitrary(
     src: usize,
     tgt: usize,
     m: Map,
-    source: [u16; 64],
-    target: [u16; 64],
+    source: [u16; FIELDS],
+    target: [u16; FIELDS],
     first: u16,
     types: &[u16],
 ) -> Step
@@ -144,8 +145,8 @@ pub fn flatten_surj_then(
     src: usize,
     tgt: usize,
     m: Map,
-    source: [u16; 64],
-    target: [u16; 64],
+    source: [u16; FIELDS],
+    target: [u16; FIELDS],
     first: u16,
     types: &[u16],
 ) -> Step
@@ -171,7 +172,7 @@ fn yielding_step(
     s: &[u8],
     index: &[u16; RULE_INDEX],
     tgt: usize,
-    target: [u16; 64],
+    target: [u16; FIELDS],
     first: u16,
     i: usize,
 ) -> Step
@@ -210,8 +211,8 @@ pub fn flatten_non_surj_then(
     src: usize,
     tgt: usize,
     m: Map,
-    source: [u16; 64],
-    target: [u16; 64],
+    source: [u16; FIELDS],
+    target: [u16; FIELDS],
     first: u16,
 ) -> Step
     requires { ⌜ Reaches (signatureAt (now sig) (now arities) counts) (now s) (now index) src tgt m source target first ⌝ }
