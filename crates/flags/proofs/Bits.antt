@@ -1,13 +1,11 @@
 -- Binary digits of a number below a power of two, and of that number with the power added.
-use Prim.Native.Nat.{ℕ, zero, suc, _+_, _-_, _*_, _/_, _%_, _^_, _≤_, _<_}
+use Prim.Native.Nat.{ℕ, zero, suc, _+_, _*_, _/_, _%_, _^_, _≤_, _<_}
 use native.Mathlib.Omega.{arith}
 use native.Mathlib.Decide.{ℕ-discrete}
-use native.Mathlib.Nat.{pow-suc, pow-le-pow-right, div-eq-of-lt, add-mul-div-left, add-mul-mod-self-left, add-div-right, pow-zero, mul-one, mul-assoc, mul-comm, mod-eq-of-lt}
-use mathlib.Core.Path.{_≡_, refl, ap, sym, _∙_}
-use mathlib.Core.Bool.{Bool, true, false, _&&_}
-use mathlib.Core.List.{List}
-use lib.ListN.{replicate, getD, getD-replicate}
-use Rattle.flags.specs.Flags.{flagAt, FlagsOf, Packed, PackedLess}
+use native.Mathlib.Nat.{pow-suc, pow-le-pow-right, div-eq-of-lt, add-mul-div-left, add-mul-mod-self-left, add-div-right, pow-zero, mul-assoc, mul-comm, mod-eq-of-lt}
+use mathlib.Core.Path.{_≡_, _∙_}
+use mathlib.Core.Bool.{Bool, true, false}
+use Rattle.flags.specs.Flags.{flagAt, FlagsOf}
 
 pub pow-pos : (i : ℕ) → 0 < 2 ^ i
 pow-pos zero = rw pow-zero (omega arith)
@@ -41,6 +39,13 @@ module _ (mask i : ℕ) (small : mask < 2 ^ i) where
       below : (j : ℕ) → i ≤ j → mask < 2 ^ j
       below j h = let r : 2 ^ i ≤ 2 ^ j = pow-le-pow-right (omega arith) h in omega arith
 
+  -- Both are below the next power.
+  pub small-set : mask + 2 ^ i < 2 ^ (i + 1)
+  small-set = let r = pow-twice i (i + 1) (omega arith) in omega arith
+
+  pub small-clear : mask < 2 ^ (i + 1)
+  small-clear = let r = pow-twice i (i + 1) (omega arith) in omega arith
+
 -- A power of two below 64 fits into 64 bits.
 pub pow-fits : (i : ℕ) → i < 64 → 2 ^ i + 2 ^ i ≤ 2 ^ 64
 pow-fits i h = pow-twice i 64 h
@@ -52,7 +57,7 @@ flags-start test = record { small = pow-pos 0; same = λ i h. absurd (omega arit
 module _ {mask i : ℕ} {test : ℕ → Bool} (p : FlagsOf mask test i) where
   pub flags-set : test i ≡ true → FlagsOf (mask + 2 ^ i) test (i + 1)
   flags-set e = record {
-      small = let r = pow-twice i (i + 1) (omega arith) in let l = p .small in omega arith;
+      small = small-set mask i (p .small);
       same = λ j h. go j h (ℕ-discrete j i);
     }
     where
@@ -62,26 +67,13 @@ module _ {mask i : ℕ} {test : ℕ → Bool} (p : FlagsOf mask test i) where
 
   pub flags-clear : test i ≡ false → FlagsOf mask test (i + 1)
   flags-clear e = record {
-      small = let r = pow-twice i (i + 1) (omega arith) in let l = p .small in omega arith;
+      small = small-clear mask i (p .small);
       same = λ j h. go j h (ℕ-discrete j i);
     }
     where
       go : (j : ℕ) → j < i + 1 → Dec (j ≡ i) → flagAt mask j ≡ test j
       go j h (yes q) = rw (q, bit-above mask i (p .small) i (omega arith), e)
       go j h (no q) = p .same j (omega arith)
-
--- A row less one without flags is the row.
-and-true : (b : Bool) → (b && true) ≡ b
-and-true true = refl
-and-true false = refl
-
-pub all-packed : {mask count : ℕ} {row : List Bool} → count ≤ 64 → PackedLess mask row (replicate 64 false) count → Packed mask row count
-all-packed {row = row} l p = record {
-  flags = record {
-    small = p .flags .small;
-    same = λ i h. p .flags .same i h ∙ rw (getD-replicate 64 i false false (omega arith), and-true (getD row i false));
-  };
-}
 
 -- One shifted by a place of 64.
 pub shift-is : (i : ℕ) → i < 64 → 1 * 2 ^ i % 18446744073709551616 ≡ 2 ^ i

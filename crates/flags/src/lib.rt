@@ -1,8 +1,7 @@
 // Flags of up to 64 places in one number: a table of them for 32 structures is 256 bytes, not 2,048.
 ghost use mathlib.Core.Path.{_≡_};
-ghost use Prim.Native.Nat.{ℕ, _+_, _^_, _≤_, _<_};
-ghost use lib.ListN.{length};
-ghost use Rattle.flags.specs.Flags.{flagAt, Packed, PackedLess};
+ghost use Prim.Native.Nat.{_+_, _^_, _≤_, _<_};
+ghost use Rattle.flags.specs.Flags.{flagAt, PackedLess};
 
 // Is the flag of a place set?
 pub fn flag(mask: u64, i: usize) -> bool
@@ -36,12 +35,4 @@ pub fn packed_less(row: [bool; 64], others: [bool; 64], count: usize) -> u64
         i += 1;
     }
     mask
-}
-
-// All flags of the first places.
-pub fn packed(row: [bool; 64], count: usize) -> u64
-    requires { ⌜ count ≤ 64 ⌝ }
-    ensures { λ r. ⌜ Packed r row count ⌝ }
-{
-    packed_less(row, [false; 64], count)
 }

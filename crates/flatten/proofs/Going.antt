@@ -111,25 +111,25 @@ module _ {sig : Signature} {s index types : List ℕ} {tb : Tables} {next t u nu
   unfolding rowAt
   given-read = source-given o
 
-module _ {sig : Signature} {s index types : List ℕ} {tb : Tables} {next t u number : ℕ} {m : Map} {grown : List (List ℕ)}
+module _ {sig : Signature} {s index types : List ℕ} {tb : Tables} {next t u number : ℕ} {m : Map} {source target : List ℕ}
     (o : Walkable sig s index tb types next t u number) (p : MapAt s u t m)
-    (a : grown ≡ set (tb .vars) t (rowOf (numbered next (takenOver s (getD (tb .vars) u []) u t m)))) where
+    (b : source ≡ getD (tb .vars) u []) (a : target ≡ rowOf (numbered next (takenOver s source u t m))) where
   abbrev kind : MorphismKind
   kind = o .met .kind
 
-  -- The rows that the code reads: the source, which is not the target, has kept its own.
-  source-row : getD grown u [] ≡ rowAt tb u
+  -- The rows that the code has.
+  source-row : source ≡ rowAt tb u
   unfolding rowAt
-  source-row = rw a (getD-set-other (tb .vars) t u _ [] (apart o))
+  source-row = b
 
-  target-row : getD grown t [] ≡ row o p
+  target-row : target ≡ row o p
   unfolding rowAt
-  target-row = let i = o .met .target-in in let f = o .ground .few in row-read (tb .vars) _ a (o .going .walking .ties .vars-long) (omega arith)
+  target-row = a ∙ rw b
 
-  pub typed-read : GivenOut (structureIn s u) (getD grown u []) (length types)
+  pub typed-read : GivenOut (structureIn s u) source (length types)
   typed-read = let l = o .going .walking .types-long in let r = room o in rw source-row (given-more (omega arith) (source-given o))
 
-  pub reaches : Reaches sig s index u t m (getD grown u []) (getD grown t []) next
+  pub reaches : Reaches sig s index u t m source target next
   unfolding rowAt
   reaches = rw (source-row, target-row) (record {
     source-at = o .ground .sounds u (o .met .source-in);
@@ -143,7 +143,7 @@ module _ {sig : Signature} {s index types : List ℕ} {tb : Tables} {next t u nu
 
   -- What `flatten_map` answered.
   abbrev Answered : Step → Type 0
-  Answered r = (table : List Variable) (k : MorphismKind) → TypesOf table types → kindIn number ≡ some k → Does sig table s u t m (getD grown u []) (getD grown t []) k r
+  Answered r = (table : List Variable) (k : MorphismKind) → TypesOf table types → kindIn number ≡ some k → Does sig table s u t m source target k r
 
   does : {r : Step} → Answered r → Does sig (o .going .state .variables) s u t m (rowAt tb u) (row o p) kind r
   does d = rw (source-row, target-row) at (d _ _ (o .going .walking .types-are) (o .met .said))
@@ -155,15 +155,15 @@ module _ {sig : Signature} {s index types : List ℕ} {tb : Tables} {next t u nu
       let k-is : k ≡ n = f ∙ rw e in
       record { is = rw k-is (stop (o .going) (o .met) (map-refused o p (d′ .is))) }
 
-  fresh-is : {more count : ℕ} → more ≡ fresh (keptIn next count (getD grown t [])) → count ≡ countAt index t → next + more ≡ next + fresh (taken o p)
+  fresh-is : {more count : ℕ} → more ≡ fresh (keptIn next count target) → count ≡ countAt index t → next + more ≡ next + fresh (taken o p)
   fresh-is e c = ap (λ (x : ℕ). next + x) (e ∙ rw (target-row, c, ← (elements-are (target-laid o))) (ap fresh (kept-row (below o p) (long o p))))
 
-  pub went-on : {r : Step} {masks : Masks} {sources′ types′ : List ℕ} {masks′ : List (List ℕ)} {more count next′ : ℕ} → Answered r → r ≡ step.Adds masks
-      → more ≡ fresh (keptIn next count (getD grown t [])) → count ≡ countAt index t → types′ ≡ sets types next (typesOf (newIn (structureIn s t) next (getD grown t [])))
-      → sources′ ≡ set (tb .sources) t u → masks′ ≡ set (tb .masks) t (flags masks) → next′ ≡ next + more
+  pub went-on : {r : Step} {masks : Masks} {sources′ types′ : List ℕ} {masks′ grown : List (List ℕ)} {more count next′ : ℕ} → Answered r → r ≡ step.Adds masks
+      → more ≡ fresh (keptIn next count target) → count ≡ countAt index t → types′ ≡ sets types next (typesOf (newIn (structureIn s t) next target))
+      → sources′ ≡ set (tb .sources) t u → masks′ ≡ set (tb .masks) t (flags masks) → next′ ≡ next + more → grown ≡ set (tb .vars) t target
       → Went On sig s (tables sources′ masks′ grown) types′ next′ t u
   unfolding rowAt
-  went-on {masks = masks} d e f c y b q n =
+  went-on {masks = masks} d e f c y x q n v =
       let d′ : Does sig (o .going .state .variables) s u t m (rowAt tb u) (row o p) kind (step.Adds masks) = rw e at (does d) in
       let w = stepped o p (flags masks) (fresh-is f c) (rw target-row at y) in
-      record { is = rw (a, b, q, n) (go-on (o .going) (o .met) (map-accepted o p (flags masks) (d′ .is .0) (d′ .is .1 .0) (d′ .is .1 .1)) w) }
+      record { is = rw (v, target-row, x, q, n) (go-on (o .going) (o .met) (map-accepted o p (flags masks) (d′ .is .0) (d′ .is .1 .0) (d′ .is .1 .1)) w) }

@@ -15,13 +15,14 @@ use Rattle.definition.specs.Signature.{Signature}
 use Rattle.definition.specs.Names.{numbersOf}
 use Rattle.definition.specs.Walk.{pairsBetween, unmappedAuxiliary, unmappedKind, structureAt}
 use Rattle.theory.proofs.Lists.{length-each}
+use Rattle.theory.proofs.Sound.{sound-signature}
 use Rattle.signature.specs.Index.{signatureAt}
 use Rattle.signature.specs.declared.ids.Counts.{Counts}
 use Rattle.rule.specs.Lookup.{Ready, ruleAt}
 use Rattle.rule.proofs.Saying.{structures-are}
 use Rattle.records.specs.Places.{Run}
 use Rattle.rows.proofs.Accepted.{small-arities}
-use Rattle.naming.specs.Structures.{structureIn, Laid}
+use Rattle.naming.specs.Structures.{structureIn, Laid, ByteTypes}
 use Rattle.naming.proofs.Opening.{headed}
 use Rattle.statements.specs.Structures.{SoundAt}
 use Rattle.statements.proofs.Structures.{sound-at}
@@ -69,7 +70,12 @@ module _ {sig arities s index : List ℕ} {counts : Counts} {n : ℕ} (w : Reada
     keyed = keyed;
     once = kinds-once ready;
     headed = headed (signatureAt sig arities counts) s (w .rule-read);
+    types-few = sound-signature sig (w .signature-read) .types-few;
   }
+
+-- A type fits into a byte.
+pub byte-types : {sig : Signature} {s index : List ℕ} → Ground sig s index → (k : ℕ) → k < length (ruleAt s .structures) → ByteTypes (structureIn s k)
+byte-types gr k h = record { small = λ e m. let t = gr .sounds k h .sound .elements-sound e m .type-in in let f = gr .types-few in omega arith }
 
 -- The rows of a sound structure are few.
 rows-few : {s : List ℕ} {from end : ℕ} {fs gs : List Field} → Run s from end fs → Run s from end gs → length gs ≤ fieldLimit → length fs ≤ fieldLimit

@@ -18,6 +18,7 @@ use Rattle.definition.specs.Names.{numbered}
 use Rattle.definition.specs.Walk.{State, walkFrom, initialState, nothingTaken, walkOf, unmappedAuxiliary, unmappedKind, completed}
 use Rattle.theory.proofs.Theorems.{demand-3}
 use Rattle.records.specs.Buffer.{Put}
+use Rattle.records.specs.Places.{stretch}
 use Rattle.signature.specs.Index.{signatureAt}
 use Rattle.signature.specs.declared.ids.Counts.{Counts}
 use Rattle.rule.specs.Lookup.{ruleAt}
@@ -43,31 +44,30 @@ use Rattle.flatten.specs.declared.entry.Flattened.the-variants.{Written,
 use Rattle.flatten.specs.declared.walk.Walked.{Walked}
 use Rattle.flatten.specs.declared.walk.Walked.the-variants as walked
 
--- The bytes were measured, and the buffer is as it was.
-module _ {none o p : List ℕ} {m : ℕ} (h : Put none o p 0 m) {out measure : List ℕ} (same : measure ≡ out) where
-  refuse-31 : fitted (length out) p ≡ refused 31 → Writes (Refused 31) out measure (fitted (length out) p)
-  refuse-31 e = record { answer = sym e; fits = omega arith; rest = same }
+-- The bytes were measured in another buffer.
+exact : {none o p : List ℕ} {m : ℕ} → Put none o p 0 m → m ≤ 65535 → length p ≡ m
+exact h l = omega (arith, h .size)
 
-  pub over : 65535 < m → Writes (Refused 31) out measure (fitted (length out) p)
+module _ {none o p : List ℕ} {m : ℕ} (h : Put none o p 0 m) {out : List ℕ} where
+  refuse-31 : fitted (length out) p ≡ refused 31 → Writes (Refused 31) out out (fitted (length out) p)
+  refuse-31 e = record { answer = sym e; fits = omega arith; rest = refl }
+
+  pub over : 65535 < m → Writes (Refused 31) out out (fitted (length out) p)
   unfolding fitted
   over l = let k : min (length out) 65535 < length p = omega (arith, h .size) in refuse-31 (rw (lt-ltb _ _ k))
 
   module _ (l : m ≤ 65535) where
-    exact : length p ≡ m
-    exact = omega (arith, h .size)
-
-    pub no-room : length out < m → Writes (Refused 31) out measure (fitted (length out) p)
+    pub no-room : length out < m → Writes (Refused 31) out out (fitted (length out) p)
     unfolding fitted
     no-room r =
-        let e : length p ≡ m = exact in
+        let e : length p ≡ m = exact h l in
         let q : min (length out) 65535 < length p = omega arith in refuse-31 (rw (lt-ltb _ _ q))
 
-    pub wrote-all : {fin : List ℕ} {k : ℕ} → m ≤ length out → Put measure fin p 0 k → Writes (Written m) out fin (fitted (length out) p)
+    pub wrote-all : {fin : List ℕ} {k : ℕ} → m ≤ length out → Put out fin p 0 k → Writes (Written m) out fin (fitted (length out) p)
     unfolding fitted
     wrote-all {fin} {k} r w =
-        let e : length p ≡ m = exact in
-        let v : Put out fin p 0 k = rw same at w in
-        let f : fin ≡ p ++ drop m out = v .same (omega arith) (omega arith) ∙ rw (zero-add, e) in
+        let e : length p ≡ m = exact h l in
+        let f : fin ≡ p ++ drop m out = w .same (omega arith) (omega arith) ∙ rw (zero-add, e) in
         let q : length p ≤ min (length out) 65535 = omega arith in
         let t : take m fin ≡ p = rw f (take-at p (drop m out) m e) in
         record {
@@ -75,6 +75,16 @@ module _ {none o p : List ℕ} {m : ℕ} (h : Put none o p 0 m) {out measure : L
           fits = rw f (rw (length-append, length-drop) (omega arith));
           rest = rw f (drop-at p (drop m out) m e);
         }
+
+    -- They all fitted there, and were copied.
+    pub copied-all : {fin : List ℕ} {k : ℕ} → m ≤ length out → m ≤ length none → Put out fin (stretch o 0 m) 0 k → Writes (Written m) out fin (fitted (length out) p)
+    unfolding stretch
+    copied-all {fin} {k} r i w =
+        let e : length p ≡ m = exact h l in
+        let f : o ≡ p ++ drop m none = h .same (omega arith) (omega arith) ∙ rw (zero-add, e) in
+        let t : take m o ≡ p = rw f (take-at p (drop m none) m e) in
+        let v : Put out fin p 0 k = rw t at w in
+        wrote-all r v
 
 -- A refusal before anything is written.
 pub refused-at-once : (out : List ℕ) {k : ℕ} {x : Outcome (List ℕ)} → x ≡ refused k → Writes (Refused k) out out x

@@ -17,6 +17,7 @@ use crate::walk::Walked;
 use crate::walk::flatten_morphisms;
 use kinds::sources::unmapped_auxiliary;
 use kinds::sources::unmapped_kind;
+use kinds::table::NO_KIND;
 use kinds::table::kind_table;
 use naming::assign::initial_el_vars;
 use naming::types::type_variables;
@@ -24,6 +25,7 @@ use naming::variables::NO_VAR;
 use naming::variables::VARIABLES;
 use reading::RuleReading;
 use reading::read_rule_into;
+use records::write::put_bytes;
 use rule::ids::FIELDS;
 use rule::ids::RULE_INDEX;
 use rule::ids::STRUCTURES;
@@ -39,6 +41,10 @@ pub enum Flattened {
     Refused(u8),
 }
 
+// A group of at most so many bytes is put together in a buffer of flatten's own, which measures it as well, and copied from there:
+// most groups are small, and are gone along only once.
+const SMALL_GROUP: usize = 512;
+
 // The group, measured first, then written where it fits.
 fn write_group(
     out: &mut [u8],
@@ -49,7 +55,7 @@ fn write_group(
     sources: &[u8; STRUCTURES],
     masks: &[[u64; SORTS]; STRUCTURES],
     vars: &[[u16; FIELDS]; STRUCTURES],
-    types: &[u16; VARIABLES],
+    types: &[u8; VARIABLES],
 ) -> Flattened
     requires { ⌜ n ≡ length (ruleAt (now s) .structures) ⌝ }
     requires { ⌜ Ended (now s) (now index) (now types) (now kinds) (tables (now sources) (now masks) (now vars)) ⌝ }
@@ -57,12 +63,17 @@ fn write_group(
         → Writes r (now (out .entry)) (now (out .exit)) (fitted (length (now (out .entry))) (groupBytesOf (groupLeft (ruleAt (now (s .entry))) (e .state))))) ⌝ }
 {
     let room = out.len();
-    let size = put_group(&mut out[..0], s, index, n, kinds, sources, masks, vars, types);
+    let mut own = [0u8; SMALL_GROUP];
+    let size = put_group(&mut own, s, index, n, kinds, sources, masks, vars, types);
     if ANSWER < size {
         return Flattened::Refused(31);
     }
     if room < size {
         return Flattened::Refused(31);
+    }
+    if size <= SMALL_GROUP {
+        put_bytes(out, 0, &own, 0, size);
+        return Flattened::Written(size);
     }
     put_group(out, s, index, n, kinds, sources, masks, vars, types);
     Flattened::Written(size)
@@ -97,14 +108,15 @@ pub fn flatten_rule(
     if unmapped_kind(s, index) {
         return Flattened::Refused(22);
     }
-    let kinds = kind_table(s, index);
+    let mut kinds = [[NO_KIND; STRUCTURES]; STRUCTURES];
+    kind_table(s, index, &mut kinds);
     let mut vars = [[NO_VAR; FIELDS]; STRUCTURES];
     vars[0] = initial_el_vars(s, index);
     let mut sources = [UNREACHED; STRUCTURES];
     sources[0] = 0;
     let mut masks = [[0u64; SORTS]; STRUCTURES];
     masks[0] = initial_matching_stmts();
-    let mut types = [0u16; VARIABLES];
+    let mut types = [0u8; VARIABLES];
     type_variables(&mut types, s, index, 0, vars[0], 0);
     let w = flatten_morphisms(
         sig, arities, counts, s, index, n, &kinds, &mut vars, &mut sources, &mut masks, &mut types,

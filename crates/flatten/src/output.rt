@@ -64,7 +64,7 @@ fn put_conclusion(
     sources: &[u8; STRUCTURES],
     masks: &[[u64; SORTS]; STRUCTURES],
     vars: &[[u16; FIELDS]; STRUCTURES],
-    types: &[u16; VARIABLES],
+    types: &[u8; VARIABLES],
     t: usize,
 ) -> usize
     requires { ⌜ from ≤ countLimit ⌝ }
@@ -106,7 +106,7 @@ fn put_rule(
     sources: &[u8; STRUCTURES],
     masks: &[[u64; SORTS]; STRUCTURES],
     vars: &[[u16; FIELDS]; STRUCTURES],
-    types: &[u16; VARIABLES],
+    types: &[u8; VARIABLES],
     t: usize,
     count: u16,
 ) -> usize
@@ -137,7 +137,7 @@ fn put_rules(
     sources: &[u8; STRUCTURES],
     masks: &[[u64; SORTS]; STRUCTURES],
     vars: &[[u16; FIELDS]; STRUCTURES],
-    types: &[u16; VARIABLES],
+    types: &[u8; VARIABLES],
 ) -> usize
     requires { ⌜ (from ≤ countLimit) × (n ≡ length (ruleAt (now s) .structures)) ⌝ }
     requires { ⌜ Ended (now s) (now index) (now types) (now kinds) (tables (now sources) (now masks) (now vars)) ⌝ }
@@ -170,7 +170,7 @@ pub fn put_group(
     sources: &[u8; STRUCTURES],
     masks: &[[u64; SORTS]; STRUCTURES],
     vars: &[[u16; FIELDS]; STRUCTURES],
-    types: &[u16; VARIABLES],
+    types: &[u8; VARIABLES],
 ) -> usize
     requires { ⌜ n ≡ length (ruleAt (now s) .structures) ⌝ }
     requires { ⌜ Ended (now s) (now index) (now types) (now kinds) (tables (now sources) (now masks) (now vars)) ⌝ }

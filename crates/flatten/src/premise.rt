@@ -50,7 +50,7 @@ pub fn put_both(
     sources: &[u8; STRUCTURES],
     masks: &[[u64; SORTS]; STRUCTURES],
     vars: &[[u16; FIELDS]; STRUCTURES],
-    types: &[u16; VARIABLES],
+    types: &[u8; VARIABLES],
     t: usize,
 ) -> usize
     requires { ⌜ (from ≤ countLimit) × (found (pairsBetween (ruleAt (now s) .maps) (getD (now sources) t 0) t) ≡ true) ⌝ }
@@ -77,7 +77,7 @@ fn put_own(
     sources: &[u8; STRUCTURES],
     masks: &[[u64; SORTS]; STRUCTURES],
     vars: &[[u16; FIELDS]; STRUCTURES],
-    types: &[u16; VARIABLES],
+    types: &[u8; VARIABLES],
     t: usize,
 ) -> usize
     requires { ⌜ from ≤ countLimit ⌝ }
@@ -107,7 +107,7 @@ pub fn put_premise(
     sources: &[u8; STRUCTURES],
     masks: &[[u64; SORTS]; STRUCTURES],
     vars: &[[u16; FIELDS]; STRUCTURES],
-    types: &[u16; VARIABLES],
+    types: &[u8; VARIABLES],
     t: usize,
 ) -> usize
     requires { ⌜ from ≤ countLimit ⌝ }

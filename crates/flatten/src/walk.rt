@@ -75,7 +75,7 @@ fn flatten_map(
     source: [u16; FIELDS],
     target: [u16; FIELDS],
     first: u16,
-    types: &[u16; VARIABLES],
+    types: &[u8; VARIABLES],
 ) -> Step
     requires { ⌜ Indexed (now sig) (now arities) counts ⌝ }
     requires { ⌜ Reaches (signatureAt (now sig) (now arities) counts) (now s) (now index) u t m source target first ⌝ }
@@ -116,7 +116,7 @@ fn walk_map(
     vars: &mut [[u16; FIELDS]; STRUCTURES],
     sources: &mut [u8; STRUCTURES],
     masks: &mut [[u64; SORTS]; STRUCTURES],
-    types: &mut [u16; VARIABLES],
+    types: &mut [u8; VARIABLES],
     next: &mut u16,
 ) -> Walked
     requires { ⌜ (u < structureLimit) × (t < structureLimit) ⌝ }
@@ -132,13 +132,14 @@ fn walk_map(
     };
     let m = map_between(s, index, u, t);
     let first = *next;
-    *vars = assign_el_vars(*vars, s, index, u, t, m, first);
-    let target = vars[t];
-    let r = flatten_map(sig, arities, counts, s, index, kind, u, t, m, vars[u], target, first, types);
+    let source = vars[u];
+    let target = assign_el_vars(source, s, index, u, t, m, first);
+    let r = flatten_map(sig, arities, counts, s, index, kind, u, t, m, source, target, first, types);
     let Step::Adds(added) = r else {
         return Walked::Refused(number(r));
     };
     type_variables(types, s, index, t, target, first);
+    vars[t] = target;
     sources[t] = u as u8;
     masks[t] = [added.preds, added.funcs, added.members, added.free];
     *next = first + fresh(target, element_count(index, t), first);
@@ -157,7 +158,7 @@ pub fn flatten_morphisms(
     vars: &mut [[u16; FIELDS]; STRUCTURES],
     sources: &mut [u8; STRUCTURES],
     masks: &mut [[u64; SORTS]; STRUCTURES],
-    types: &mut [u16; VARIABLES],
+    types: &mut [u8; VARIABLES],
 ) -> Walked
     requires { ⌜ Indexed (now sig) (now arities) counts × Ground (signatureAt (now sig) (now arities) counts) (now s) (now index) ⌝ }
     requires { ⌜ (n ≡ length (ruleAt (now s) .structures)) × Tabled (now kinds) (completed (ruleAt (now s) .maps) (ruleAt (now s) .kinds) (ruleAt (now s) .auxiliaries)) ⌝ }

@@ -31,6 +31,7 @@ pub kind-none : (n : ℕ) → 4 ≤ n → kindIn n ≡ none
 unfolding kindIn
 kind-none n h = List·getD-eq-default (some If ∷ some SurjThen ∷ some NonSurjThen ∷ some Noop ∷ []) none h
 
+-- The table that `kind_table` is lent: no pair has a kind.
 abbrev pub emptyTable : List (List ℕ)
 emptyTable = replicate structureLimit (replicate {A = ℕ} structureLimit 4)
 

@@ -1,4 +1,5 @@
 // The kinds of all pairs of structures: those of K, then those that the X add.
+ghost use mathlib.Core.List.{[]};
 ghost use mathlib.Core.Option.{some};
 ghost use mathlib.Core.Path.{_≡_};
 ghost use Prim.Native.Nat.{_<_};
@@ -79,13 +80,13 @@ fn add(table: &mut [[u8; STRUCTURES]; STRUCTURES], u: usize, t: usize, kind: u8)
     table[u][t] = kind;
 }
 
-// The kinds of K.
-fn stored(s: &[u8], index: &[u16; RULE_INDEX]) -> [[u8; STRUCTURES]; STRUCTURES]
+// The kinds of K, into a table without any.
+fn stored(s: &[u8], index: &[u16; RULE_INDEX], table: &mut [[u8; STRUCTURES]; STRUCTURES])
     requires { ⌜ Ready (now s) (now index) ⌝ }
-    ensures { λ r. ⌜ Tabled r (ruleAt (now (s .entry)) .kinds) ⌝ }
+    requires { ⌜ Tabled (now table) [] ⌝ }
+    ensures { λ r. ⌜ Tabled (now (table .exit)) (ruleAt (now (s .entry)) .kinds) ⌝ }
 {
     let kinds = section_behind(s, index, PLACE_K);
-    let mut table = [[NO_KIND; STRUCTURES]; STRUCTURES];
     let mut at = kinds.from;
     while at < kinds.to {
         let f = read_field(s, at);
@@ -96,18 +97,17 @@ fn stored(s: &[u8], index: &[u16; RULE_INDEX]) -> [[u8; STRUCTURES]; STRUCTURES]
             next,
         } = f
         else {
-            return table;
+            return;
         };
         let kind = kind_number(kind_at(s, start, len));
         add(
-            &mut table,
+            table,
             source_at(s, start, len),
             target_at(s, start, len),
             kind,
         );
         at = next;
     }
-    table
 }
 
 // Behind the kinds of a table those that the X add, in order.
@@ -136,12 +136,13 @@ fn complete(s: &[u8], index: &[u16; RULE_INDEX], table: &mut [[u8; STRUCTURES]; 
     }
 }
 
-// The kind of each pair of structures, by its source, then its target.
-pub fn kind_table(s: &[u8], index: &[u16; RULE_INDEX]) -> [[u8; STRUCTURES]; STRUCTURES]
+// The kind of each pair of structures, by its source, then its target, into a table without kinds. It is the caller's, so that none
+// is copied.
+pub fn kind_table(s: &[u8], index: &[u16; RULE_INDEX], table: &mut [[u8; STRUCTURES]; STRUCTURES])
     requires { ⌜ Ready (now s) (now index) ⌝ }
-    ensures { λ r. ⌜ Tabled r (completed (ruleAt (now (s .entry)) .maps) (ruleAt (now (s .entry)) .kinds) (ruleAt (now (s .entry)) .auxiliaries)) ⌝ }
+    requires { ⌜ Tabled (now table) [] ⌝ }
+    ensures { λ r. ⌜ Tabled (now (table .exit)) (completed (ruleAt (now (s .entry)) .maps) (ruleAt (now (s .entry)) .kinds) (ruleAt (now (s .entry)) .auxiliaries)) ⌝ }
 {
-    let mut table = stored(s, index);
-    complete(s, index, &mut table);
-    table
+    stored(s, index, table);
+    complete(s, index, table);
 }

@@ -9,13 +9,14 @@ use Rattle.definition.specs.Limits.{fieldLimit}
 use Rattle.definition.specs.Rule.{Structure, Element, elementOf}
 use Rattle.definition.specs.Names.{numbersOf}
 use Rattle.theory.proofs.Lists.{length-each}
+use Rattle.theory.proofs.WalkLaws.{mem-at}
 use Rattle.rule.specs.Elements.{countAt, elementFields, elementNumbers, Elements, Finds}
 use Rattle.rule.specs.declared.elements.Found.the-variants.{At}
 use Rattle.rule.proofs.Finding.{numbers-length, numbers-get}
 use Rattle.rows.specs.Elements.{elementIn, elementsIn, elementFrom}
 use Rattle.rows.specs.declared.elements.Element as read
 use Rattle.rows.proofs.ElementLaws.{noElement, elements-many, elements-get}
-use Rattle.naming.specs.Structures.{structureIn, Laid}
+use Rattle.naming.specs.Structures.{structureIn, Laid, ByteTypes}
 use Rattle.naming.proofs.Choices.{each-each}
 
 -- Numbers that ascend.
@@ -56,6 +57,12 @@ module _ {s index : List ℕ} {k : ℕ} (l : Laid s index k) where
 
   pub type-read : (r : read.Element) (i : ℕ) → i < countAt index k → elementFrom s r ≡ elementIn s index k i → r .ty .0 ≡ getD (structureIn s k .elements) i noElement .type
   type-read r i h e = ap (λ (x : Element). x .type) (e ∙ sym (element-get i h))
+
+  -- A type that was read is a byte.
+  pub type-byte : ByteTypes (structureIn s k) → (r : read.Element) (i : ℕ) → i < countAt index k → elementFrom s r ≡ elementIn s index k i → r .ty .0 < 256
+  type-byte b r i h e =
+      let n : i < length (structureIn s k .elements) = rw elements-are h in
+      rw (type-read r i h e) (b .small _ (mem-at (structureIn s k .elements) i noElement n))
 
   -- A loop along the elements.
   module _ {count i : ℕ} (e : count ≡ countAt index k) where

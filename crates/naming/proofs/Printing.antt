@@ -5,15 +5,16 @@ use mathlib.Core.List.{List, [], _∷_, _++_}
 use mathlib.Core.Path.{_≡_, refl, sym}
 use lib.ListN.{length, getD, length-append}
 use Rattle.definition.specs.Base.{pick, each, joined, empty}
-use Rattle.definition.specs.Letters.{letterW, underscore}
+use Rattle.definition.specs.Letters.{letterW}
 use Rattle.definition.specs.Limits.{fieldLimit, nameBytes, numberDigits}
 use Rattle.definition.specs.Rule.{Structure, Element}
-use Rattle.definition.specs.Names.{decimal, baseName, newVariable}
+use Rattle.definition.specs.Names.{el, decimal, baseName, newVariable}
 use Rattle.definition.specs.Walk.{groupName, anonymousRule}
 use Rattle.definition.specs.Writer.{twoBytes, variableField, fieldBytes, recordBytes}
 use Rattle.records.specs.Places.{twoAt, stretch}
-use Rattle.records.specs.Buffer.{Put, headBytes}
+use Rattle.records.specs.Buffer.{Put, capped, headBytes}
 use Rattle.records.proofs.Numbers.{length-stretch}
+use Rattle.records.proofs.Tail.{counted}
 use Rattle.theory.proofs.NameLaws.{digits-few}
 use Rattle.rule.specs.Elements.{countAt}
 use Rattle.rows.specs.Elements.{elementIn}
@@ -26,21 +27,24 @@ use Rattle.naming.specs.declared.bases.Base.the-variants.{Name, El}
 use Rattle.naming.proofs.Placed.{row-holds, element-get, below-count, at-count, past-count}
 use Rattle.naming.proofs.News.{newFrom, new-all, new-on, new-pass, new-end}
 
--- What a short part measures.
-pub measure : {out₀ out p : List ℕ} {r : ℕ} → Put out₀ out p 0 r → length p ≤ nameBytes + 1 + numberDigits → (r ≡ length p) × (r < 256)
-measure w h = let z = w .size in (omega arith, omega arith)
+-- How many bytes a base has that fits in a record.
+pub named-base : {base : Base} {start len : ℕ} → base ≡ Name start len → (s : List ℕ) → Fits base (length s) → (len ≡ length (baseBytes s base)) × (len ≤ nameBytes)
+named-base {base} {start} {len} e s f = let g : Fits (Name start len) (length s) = rw e at f in rw e (sym (length-stretch s start len (g .0)), g .1)
 
--- Names are short.
-pub base-short : (s : List ℕ) (base : Base) (number : ℕ) → Fits base (length s) → length (baseBytes s base ++ decimal number) ≤ nameBytes + 1 + numberDigits
-base-short s (Name start len) number f =
-    let l : length (stretch s start len) ≡ len = length-stretch s start len (f .0) in rw length-append (omega (arith, digits-few numberDigits number, f .1))
-base-short s El number f = rw length-append (omega (arith, digits-few numberDigits number))
+pub unnamed-base : {base : Base} → base ≡ El → (s : List ℕ) → (length el ≡ length (baseBytes s base)) × (length el ≤ nameBytes)
+unnamed-base e s = rw e (refl, omega arith)
 
 -- The field of a new variable.
 pub variable-parts : (s : List ℕ) (type : ℕ) (base : Base) (number : ℕ) {len : ℕ} → len ≡ length (baseBytes s base ++ decimal number)
     → (headBytes letterW (2 + len) ++ twoBytes type) ++ (baseBytes s base ++ decimal number) ≡ variableBytes s type base number
 unfolding variableBytes fieldBytes variableField
 variable-parts s type base number e = let n : 2 + length (baseBytes s base ++ decimal number) ≡ suc (suc (length (baseBytes s base ++ decimal number))) = omega arith in rw (e, n)
+
+-- Nothing of it fits: it is counted by its name's length.
+pub variable-counted : (s : List ℕ) (type : ℕ) (base : Base) (number : ℕ) (out : List ℕ) {at len r : ℕ} → len ≡ length (baseBytes s base ++ decimal number)
+    → r ≡ capped (at + (5 + len)) → length out ≤ at → Put out out (variableBytes s type base number) at r
+unfolding variableBytes fieldBytes variableField
+variable-counted s type base number out e z h = counted out _ _ (omega arith) (omega arith)
 
 pub variable-bytes : (s : List ℕ) (k number : ℕ) (base : Base) (e : Element) {type n : ℕ} → baseBytes s base ≡ baseName (structureIn s k) n → n ≡ e .number → type ≡ e .type
     → variableBytes s type base number ≡ fieldBytes (variableField (newVariable (structureIn s k) number e))
@@ -84,6 +88,13 @@ module _ {s : List ℕ} (h : Headed s) where
       go [] l = absurd (n (sym l))
       go (b ∷ bs) l = refl
 
+  -- How many bytes it has.
+  pub unnamed-length : twoAt s 1 - 2 ≡ 0 → length (groupName (ruleAt s)) ≡ length anonymousRule + length (decimal (twoAt s 3))
+  unnamed-length e = rw (group-unnamed e, length-append)
+
+  pub named-length : (twoAt s 1 - 2 ≡ 0 → ⊥) → length (groupName (ruleAt s)) ≡ twoAt s 1 - 2
+  named-length n = rw (group-named n) (length-stretch s 5 (twoAt s 1 - 2) (let w = h .inside in omega arith))
+
   pub group-short : length (groupName (ruleAt s)) ≤ nameBytes
   unfolding groupName
   group-short = rw (h .name) (go (stretch s 5 (twoAt s 1 - 2)) (length-stretch s 5 (twoAt s 1 - 2) (let w = h .inside in omega arith)))
@@ -91,6 +102,3 @@ module _ {s : List ℕ} (h : Headed s) where
       go : (name : List ℕ) → length name ≡ twoAt s 1 - 2 → length (pick (empty name) (anonymousRule ++ decimal (ruleAt s .index)) name) ≤ nameBytes
       go [] l = rw length-append (omega (arith, digits-few numberDigits (ruleAt s .index)))
       go (b ∷ bs) l = omega (arith, h .sized .1)
-
-  pub rule-short : (count : ℕ) → length (groupName (ruleAt s) ++ (underscore ∷ decimal count)) ≤ nameBytes + 1 + numberDigits
-  rule-short count = rw length-append (omega (arith, group-short, digits-few numberDigits count))

@@ -7,7 +7,7 @@ use lib.ListN.{length, getD}
 use Rattle.definition.specs.Base.{pick, each, _∈_}
 use Rattle.definition.specs.Limits.{structureLimit, nameBytes}
 use Rattle.definition.specs.Records.{Field}
-use Rattle.definition.specs.Rule.{Structure, Name, nameOf}
+use Rattle.definition.specs.Rule.{Structure, Element, Name, nameOf}
 use Rattle.definition.specs.Walk.{structureAt}
 use Rattle.records.specs.Places.{twoAt, stretch, Run}
 use Rattle.rule.specs.Lookup.{ruleAt}
@@ -35,6 +35,10 @@ pub record Laid (s index : List ℕ) (k : ℕ) : Type 0 where
   pub same : structureIn s k .elements ≡ elementsIn s index k
   pub names : (count : ℕ) → 1 ≤ count → count ≤ 2
       → NamesAt s (getD index (6 * k + 4 + count) 0) (getD index (6 * k + 4 + count + 1) 0) count (namesOf (structureIn s k) count)
+
+-- The types of its elements are bytes.
+pub record ByteTypes (st : Structure) : Type 0 where
+  pub small : (e : Element) → e ∈ st .elements → e .type < 256
 
 -- The N field stands first: its index, and a name that may be empty.
 pub record Headed (s : List ℕ) : Type 0 where

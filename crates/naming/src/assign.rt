@@ -1,8 +1,6 @@
 // The variables that the elements of a structure get when a map reaches it.
-ghost use mathlib.Core.List.{[]};
 ghost use mathlib.Core.Path.{_≡_};
 ghost use Prim.Native.Nat.{_+_, _≤_, _<_};
-ghost use lib.ListN.{getD, set};
 ghost use Rattle.definition.specs.Base.{each};
 ghost use Rattle.definition.specs.Limits.{fieldLimit, variableLimit};
 ghost use Rattle.definition.specs.Names.{numbered};
@@ -21,7 +19,6 @@ use rule::elements::element_count;
 use rule::elements::find_element;
 use rule::ids::FIELDS;
 use rule::ids::RULE_INDEX;
-use rule::ids::STRUCTURES;
 
 // What each element of the target takes over: by ascending key, the image takes the key's variable, a later key replacing.
 // The variables are those of the source's elements. Keys and images are elements, so each of them is found.
@@ -54,25 +51,24 @@ pub fn carried(
     row
 }
 
-// The table with the target's variables: those taken over from the source, and the next numbers for the others.
+// The target's variables, by the source's row: those taken over, and the next numbers for the other elements.
 pub fn assign_el_vars(
-    mut table: [[u16; FIELDS]; STRUCTURES],
+    row: [u16; FIELDS],
     s: &[u8],
     index: &[u16; RULE_INDEX],
     src: usize,
     tgt: usize,
     m: Map,
     next: u16,
-) -> [[u16; FIELDS]; STRUCTURES]
+) -> [u16; FIELDS]
     requires { ⌜ Laid (now s) (now index) src × Laid (now s) (now index) tgt ⌝ }
     requires { ⌜ MapIn (now s) m × Joins (now s) src tgt m ⌝ }
-    requires { ⌜ GivenOut (structureIn (now s) src) (getD table src []) next ⌝ }
+    requires { ⌜ GivenOut (structureIn (now s) src) row next ⌝ }
     requires { ⌜ next + fieldLimit ≤ variableLimit ⌝ }
-    ensures { λ r. ⌜ r ≡ set table tgt (rowOf (numbered next (takenOver (now (s .entry)) (getD table src []) src tgt m))) ⌝ }
+    ensures { λ r. ⌜ r ≡ rowOf (numbered next (takenOver (now (s .entry)) row src tgt m)) ⌝ }
 {
-    let taken = carried(s, index, table[src], src, tgt, m);
-    table[tgt] = assign_structure_el_vars(taken, element_count(index, tgt), next);
-    table
+    let taken = carried(s, index, row, src, tgt, m);
+    assign_structure_el_vars(taken, element_count(index, tgt), next)
 }
 
 // The variables of structure 0, whose elements take nothing over.

@@ -1,4 +1,4 @@
-// The types of the variables, by their numbers.
+// The types of the variables, by their numbers. A signature has few types, so each is kept in a byte.
 ghost use mathlib.Core.Path.{_≡_};
 ghost use Prim.Native.Nat.{_+_, _≤_, _<_};
 ghost use lib.ListN.{length};
@@ -6,7 +6,7 @@ ghost use lib.Seq.{sets};
 ghost use Rattle.definition.specs.Base.{each};
 ghost use Rattle.definition.specs.Group as definition;
 ghost use Rattle.definition.specs.Limits.{fieldLimit, variableLimit};
-ghost use Rattle.naming.specs.Structures.{structureIn, Laid};
+ghost use Rattle.naming.specs.Structures.{structureIn, Laid, ByteTypes};
 ghost use Rattle.naming.specs.Variables.{newIn};
 use crate::variables::VARIABLES;
 use records::fields::place;
@@ -17,7 +17,7 @@ use rule::ids::RULE_INDEX;
 
 // The new variables of a numbered row, those from `first` on, get the types of their elements.
 pub fn type_variables(
-    types: &mut [u16; VARIABLES],
+    types: &mut [u8; VARIABLES],
     s: &[u8],
     index: &[u16; RULE_INDEX],
     k: usize,
@@ -25,6 +25,7 @@ pub fn type_variables(
     first: u16,
 )
     requires { ⌜ Laid (now s) (now index) k ⌝ }
+    requires { ⌜ ByteTypes (structureIn (now s) k) ⌝ }
     requires { ⌜ (first + fieldLimit ≤ variableLimit) × (length (now types) ≡ variableLimit) ⌝ }
     ensures { λ r. ⌜ now (types .exit) ≡ sets (now (types .entry)) first (each (λ (v : definition.Variable). v .type) (newIn (structureIn (now (s .entry)) k) first row)) ⌝ }
 {
@@ -35,7 +36,7 @@ pub fn type_variables(
         if first <= row[i] {
             let e = read_element(s, index, k, i);
             let t = e.ty;
-            types[number] = t.0;
+            types[number] = t.0 as u8;
             number += 1;
         }
         i += 1;

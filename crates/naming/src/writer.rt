@@ -1,11 +1,11 @@
 // Names as bytes: the W fields of new variables, the group's name, the rules' names.
-ghost use mathlib.Core.List.{_∷_, _++_};
+ghost use mathlib.Core.List.{List, _∷_, _++_};
 ghost use mathlib.Core.Path.{_≡_};
-ghost use Prim.Native.Nat.{_+_, _≤_, _<_};
+ghost use Prim.Native.Nat.{ℕ, _+_, _≤_, _<_};
 ghost use lib.ListN.{length};
 ghost use Rattle.definition.specs.Base.{each};
 ghost use Rattle.definition.specs.Letters.{underscore};
-ghost use Rattle.definition.specs.Limits.{fieldLimit, variableLimit};
+ghost use Rattle.definition.specs.Limits.{fieldLimit, nameBytes, variableLimit};
 ghost use Rattle.definition.specs.Names.{decimal, newVariable};
 ghost use Rattle.definition.specs.Walk.{groupName};
 ghost use Rattle.definition.specs.Writer.{variableField, fieldBytes, recordBytes};
@@ -19,14 +19,15 @@ ghost use Rattle.naming.specs.Bases.{baseBytes, Fits, variableBytes};
 use crate::bases::Base;
 use crate::bases::el_base_name;
 use records::fields::num;
+use records::fields::place;
 use records::fields::two;
+use records::write::digits;
 use records::write::past;
 use records::write::put_byte;
 use records::write::put_bytes;
 use records::write::put_decimal;
 use records::write::put_field_head;
 use records::write::put_num;
-use records::write::rest_at;
 use rows::elements::read_element;
 use rule::elements::element_count;
 use rule::ids::FIELDS;
@@ -35,6 +36,12 @@ use signature::ids::TypeId;
 
 pub const LETTER_W: u8 = b'W';
 
+// The length of `el`.
+const EL_BYTES: usize = 2;
+
+// The length of `anonymous_rule_`.
+const ANONYMOUS_BYTES: usize = 15;
+
 // The base of a name.
 fn put_base(out: &mut [u8], from: usize, s: &[u8], base: Base) -> usize
     requires { ⌜ (from ≤ countLimit) × Fits base (length (now s)) ⌝ }
@@ -42,7 +49,7 @@ fn put_base(out: &mut [u8], from: usize, s: &[u8], base: Base) -> usize
 {
     match base {
         Base::Name { start, len } => put_bytes(out, from, s, start, len),
-        Base::El => put_bytes(out, from, b"el", 0, 2),
+        Base::El => put_bytes(out, from, b"el", 0, EL_BYTES),
     }
 }
 
@@ -55,12 +62,22 @@ fn put_name(out: &mut [u8], from: usize, s: &[u8], base: Base, number: u16) -> u
     put_decimal(out, at, number)
 }
 
+// How many bytes a base has, in any record in which it fits.
+fn base_length(base: Base) -> usize
+    ensures { λ r. ⌜ ((s : List ℕ) → Fits base (length s) → (r ≡ length (baseBytes s base)) × (r ≤ nameBytes)) ⌝ }
+{
+    match base {
+        Base::Name { start: _, len } => len,
+        Base::El => EL_BYTES,
+    }
+}
+
+// How many bytes such a name has, its base being one of the record.
 fn name_length(s: &[u8], base: Base, number: u16) -> u16
     requires { ⌜ Fits base (length (now s)) ⌝ }
     ensures { λ r. ⌜ (r ≡ length (baseBytes (now (s .entry)) base ++ decimal number)) × (r < 256) ⌝ }
 {
-    let mut none = [0u8; 1];
-    put_name(&mut none[..0], 0, s, base, number) as u16
+    (base_length(base) + digits(number)) as u16
 }
 
 // A W field at the front of a buffer: letter, length, type, name.
@@ -73,7 +90,11 @@ fn put_variable(out: &mut [u8], s: &[u8], t: TypeId, base: Base, number: u16) ->
     put_name(out, at, s, base, number)
 }
 
-// The W field of an element's new variable, written into the rest of the buffer from its own start.
+// The bytes of a W field that stand before the name: the letter, two of the length, two of the type.
+const BEFORE_NAME: usize = 5;
+
+// The W field of an element's new variable, written into the rest of the buffer from its own start. Where nothing of it fits it is
+// only counted.
 fn put_new_variable(
     out: &mut [u8],
     at: usize,
@@ -89,8 +110,10 @@ fn put_new_variable(
 {
     let e = read_element(s, index, k, i);
     let base = el_base_name(s, index, k, e.number);
-    let rest = rest_at(at, out.len());
-    let len = put_variable(&mut out[rest..], s, e.ty, base, number);
+    if out.len() <= at {
+        return past(at, BEFORE_NAME + place(name_length(s, base, number)));
+    }
+    let len = put_variable(&mut out[at..], s, e.ty, base, number);
     past(at, len)
 }
 
@@ -130,7 +153,7 @@ pub fn put_group_name(out: &mut [u8], from: usize, s: &[u8]) -> usize
 {
     let len = two(s, 1) - 2;
     if len == 0 {
-        let at = put_bytes(out, from, b"anonymous_rule_", 0, 15);
+        let at = put_bytes(out, from, b"anonymous_rule_", 0, ANONYMOUS_BYTES);
         return put_decimal(out, at, num(s, 3));
     }
     put_bytes(out, from, s, 5, len)
@@ -151,14 +174,16 @@ pub fn group_name_length(s: &[u8]) -> u16
     requires { ⌜ Headed (now s) ⌝ }
     ensures { λ r. ⌜ (r ≡ length (groupName (ruleAt (now (s .entry))))) × (r < 256) ⌝ }
 {
-    let mut none = [0u8; 1];
-    put_group_name(&mut none[..0], 0, s) as u16
+    let bytes = two(s, 1) - 2;
+    if bytes == 0 {
+        return (ANONYMOUS_BYTES + digits(num(s, 3))) as u16;
+    }
+    bytes as u16
 }
 
 pub fn rule_name_length(s: &[u8], count: u16) -> u16
     requires { ⌜ Headed (now s) ⌝ }
     ensures { λ r. ⌜ (r ≡ length (groupName (ruleAt (now (s .entry))) ++ (underscore ∷ decimal count))) × (r < 256) ⌝ }
 {
-    let mut none = [0u8; 1];
-    put_rule_name(&mut none[..0], 0, s, count) as u16
+    group_name_length(s) + 1 + digits(count) as u16
 }

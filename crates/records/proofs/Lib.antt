@@ -9,4 +9,5 @@ pub mod Pairs
 pub mod Index
 pub mod Lists
 pub mod Tail
+pub mod Copying
 pub mod Decimal

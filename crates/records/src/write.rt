@@ -3,7 +3,9 @@
 ghost use mathlib.Core.List.{_∷_, []};
 ghost use mathlib.Core.Path.{_≡_};
 ghost use Prim.Native.Nat.{_+_, _≤_, min};
-ghost use lib.ListN.{length};
+ghost use lib.ListN.{length, drop};
+ghost use lib.Seq.{paste};
+ghost use Rattle.definition.specs.Limits.{numberDigits};
 ghost use Rattle.definition.specs.Names.{decimal};
 ghost use Rattle.definition.specs.Writer.{twoBytes};
 ghost use Rattle.records.specs.Places.{stretch};
@@ -68,18 +70,32 @@ pub fn put_field_head(out: &mut [u8], at: usize, letter: u8, len: u16) -> usize
     put_num(out, behind, len)
 }
 
-// A stretch of another slice.
+// The bytes of a stretch of another slice, stored one behind the other.
+fn copy_bytes(out: &mut [u8], at: usize, s: &[u8], start: usize, len: usize)
+    requires { ⌜ (at + len ≤ length (now out)) × (start + len ≤ length (now s)) ⌝ }
+    ensures { λ r. ⌜ now (out .exit) ≡ paste (now (out .entry)) at (drop start (now (s .entry))) len ⌝ }
+{
+    let mut i: usize = 0;
+    while i < len {
+        out[at + i] = s[start + i];
+        i += 1;
+    }
+}
+
+// A stretch of another slice: all of it where it fits, so that room is asked for once.
 pub fn put_bytes(out: &mut [u8], from: usize, s: &[u8], start: usize, len: usize) -> usize
     requires { ⌜ (from ≤ countLimit) × (start + len ≤ length (now s)) ⌝ }
     ensures { λ r. ⌜ Put (now (out .entry)) (now (out .exit)) (stretch (now (s .entry)) start len) from r ⌝ }
 {
-    let mut at = from;
-    let mut i: usize = 0;
-    while i < len {
-        at = put_byte(out, at, s[start + i]);
-        i += 1;
+    if COUNT_LIMIT - from < len {
+        return COUNT_LIMIT;
     }
-    at
+    let end = from + len;
+    if end <= out.len() {
+        copy_bytes(out, from, s, start, len);
+        return end;
+    }
+    end
 }
 
 // A number in decimal: what stands before its last digit, then that.
@@ -92,4 +108,23 @@ pub fn put_decimal(out: &mut [u8], at: usize, n: u16) -> usize
     }
     let behind = put_decimal(out, at, n / 10);
     put_byte(out, behind, b'0' + (n % 10) as u8)
+}
+
+// How many bytes put_decimal writes.
+pub fn digits(n: u16) -> usize
+    ensures { λ r. ⌜ (r ≡ length (decimal n)) × (r ≤ numberDigits) ⌝ }
+{
+    if n < 10 {
+        return 1;
+    }
+    if n < 100 {
+        return 2;
+    }
+    if n < 1000 {
+        return 3;
+    }
+    if n < 10000 {
+        return 4;
+    }
+    5
 }

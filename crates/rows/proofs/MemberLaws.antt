@@ -7,7 +7,7 @@ use mathlib.Core.List.{List, [], _∷_, _++_, append-nil, append-assoc}
 use mathlib.Core.Option.{none, some}
 use mathlib.Core.Path.{_≡_, refl, sym, _∙_}
 use lib.Dec.{eqb}
-use lib.ListN.{length, getD, set, take, drop, length-append, length-set, length-drop}
+use lib.ListN.{length, getD, set, take, drop, length-append, length-set, length-drop, drop-of-length-le}
 use lib.Seq.{take-suc, take-all, getD-drop}
 use borrow.Author.Tests.{eq-eqb, ne-eqb}
 use Rattle.definition.specs.Base.{consIf, keep, each, any, sameList, empty, _∈_}
@@ -16,7 +16,7 @@ use Rattle.definition.specs.Limits.{columnLimit}
 use Rattle.definition.specs.Records.{numbers}
 use Rattle.definition.specs.Rule.{Element, Row, Pair}
 use Rattle.definition.specs.Rows.{imageOf, imageRow, sameRow, memberRow}
-use Rattle.theory.proofs.Lists.{each-append, each-mem, keep-mem, any-mem}
+use Rattle.theory.proofs.Lists.{each-append, each-mem, keep-mem, any-mem, any-false}
 use Rattle.records.specs.Places.{stretch}
 use Rattle.records.proofs.Lists.{keep-append}
 use Rattle.records.proofs.Numbers.{length-stretch}
@@ -27,7 +27,7 @@ use Rattle.rows.specs.Members.{hasParents, memberRows, newMember}
 use Rattle.rows.specs.Table.{lacksImage, rowLacks, imageIn, isNew, Maps, Imaged, Alike}
 use Rattle.rows.specs.declared.table.Mapped.the-variants as mapped
 use Rattle.rows.specs.declared.table.Images.the-variants as images
-use Rattle.rows.proofs.Parts.{store-more, any-append, any-each, count-in, drop-mem, and-false, and-one}
+use Rattle.rows.proofs.Parts.{store-more, any-append, none-kept, any-each, count-in, drop-mem, and-false, and-one}
 use Rattle.rows.proofs.TableLaws.{Filled, filled-none, filled-more}
 use Rattle.rows.proofs.ElementLaws.{elements-many, elements-more, elements-on}
 
@@ -128,6 +128,32 @@ module _ {s : List ℕ} {e : read.Element} (w : Within s e) where
     unfolding memberRows
     member-mem z = each-mem memberRow (keep hasParents (elementsIn s index k))
         (keep-mem hasParents (elementsIn s index k) (rw q (drop-mem i (elementsIn s index k) (elements-on s index k i l))) (with-parents z))
+
+    -- Some element has parents: this one, or one behind it.
+    abbrev anyFrom : ℕ → Bool
+    anyFrom j = any hasParents (drop j (elementsIn s index k))
+
+    pub some-here : (e .parents ≡ 0 → ⊥) → anyFrom i ≡ true
+    unfolding any
+    some-here z = rw (elements-on s index k i l, ← q, with-parents z)
+
+    pub some-later : e .parents ≡ 0 → anyFrom i ≡ anyFrom (i + 1)
+    unfolding any
+    some-later z = rw (elements-on s index k i l, ← q, without-parents z)
+
+pub some-end : (s index : List ℕ) (k i : ℕ) {size : ℕ} → size ≡ countAt index k → size ≤ i → any hasParents (drop i (elementsIn s index k)) ≡ false
+unfolding any
+some-end s index k i c h = let m = elements-many s index k in rw (drop-of-length-le (elementsIn s index k) {i = i} (omega arith))
+
+-- Where no element has parents there is no member row, hence no new one.
+module _ (s index : List ℕ) (k : ℕ) (none-has : any hasParents (elementsIn s index k) ≡ false) where
+  pub no-member-rows : memberRows (elementsIn s index k) ≡ []
+  unfolding memberRows each
+  no-member-rows = rw (none-kept hasParents (elementsIn s index k) none-has)
+
+  pub no-new-member : (pairs : List Pair) (sources : List Row) (i : ℕ) → i < countAt index k → newMember pairs sources (elementIn s index k i) ≡ false
+  unfolding newMember
+  no-new-member pairs sources i l = rw (any-false hasParents (elementsIn s index k) none-has (drop-mem i (elementsIn s index k) (elements-on s index k i l)))
 
 -- The loop that fills the table with the images of member rows.
 pub record Filling (pairs : List Pair) (s index : List ℕ) (k i n : ℕ) (symbols els : List ℕ) : Type 0 where

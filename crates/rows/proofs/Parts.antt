@@ -10,8 +10,9 @@ use lib.Dec.{eqb}
 use lib.ListN.{length, getD, set, take, drop, length-drop, drop-of-length-le, take-append-drop}
 use lib.Seq.{take-suc, take-suc-set, take-take, take-at, drop-at, take-all, getD-take, length-take-le}
 use borrow.Author.Tests.{eq-eqb, ne-eqb}
-use Rattle.definition.specs.Base.{each, any, sameList, _∈_}
+use Rattle.definition.specs.Base.{consIf, keep, each, any, sameList, _∈_}
 use Rattle.definition.specs.Records.{numbers}
+use Rattle.theory.proofs.Lists.{never}
 use Rattle.records.specs.Places.{twoAt, stretch}
 use Rattle.records.proofs.Link.{one-more}
 use Rattle.records.proofs.Numbers.{drop-stretch, take-stretch, length-numbers-in, numbers-in}
@@ -107,7 +108,7 @@ module _ (xs ys : List ℕ) {n j : ℕ} (a : length xs ≡ n) (b : length ys ≡
   unfolding sameList
   same-end h = let p : length xs ≤ j = rw a h in let q : length ys ≤ j = rw b h in rw (drop-of-length-le xs p, drop-of-length-le ys q)
 
--- Tests of lists one behind the other, and of images.
+-- Tests of lists one behind the other, of none, and of images.
 module _ {A : Type 0} (p : A → Bool) where
   pub any-append : (xs ys : List A) → any p (xs ++ ys) ≡ (any p xs || any p ys)
   unfolding any
@@ -117,6 +118,15 @@ module _ {A : Type 0} (p : A → Bool) where
       go : (b : Bool) → (b || (any p xs || any p ys)) ≡ (b || any p xs || any p ys)
       go true = refl
       go false = refl
+
+  pub none-kept : (xs : List A) → any p xs ≡ false → keep p xs ≡ []
+  unfolding any keep
+  none-kept [] e = refl
+  none-kept (x ∷ xs) e = go (p x) e (none-kept xs)
+    where
+      go : (b : Bool) → (b || any p xs) ≡ false → (any p xs ≡ false → keep p xs ≡ []) → consIf b x (keep p xs) ≡ []
+      go true e r = never refl e
+      go false e r = r e
 
 pub any-each : {A B : Type 0} (p : B → Bool) (f : A → B) (xs : List A) → any p (each f xs) ≡ any (λ (a : A). p (f a)) xs
 unfolding any each

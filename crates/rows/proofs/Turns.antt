@@ -1,22 +1,23 @@
 -- The loops along a section of rows: what a turn and the end of each tell.
-use Prim.Native.Nat.{ℕ, _+_, _-_, _*_, _/_, _≤_, _<_}
+use Prim.Native.Nat.{ℕ, _+_, _-_, _*_, _/_, _≤_}
 use native.Mathlib.Omega.{arith}
-use mathlib.Core.Bool.{Bool, true, not}
+use mathlib.Core.Bool.{Bool, true, false, not}
 use mathlib.Core.List.{List, [], _∷_, _++_}
 use mathlib.Core.Path.{_≡_, sym, _∙_}
-use lib.ListN.{length, set, take}
-use lib.Seq.{length-take-le}
+use lib.ListN.{length, getD, set, take}
+use lib.Seq.{getD-at, getD-take, length-take-le}
 use Rattle.definition.specs.Base.{each, any, _∈_}
 use Rattle.definition.specs.Limits.{fieldLimit, columnLimit}
 use Rattle.definition.specs.Records.{Field, numbers}
 use Rattle.definition.specs.Rule.{Row, Pair, rowOf}
 use Rattle.definition.specs.Rows.{imageRow, sameRow}
-use Rattle.theory.proofs.Lists.{mem-each, each-mem, any-mem, length-each, each-append}
-use Rattle.records.specs.Places.{twoAt, stretch}
+use Rattle.theory.proofs.Lists.{mem-each, each-mem, any-mem, length-each, getD-each, each-append}
+use Rattle.records.specs.Places.{twoAt, stretch, fieldOf}
+use Rattle.flags.specs.Flags.{Packed}
 use Rattle.rows.specs.Table.{tableSize, lacksImage, rowLacks, imageIn, rowIn, isNew, Alike, Maps, Imaged}
 use Rattle.rows.specs.declared.table.Mapped.the-variants as mapped
 use Rattle.rows.specs.declared.table.Images.the-variants as images
-use Rattle.rows.proofs.Parts.{store-more, count-in, any-each}
+use Rattle.rows.proofs.Parts.{count-in, any-each}
 use Rattle.rows.proofs.Sections.{Passed, Next, RowHere, row-is, all-passed}
 use Rattle.rows.proofs.TableLaws.{Filled, filled-none, filled-more}
 
@@ -59,14 +60,20 @@ module _ {s : List ℕ} {end i letter start len next : ℕ} {fs : List Field} (n
   pub row-columns : {columns : ℕ → ℕ} → Alike kind columns (each (rowOf kind) fs) → len / 2 - 1 ≡ columns (twoAt s start)
   row-columns a = sym row-many ∙ a .same row row-in .1
 
-  -- The flag of one row more.
-  pub flags-next : (pairs : List Pair) (sources : List Row) (flags : List Bool) {r : Bool} → take i flags ≡ each (isNew pairs sources) (firstRows kind i fs)
-      → i < length flags → r ≡ any (sameRow row) (each (imageRow pairs) sources)
-      → take (i + 1) (set flags i (not r)) ≡ each (isNew pairs sources) (firstRows kind (i + 1) fs)
-  unfolding each isNew
-  flags-next pairs sources flags {r} f l e =
+  -- Whether it is new.
+  row-at : getD (each (rowOf kind) fs) i row ≡ row
+  row-at =
+      let f = fieldOf s letter start len in
+      let g : getD (take (i + 1) fs) i f ≡ f = rw (n .took) (getD-at (take i fs) f [] f i (length-take-le i fs (omega (arith, n .inside)))) in
+      getD-each (rowOf kind) fs i f row (n .inside) ∙ rw (sym (getD-take (i + 1) fs i f (omega arith)) ∙ g) (row-is h kind letter)
+
+  pub new-at : (pairs : List Pair) (sources : List Row) {r : Bool} → r ≡ any (sameRow row) (each (imageRow pairs) sources)
+      → getD (each (isNew pairs sources) (each (rowOf kind) fs)) i false ≡ not r
+  unfolding isNew
+  new-at pairs sources {r} e =
       let d : r ≡ any (λ (q : Row). sameRow row (imageRow pairs q)) sources = e ∙ any-each (sameRow row) (imageRow pairs) sources in
-      rw (store-more flags i (not r) l, f, first-more, each-append, ← d)
+      let l = length-each (rowOf kind) fs in
+      getD-each (isNew pairs sources) (each (rowOf kind) fs) i row false (omega (arith, n .inside)) ∙ rw (row-at, ← d)
 
 pub rows-end : {s : List ℕ} {end at i : ℕ} {fs : List Field} {pairs : List Pair} {symbols els : List ℕ} → Passed s end fs at i → end ≤ at → (kind : ℕ)
     → Filled pairs (firstRows kind i fs) symbols els → Imaged (images.Count i) pairs (each (rowOf kind) fs) symbols els
@@ -75,9 +82,8 @@ rows-end {fs = fs} {pairs} {symbols} {els} p h kind f =
     let g : Filled pairs (each (rowOf kind) fs) symbols els = rw (e .0) at f in
     record { is = (g .fine, e .1 ∙ sym (length-each (rowOf kind) fs), g .held) }
 
-pub flags-end : {s : List ℕ} {end at i : ℕ} {fs : List Field} → Passed s end fs at i → end ≤ at → (kind : ℕ) (pairs : List Pair) (sources : List Row) (flags : List Bool)
-    → take i flags ≡ each (isNew pairs sources) (firstRows kind i fs) → take (length fs) flags ≡ each (isNew pairs sources) (each (rowOf kind) fs)
-flags-end p h kind pairs sources flags f = let e = all-passed p h in rw (← (e .1)) (f ∙ rw (e .0))
+pub flags-end : {s : List ℕ} {end at i mask : ℕ} {row : List Bool} {fs : List Field} → Passed s end fs at i → end ≤ at → Packed mask row i → Packed mask row (length fs)
+flags-end p h f = rw (← (all-passed p h .1)) f
 
 -- The images of rows that are alike are alike.
 pub alike-images : {kind : ℕ} {columns : ℕ → ℕ} {rows : List Row} (pairs : List Pair) → Alike kind columns rows → Alike kind columns (each (imageRow pairs) rows)

@@ -76,7 +76,7 @@ pub fn has_kernel_pairs(s: &[u8], index: &[u16; RULE_INDEX], tgt: usize, m: Map)
 }
 
 // Does the variable of a key differ in type from that of a later key of the same image?
-fn clashes_later(s: &[u8], m: Map, vars: &[u16; FIELDS], types: &[u16], p: usize) -> bool
+fn clashes_later(s: &[u8], m: Map, vars: &[u16; FIELDS], types: &[u8], p: usize) -> bool
     requires { ⌜ MapIn (now s) m ⌝ }
     requires { ⌜ p < m .pairs ⌝ }
     requires { ⌜ Typed m (now vars) (length (now types)) ⌝ }
@@ -99,7 +99,7 @@ fn clashes_later(s: &[u8], m: Map, vars: &[u16; FIELDS], types: &[u16], p: usize
 }
 
 // 25: do two variables of a kernel pair differ in type?
-pub fn kernel_clash(s: &[u8], m: Map, vars: &[u16; FIELDS], types: &[u16]) -> bool
+pub fn kernel_clash(s: &[u8], m: Map, vars: &[u16; FIELDS], types: &[u8]) -> bool
     requires { ⌜ MapIn (now s) m ⌝ }
     requires { ⌜ Typed m (now vars) (length (now types)) ⌝ }
     ensures { λ r. ⌜ ((sig : Signature) (table : List Variable) (source target : Side) → KeyVars source (pairsIn (now (s .entry)) m) (now (vars .entry))

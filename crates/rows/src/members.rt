@@ -13,7 +13,7 @@ ghost use Rattle.rule.specs.Elements.{countAt};
 ghost use Rattle.rows.specs.Maps.{pairsIn, MapIn};
 ghost use Rattle.rows.specs.Table.{tableSize, Maps, Imaged, Held, Alike, Holds};
 ghost use Rattle.rows.specs.Elements.{elementFrom, elementsIn, ElementsAt, Within};
-ghost use Rattle.rows.specs.Members.{memberRows, newMember};
+ghost use Rattle.rows.specs.Members.{hasParents, memberRows, newMember};
 use crate::elements::Element;
 use crate::elements::read_element;
 use crate::maps::Image;
@@ -28,6 +28,24 @@ use crate::table::same_elements;
 use rule::elements::element_count;
 use rule::ids::RULE_INDEX;
 use signature::ids::COLUMNS;
+
+// Has a structure any member row?
+pub fn has_members(s: &[u8], index: &[u16; RULE_INDEX], k: usize) -> bool
+    requires { ⌜ k < structureLimit ⌝ }
+    requires { ⌜ ElementsAt (now s) (now index) k ⌝ }
+    ensures { λ r. ⌜ r ≡ any hasParents (elementsIn (now (s .entry)) (now (index .entry)) k) ⌝ }
+{
+    let count = element_count(index, k);
+    let mut i: usize = 0;
+    while i < count {
+        let e = read_element(s, index, k, i);
+        if e.parents != 0 {
+            return true;
+        }
+        i += 1;
+    }
+    false
+}
 
 // The image of an element's member row, into the table from a place on.
 fn map_member(s: &[u8], e: Element, m: Map, els: &mut [u16; TABLE], at: usize) -> Mapped

@@ -2,7 +2,7 @@
 ghost use mathlib.Core.List.{List};
 ghost use mathlib.Core.Path.{_≡_};
 ghost use Prim.Native.Nat.{ℕ, _+_, _*_, _≤_, _<_};
-ghost use lib.ListN.{length, take};
+ghost use lib.ListN.{length};
 ghost use Rattle.definition.specs.Base.{any, each, sameList};
 ghost use Rattle.definition.specs.Limits.{fieldLimit, columnLimit};
 ghost use Rattle.definition.specs.Records as definition;
@@ -10,11 +10,13 @@ ghost use Rattle.definition.specs.Records.{numbers};
 ghost use Rattle.definition.specs.Rule.{Row, Pair, rowOf};
 ghost use Rattle.definition.specs.Rows.{sameRow};
 ghost use Rattle.records.specs.Places.{stretch, Run};
+ghost use Rattle.flags.specs.Flags.{Packed};
 ghost use Rattle.rows.specs.Maps.{pairsIn, MapIn};
 ghost use Rattle.rows.specs.Table.{tableSize, RowsFrom, Maps, Imaged, Held, Alike, rowIn, isNew, Holds};
 use crate::maps::Image;
 use crate::maps::Map;
 use crate::maps::image_of;
+use flags::with_flag;
 use records::fields::Field;
 use records::fields::num;
 use records::fields::read_field;
@@ -146,7 +148,7 @@ pub fn is_image(
     false
 }
 
-// Which rows of a section are no image of a row of the source.
+// Which rows of a section are no image of a row of the source: a flag for each, in one number.
 pub fn new_rows(
     s: &[u8],
     from: usize,
@@ -154,14 +156,14 @@ pub fn new_rows(
     symbols: &[u16; ROWS],
     els: &[u16; TABLE],
     images: usize,
-) -> [bool; ROWS]
+) -> u64
     requires { ⌜ RowsFrom (now s) from end ⌝ }
     requires { ⌜ (images ≤ fieldLimit) × (length (now els) ≡ tableSize) ⌝ }
     ensures { λ r. ⌜ ((kind : ℕ) (columns : ℕ → ℕ) (pairs : List Pair) (sources : List Row) (fs : List definition.Field)
         → Holds kind columns pairs sources (now (symbols .entry)) (now (els .entry)) images → Run (now (s .entry)) from end fs → Alike kind columns (each (rowOf kind) fs)
-        → take (length fs) r ≡ each (isNew pairs sources) (each (rowOf kind) fs)) ⌝ }
+        → Packed r (each (isNew pairs sources) (each (rowOf kind) fs)) (length fs)) ⌝ }
 {
-    let mut flags = [false; ROWS];
+    let mut mask: u64 = 0;
     let mut at = from;
     let mut i: usize = 0;
     while at < end {
@@ -173,11 +175,13 @@ pub fn new_rows(
             next,
         } = f
         else {
-            return flags;
+            return mask;
         };
-        flags[i] = !is_image(s, num(s, start), start + 2, len / 2 - 1, symbols, els, images);
+        if !is_image(s, num(s, start), start + 2, len / 2 - 1, symbols, els, images) {
+            mask = with_flag(mask, i);
+        }
         i += 1;
         at = next;
     }
-    flags
+    mask
 }

@@ -24,7 +24,7 @@ use Rattle.signature.specs.declared.faults.Fault.the-variants.{Sound, Draws}
 use Rattle.rule.specs.Layout.{letterAt, elementsFrom, sections}
 use Rattle.rule.specs.Elements.{countAt, positionAt, elementFields, elementNumbers, numbersIn, Elements, Known}
 use Rattle.rule.specs.Faults.{nameKey, rowSymbols, rowColumns, checkOf, restFault}
-use Rattle.rule.specs.Answers.{Bodied, Kept, Stored, Holds}
+use Rattle.rule.specs.Answers.{Bodied, Kept, Stored}
 use Rattle.rule.proofs.Drawn.{last-named}
 
 -- Entries that were kept tell the same of the elements of earlier structures.
@@ -84,30 +84,31 @@ unfolding elementNumbers namedElements
 named-is {s} {index} {k} body w e =
     rw (← e) (ap (each (λ (f : Field). numberAt 0 (f .content))) (sym (keep-all (λ (f : Field). leb 2 (length (f .content))) (elementFields s index k) noField (field-long w))))
 
-pub letter-e : letterAt 3 ≡ letterE
-unfolding letterAt
-letter-e = refl
-
-pub letter-r : letterAt 4 ≡ letterR
-unfolding letterAt
-letter-r = refl
-
-pub letter-a : letterAt 5 ≡ letterA
-unfolding letterAt
-letter-a = refl
-
-pub letter-v : letterAt 6 ≡ letterV
-unfolding letterAt
-letter-v = refl
-
-pub letter-i : letterAt 7 ≡ letterI
-unfolding letterAt
-letter-i = refl
-
 -- The sections of a structure, by numbers that the code computes.
-pub rest-run : {s index : List ℕ} {k : ℕ} {body : List Field} → Bodied s index k body → (q letter t u : ℕ) → 3 ≤ q → q ≤ 7 → letterAt q ≡ letter → t ≡ 6 * k + q - 1 → u ≡ 6 * k + q
-    → Run s (getD index t 0) (getD index u 0) (withLetter letter body)
-rest-run b q letter t u lo hi e m n = rw (m, n, ← e) (b .run q lo hi)
+module _ {s index : List ℕ} {k : ℕ} {body : List Field} (b : Bodied s index k body) where
+  run-of : (q letter t u : ℕ) → 3 ≤ q → q ≤ 7 → letterAt q ≡ letter → t ≡ 6 * k + q - 1 → u ≡ 6 * k + q
+      → Run s (getD index t 0) (getD index u 0) (withLetter letter body)
+  run-of q letter t u lo hi e m n = rw (m, n, ← e) (b .run q lo hi)
+
+  pub run-e : Run s (getD index (6 * k + 1 + 1) 0) (getD index (6 * k + 1 + 2) 0) (withLetter letterE body)
+  unfolding letterAt
+  run-e = run-of 3 letterE (6 * k + 1 + 1) (6 * k + 1 + 2) (omega arith) (omega arith) refl (omega arith) (omega arith)
+
+  pub run-r : Run s (getD index (6 * k + 1 + 2) 0) (getD index (6 * k + 1 + 2 + 1) 0) (withLetter letterR body)
+  unfolding letterAt
+  run-r = run-of 4 letterR (6 * k + 1 + 2) (6 * k + 1 + 2 + 1) (omega arith) (omega arith) refl (omega arith) (omega arith)
+
+  pub run-a : Run s (getD index (6 * k + 1 + 3) 0) (getD index (6 * k + 1 + 3 + 1) 0) (withLetter letterA body)
+  unfolding letterAt
+  run-a = run-of 5 letterA (6 * k + 1 + 3) (6 * k + 1 + 3 + 1) (omega arith) (omega arith) refl (omega arith) (omega arith)
+
+  pub run-v : Run s (getD index (6 * k + 1 + 4) 0) (getD index (6 * k + 1 + 4 + 1) 0) (withLetter letterV body)
+  unfolding letterAt
+  run-v = run-of 6 letterV (6 * k + 1 + 4) (6 * k + 1 + 4 + 1) (omega arith) (omega arith) refl (omega arith) (omega arith)
+
+  pub run-i : Run s (getD index (6 * k + 1 + 5) 0) (getD index (6 * k + 1 + 5 + 1) 0) (withLetter letterI body)
+  unfolding letterAt
+  run-i = run-of 7 letterI (6 * k + 1 + 5) (6 * k + 1 + 5 + 1) (omega arith) (omega arith) refl (omega arith) (omega arith)
 
 pub bodied-kept : {s index₀ index : List ℕ} {k m : ℕ} {body : List Field} → k < structureLimit → Kept index₀ index m → Bodied s index₀ k body → Bodied s index k body
 bodied-kept {k = k} h kept b = record { run = λ q lo hi. rw (kept .before (6 * k + q - 1) (omega arith), kept .before (6 * k + q) (omega arith)) (b .run q lo hi) }
@@ -170,14 +171,9 @@ module _ (sig : Signature) (body : List Field) where
   unfolding bodyFault restFault rowColumns nameKey
   body-rest t h d k = k ∙ sym (rw (← h, d))
 
--- Whatever the answer is.
-pub holds-any : {s index : List ℕ} {k : ℕ} {body : List Field} → Holds Sound s index k body → (r : Fault) → Holds r s index k body
-holds-any w Sound = w
-holds-any w (Draws n) = record { is = tt }
-
-pub stored-any : {s index₀ index : List ℕ} {k : ℕ} → Stored Sound s index₀ index k → (r : Fault) → Stored r s index₀ index k
-stored-any w Sound = w
-stored-any w (Draws n) = record { kept = w .kept; known = tt }
+-- A fault of a later field: what was stored is kept.
+pub stored-not : {n : ℕ} {s index₀ index : List ℕ} {k : ℕ} → Stored Sound s index₀ index k → Stored (Draws n) s index₀ index k
+stored-not w = record { kept = w .kept; known = tt }
 
 -- Nothing has been stored.
 pub kept-same : {index : List ℕ} → Kept index index 0

@@ -4,12 +4,14 @@ use native.Mathlib.Omega.{arith}
 use native.Mathlib.Nat.{add-zero}
 use mathlib.Core.Bool.{Bool, true, false, not, _||_}
 use mathlib.Core.List.{List, [], _∷_}
+use mathlib.Core.Logic.{_⊎_, ⊎-elim}
 use mathlib.Core.Option.{Option, none, some}
 use mathlib.Core.Path.{_≡_, refl, sym, _∙_, ap}
 use lib.Dec.{eqb, ltb, leb}
 use lib.ListN.{length, getD, take, drop}
 use borrow.Author.Tests.{le-ltb, lt-ltb, eq-eqb, ne-eqb, ltb-true, ltb-false, not-false}
 use Rattle.definition.specs.Base.{pick, less, all, has, lowest, empty, span}
+use Rattle.definition.specs.Letters.{letterR, letterA, letterV, letterI}
 use Rattle.definition.specs.Limits.{structureLimit, fieldLimit, mapLimit, nameBytes}
 use Rattle.definition.specs.Records.{Field, numbers, numberAt, notAbove, badName, odd}
 use Rattle.definition.specs.Signature.{Signature, typeParents}
@@ -21,7 +23,7 @@ use Rattle.records.specs.Held.{heldAt}
 use Rattle.records.proofs.Index.{length-held}
 use Rattle.signature.specs.Index.{signatureAt, typesFrom, predsFrom, funcsFrom}
 use Rattle.signature.specs.declared.ids.Counts.{Counts}
-use Rattle.rule.specs.Faults.{nameKey, pairNamed, lastField, LastIn, AboveLast, Fits}
+use Rattle.rule.specs.Faults.{nameKey, pairNamed, lastField, LastIn, AboveLast, Fits, rowCheck, lastNamed, checkOf}
 use Rattle.rule.specs.declared.order.Last.{Last}
 use Rattle.rule.specs.declared.order.Last.the-variants.{Content, Nothing}
 use Rattle.signature.specs.declared.faults.Fault.the-variants.{Sound, Draws}
@@ -234,6 +236,31 @@ row-long len results e = omega (arith, numbers-long len (1 + results) e)
 -- The elements of the last structure.
 pub last-named : (s index : List ℕ) (n : ℕ) → 1 ≤ n → getD (numbersIn s index n) (length (numbersIn s index n) - 1) [] ≡ elementNumbers s index (n - 1)
 last-named s index n h = rw (named-length s index n) (named-at s index n (n - 1) (omega arith))
+
+-- R and A share a check, and so do V and I: they differ in a number.
+module _ (letter : ℕ) {results : ℕ} (e : results ≡ pick (eqb letter letterA) 1 0) where
+  pub row-check : (sig : Signature) (named : List (List ℕ)) → letter ≡ letterA ⊎ letter ≡ letterR → checkOf sig named letter ≡ rowCheck sig results (lastNamed sig named)
+  unfolding checkOf
+  row-check sig named = ⊎-elim (λ a. rw (e, a)) (λ r. rw (e, r))
+
+  pub row-results : results ≤ 1
+  row-results = go (eqb letter letterA) e
+    where
+      go : (b : Bool) → results ≡ pick b 1 0 → results ≤ 1
+      go true q = omega arith
+      go false q = omega arith
+
+module _ (letter : ℕ) {count : ℕ} (e : count ≡ pick (eqb letter letterI) 2 1) where
+  pub name-check : (sig : Signature) (named : List (List ℕ)) → letter ≡ letterI ⊎ letter ≡ letterV → checkOf sig named letter ≡ nameFault count (nameKey count) (lastNamed sig named)
+  unfolding checkOf
+  name-check sig named = ⊎-elim (λ i. rw (e, i)) (λ v. rw (e, v))
+
+  pub name-numbers : (1 ≤ count) × (count ≤ 2)
+  name-numbers = go (eqb letter letterI) e
+    where
+      go : (b : Bool) → count ≡ pick b 2 1 → (1 ≤ count) × (count ≤ 2)
+      go true q = (omega arith, omega arith)
+      go false q = (omega arith, omega arith)
 
 -- A number above the last one.
 take-one : (xs : List ℕ) → 1 ≤ length xs → take 1 xs ≡ getD xs 0 0 ∷ []

@@ -154,6 +154,12 @@ may-cases b q e = go (eqb q 1) (ltb b 1) (eqb q 2) (ltb b 2) (ltb 10 q) refl ref
         let l : q ≤ 10 = ltb-false 10 q e₅ in let m : 2 ≤ b = ltb-false b 2 e₄ in let z : b ≤ q = leb-true b q h in
         let n : q ≡ 2 → ⊥ = eqb-false q 2 e₃ in let k : 3 ≤ q = three-on b q m z n in inr (inr (k, l, m, z))
 
+-- A letter behind S may be repeated.
+pub may-repeat : (b : ℕ) → 2 < b → b ≤ 10 → mayFollow b b ≡ true
+unfolding mayFollow
+may-repeat b h k =
+    rw (ne-eqb b 1 (λ z. omega arith), le-ltb b 1 (omega arith), ne-eqb b 2 (λ z. omega arith), le-ltb b 2 (omega arith), le-ltb 10 b k) (le-leb b b (omega arith))
+
 -- The section of a place.
 pub section-first : (n q : ℕ) → q ≤ 1 → sectionAt n q ≡ 0
 unfolding sectionAt

@@ -22,7 +22,7 @@ use Rattle.records.proofs.Runs.{run-snoc, run-end}
 use Rattle.records.proofs.Placed.{Placing, Placed, passing, placing-start, placing-next, placing-stop, placing-bad, placing-end}
 use Rattle.rule.specs.Layout.{letterAt, placeOf, mayFollow, withOne, sectionAt, Section, front, within, back, numberOf, Stands, fieldsIn, sections, ruleIndex, boundAt, Laid}
 use Rattle.rule.specs.Answers.{Passes}
-use Rattle.rule.proofs.Letters.{letter-is, follows-is, follows-far, last-is, not-first, not-start, may-cases, section-first, section-inside, section-behind}
+use Rattle.rule.proofs.Letters.{letter-is, follows-is, follows-far, last-is, not-first, not-start, may-cases, may-repeat, section-first, section-inside, section-behind}
 use Rattle.rule.proofs.Sections.{none-within, blocks-count, grows}
 
 -- The pass stands at a position, behind the letter of a place, in a section, with so many structures.
@@ -208,6 +208,13 @@ module _ {s index : List ℕ} {at behind section n : ℕ} (p : Passing s index a
       later = λ h. some-structure q m (omega arith);
       runs = ran;
     }
+
+  -- A letter that is repeated stays in its section.
+  pub pass-again : (letter start len next : ℕ) → fieldAt s at ≡ Got letter start len next → behind ≡ placeOf letter → 2 < behind → Passing s index next behind section n
+  pass-again letter start len next e place h =
+      let one : withOne n behind ≡ n = rw (ne-eqb behind 2 (λ z. omega arith)) in
+      let to : sectionAt (withOne n behind) behind ≡ section = rw one (sym (p .section-is)) in
+      rw (to, one) at (pass-next letter start len next behind index e place (may-repeat behind h (p .place)) (rw one (p .few)) (λ t. rw to))
 
   -- The pass ends: the sections that are left start, and end, here.
   module _ (index′ : List ℕ) (same : (t : ℕ) → boundAt index′ sections at t ≡ boundAt index section at t) where

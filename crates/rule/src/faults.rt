@@ -390,8 +390,29 @@ pub fn auxiliary_fault(s: &[u8], structures: usize, f: Spot) -> Fault
     Fault::Sound
 }
 
+// How many results a row has: none in an R field, one in an A field.
+fn results_of(letter: u8) -> usize
+    ensures { λ r. ⌜ r ≡ pick (eqb letter letterA) 1 0 ⌝ }
+{
+    if letter == LETTER_A {
+        return 1;
+    }
+    0
+}
+
+// How many numbers stand before a name: one in a V field, two in an I field.
+fn numbers_of(letter: u8) -> usize
+    ensures { λ r. ⌜ r ≡ pick (eqb letter letterI) 2 1 ⌝ }
+{
+    if letter == LETTER_I {
+        return 2;
+    }
+    1
+}
+
 // A field of any letter but S and E, which are checked where structures and elements are counted.
 // The elements of so many structures are known; R, A, V and I stand in the last of them.
+// One call serves R and A, one V and I, so that each check is compiled into this function.
 pub fn field_fault(
     sig: &[u8],
     symbols: &[u16; INDEX],
@@ -414,10 +435,11 @@ pub fn field_fault(
         LETTER_N => head_fault(s, f.start, f.len),
         LETTER_M => map_fault(s, index, structures, f),
         LETTER_K => kind_fault(s, structures, f),
-        LETTER_R => row_fault(sig, symbols, counts, s, index, structures - 1, 0, f),
-        LETTER_A => row_fault(sig, symbols, counts, s, index, structures - 1, 1, f),
-        LETTER_V => name_fault(s, index, structures - 1, 1, f),
-        LETTER_I => name_fault(s, index, structures - 1, 2, f),
+        LETTER_R | LETTER_A => {
+            let results = results_of(letter);
+            row_fault(sig, symbols, counts, s, index, structures - 1, results, f)
+        }
+        LETTER_V | LETTER_I => name_fault(s, index, structures - 1, numbers_of(letter), f),
         _ => auxiliary_fault(s, structures, f),
     }
 }

@@ -151,6 +151,7 @@ pub fn pass(s: &[u8], index: &mut [u16; RULE_INDEX]) -> Passed
 {
     index[0] = 0;
     let mut at: usize = 0;
+    let mut last = START;
     let mut behind = AT_START;
     let mut structures: usize = 0;
     let mut section: usize = 0;
@@ -159,6 +160,11 @@ pub fn pass(s: &[u8], index: &mut [u16; RULE_INDEX]) -> Passed
         let Field::Got { letter, next, .. } = f else {
             return ended(index, section, at, false, structures);
         };
+        // A letter that may be repeated, so not N and not S, stays in its section.
+        if letter == last && PLACE_S < behind {
+            at = next;
+            continue;
+        }
         let p = place(letter);
         if !may_follow(behind, p) {
             return ended(index, section, at, false, structures);
@@ -171,6 +177,7 @@ pub fn pass(s: &[u8], index: &mut [u16; RULE_INDEX]) -> Passed
         fill(index, section, to, at);
         structures = n;
         section = to;
+        last = letter;
         behind = p;
         at = next;
     }

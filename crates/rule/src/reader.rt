@@ -184,7 +184,12 @@ fn check_rest(
     let Fault::Sound = v else {
         return v;
     };
-    check_section(sig, symbols, counts, s, index, k + 1, LETTER_I, section + 5)
+    // Taken apart, not handed on whole: the processor waits where it reads two bytes back of which only one was just written.
+    let i = check_section(sig, symbols, counts, s, index, k + 1, LETTER_I, section + 5);
+    let Fault::Sound = i else {
+        return i;
+    };
+    Fault::Sound
 }
 
 // The first fault of the fields of structure k behind its S.
@@ -215,7 +220,11 @@ fn check_body(
     let Fault::Sound = e else {
         return e;
     };
-    check_rest(sig, symbols, counts, s, index, k)
+    let r = check_rest(sig, symbols, counts, s, index, k);
+    let Fault::Sound = r else {
+        return r;
+    };
+    Fault::Sound
 }
 
 // The first fault of so many structures.
@@ -275,7 +284,11 @@ fn check_tail(
     let Fault::Sound = k else {
         return k;
     };
-    check_section(sig, symbols, counts, s, index, known, LETTER_X, SECTION_X)
+    let x = check_section(sig, symbols, counts, s, index, known, LETTER_X, SECTION_X);
+    let Fault::Sound = x else {
+        return x;
+    };
+    Fault::Sound
 }
 
 // The rule's answer; where it is accepted, the index holds where its sections start and where its elements stand.

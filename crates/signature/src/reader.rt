@@ -155,7 +155,8 @@ fn number(c: Checked) -> u8
     }
 }
 
-// The signature's answer; where it is accepted, the index holds the positions of its fields. The bytes are only read.
+// The signature's answer; where it is accepted, the index holds the positions of its fields.
+// A refused signature may leave the index cleared or partly filled. The bytes are only read.
 pub fn read_signature(s: &[u8], index: &mut [u16; INDEX]) -> Reading
     ensures { λ r. ⌜ signatureReading (now (s .entry)) (now (index .exit)) r ≡ readSignature (now (s .entry)) ⌝ }
     ensures { λ r. ⌜ Usable (now (s .entry)) (now (index .exit)) r ⌝ }
@@ -165,24 +166,22 @@ pub fn read_signature(s: &[u8], index: &mut [u16; INDEX]) -> Reading
     }
     let p = pass(s);
     let end = p.end;
-    // The caller's index stays as it was where the signature is refused.
-    let mut held = [0u16; INDEX];
-    let t = check(s, end, LETTER_T, p.types, &mut held, TYPES_FROM);
+    *index = [0u16; INDEX];
+    let t = check(s, end, LETTER_T, p.types, index, TYPES_FROM);
     let Checked::Count(types) = t else {
         return Reading::Refused(number(t));
     };
-    let q = check(s, end, LETTER_P, types, &mut held, PREDS_FROM);
+    let q = check(s, end, LETTER_P, types, index, PREDS_FROM);
     let Checked::Count(preds) = q else {
         return Reading::Refused(number(q));
     };
-    let f = check(s, end, LETTER_F, types, &mut held, FUNCS_FROM);
+    let f = check(s, end, LETTER_F, types, index, FUNCS_FROM);
     let Checked::Count(funcs) = f else {
         return Reading::Refused(number(f));
     };
     if !p.whole {
         return Reading::Refused(2);
     }
-    *index = held;
     Reading::Sound(Counts {
         types,
         preds,

@@ -33,7 +33,7 @@ use Rattle.naming.proofs.Placed.{elements-are, numbers-are, element-get}
 use Rattle.flags.specs.Flags.{flagAt}
 use Rattle.statements.specs.Said.{flaggedFrom, memberFlag}
 use Rattle.statements.specs.Structures.{Stands}
-use Rattle.statements.specs.Parts.{variableBy, NamedIn, elementStatement}
+use Rattle.statements.specs.Parts.{variableBy, NamedIn, elementStatement, typeSetOf}
 use Rattle.statements.proofs.Variables.{variable-found}
 
 -- One statement before others.
@@ -105,13 +105,15 @@ module _ {s index : List ℕ} {k : ℕ} (w : Stands s index k) {i : ℕ} (h : i 
 
     -- Its TypeSet, if it has no parents.
     pub type-said : (letter : ℕ) (row : List ℕ) → e .parents ≡ 0
-        → statementBytes letter (typeSets (variableBy st row) (elementIn s index k i ∷ [])) ≡ fieldBytes (statementField letter (elementStatement (variableBy st row) typeSet (elementIn s index k i)))
-    unfolding typeSets keep each elementStatement statementBytes recordBytes joined
-    type-said letter row z = go (elementIn s index k i .parents) (parents-count ∙ z)
+        → statementBytes letter (typeSets (variableBy st row) (elementIn s index k i ∷ [])) ≡ fieldBytes (statementField letter (typeSetOf (e .ty .0) (getD row i 0)))
+    unfolding typeSets keep each typeSetOf statementBytes recordBytes joined
+    type-said letter row z =
+        let a : e .ty .0 ≡ elementIn s index k i .type = ap (λ (x : Element). x .type) q in
+        rw (own-variable row, a) (go (elementIn s index k i .parents) (parents-count ∙ z))
       where
         go : (ps : List ℕ) → length ps ≡ 0
             → joined fieldBytes (each (statementField letter) (each (λ (x : Element). record { kind = typeSet; symbol = x .type; variables = variableBy st row (x .number) ∷ [] }) (consIf (empty ps) (elementIn s index k i) [])))
-            ≡ fieldBytes (statementField letter (record { kind = typeSet; symbol = elementIn s index k i .type; variables = each (variableBy st row) (ps ++ (elementIn s index k i .number ∷ [])) }))
+            ≡ fieldBytes (statementField letter (record { kind = typeSet; symbol = elementIn s index k i .type; variables = variableBy st row (elementIn s index k i .number) ∷ [] }))
         go [] n = rw append-nil
         go (p ∷ ps) n = absurd (omega arith)
 

@@ -12,20 +12,19 @@ use Rattle.definition.specs.Names.{numbersOf, variableAt}
 use Rattle.definition.specs.Records.{numbers}
 use Rattle.definition.specs.Rule.{Structure}
 use Rattle.definition.specs.Writer.{twoBytes, numberBytes, statementField, fieldBytes}
-use Rattle.theory.proofs.Lists.{never, mem-has, each-append}
+use Rattle.theory.proofs.Lists.{never, mem-has, each-append, length-each, getD-each}
 use Rattle.theory.proofs.Numbers.{length-numbers-written}
 use Rattle.records.specs.Places.{twoAt, stretch}
-use Rattle.records.specs.Buffer.{Put, capped, headBytes}
+use Rattle.records.specs.Buffer.{Put, capped}
 use Rattle.records.proofs.Link.{one-more}
-use Rattle.records.proofs.Tail.{counted}
+use Rattle.records.proofs.Tail.{counted, then}
 use Rattle.rule.specs.Elements.{elementNumbers, Finds}
 use Rattle.rule.specs.declared.elements.Found.the-variants.{At, Nothing}
 use Rattle.rule.proofs.Finding.{numbers-length}
 use Rattle.rows.proofs.Parts.{get-mem, take-more, store-more, count-in, element-in}
 use Rattle.naming.specs.Structures.{structureIn, Laid}
 use Rattle.naming.proofs.Placed.{elements-are, numbers-are}
-use Rattle.statements.specs.Parts.{statementOf, variableBy, NamedIn}
-use Rattle.statements.specs.declared.statement.Statement as put
+use Rattle.statements.specs.Parts.{statementHead, variableBy, NamedIn}
 
 -- An element that was found: its variable stands in the row at its place. An element is found.
 module _ {s index : List ℕ} {k : ℕ} (l : Laid s index k) where
@@ -78,30 +77,56 @@ took s start count {i} h a b t =
     let c = count-in s start count h in
     rw e at (t .same) ∙ rw (take-all count (numbers (stretch s start (2 * count))) (omega arith))
 
--- The bytes of the first `count` variables, from an index on.
-unfoldable pub varsFrom : List ℕ → ℕ → ℕ → List ℕ
-varsFrom vars count i = numberBytes (drop i (take count vars))
+-- The bytes of variables, from an index on.
+unfoldable pub varsFrom : List ℕ → ℕ → List ℕ
+varsFrom vs i = numberBytes (drop i vs)
 
+module _ (vs : List ℕ) (i : ℕ) where
+  vars-on : i < length vs → varsFrom vs i ≡ twoBytes (getD vs i 0) ++ varsFrom vs (i + 1)
+  unfolding varsFrom numberBytes
+  vars-on h = rw (one-more vs i h)
+
+  vars-end : length vs ≤ i → varsFrom vs i ≡ []
+  unfolding varsFrom numberBytes
+  vars-end h = rw (drop-of-length-le vs h)
+
+-- Those of the first `count` variables of a list.
 module _ (vars : List ℕ) {count : ℕ} (h : count ≤ length vars) (i : ℕ) where
-  pub vars-on : i < count → varsFrom vars count i ≡ twoBytes (getD vars i 0) ++ varsFrom vars count (i + 1)
-  unfolding varsFrom numberBytes
-  vars-on l =
-      let n : i < length (take count vars) = rw (length-take-le count vars h) l in
-      rw (one-more (take count vars) i n, getD-take count vars i 0 l)
+  pub first-on : i < count → varsFrom (take count vars) i ≡ twoBytes (getD vars i 0) ++ varsFrom (take count vars) (i + 1)
+  first-on b = let n = length-take-le count vars h in rw (← (getD-take count vars i 0 b)) (vars-on (take count vars) i (omega arith))
 
-  pub vars-end : count ≤ i → varsFrom vars count i ≡ []
-  unfolding varsFrom numberBytes
-  vars-end l = let n : length (take count vars) ≤ i = rw (length-take-le count vars h) l in rw (drop-of-length-le (take count vars) n)
+  pub first-end : count ≤ i → varsFrom (take count vars) i ≡ []
+  first-end b = let n = length-take-le count vars h in vars-end (take count vars) i (omega arith)
 
--- A statement: its head, its kind, its symbol, its variables.
-pub statement-parts : (letter : ℕ) (x : put.Statement) → x .count ≤ length (x .vars)
-    → (headBytes letter (3 + 2 * x .count) ++ (x .kind ∷ []) ++ twoBytes (x .symbol)) ++ varsFrom (x .vars) (x .count) 0 ≡ fieldBytes (statementField letter (statementOf x))
-unfolding fieldBytes statementField numberBytes varsFrom
-statement-parts letter x h =
-    let a : length (numberBytes (x .symbol ∷ take (x .count) (x .vars))) ≡ 2 * suc (length (take (x .count) (x .vars))) = length-numbers-written (x .symbol ∷ take (x .count) (x .vars)) in
-    let b = length-take-le (x .count) (x .vars) h in
-    let n : suc (length (numberBytes (x .symbol ∷ take (x .count) (x .vars)))) ≡ 3 + 2 * x .count = omega arith in
+-- Those of the elements that stand in a stretch.
+module _ (s : List ℕ) (start count : ℕ) (h : start + 2 * count ≤ length s) (variable : ℕ → ℕ) where
+  pub stretch-many : length (each variable (numbers (stretch s start (2 * count)))) ≡ count
+  stretch-many = length-each variable (numbers (stretch s start (2 * count))) ∙ count-in s start count h
+
+  module _ (i : ℕ) where
+    pub stretch-on : i < count → {v : ℕ} → v ≡ variable (twoAt s (start + 2 * i))
+        → varsFrom (each variable (numbers (stretch s start (2 * count)))) i ≡ twoBytes v ++ varsFrom (each variable (numbers (stretch s start (2 * count)))) (i + 1)
+    stretch-on b e =
+        let c = count-in s start count h in
+        let n = stretch-many in
+        let g = getD-each variable (numbers (stretch s start (2 * count))) i 0 0 (omega arith) in
+        rw (e, ← (element-in s start count h i b), ← g) (vars-on (each variable (numbers (stretch s start (2 * count)))) i (omega arith))
+
+    pub stretch-end : count ≤ i → varsFrom (each variable (numbers (stretch s start (2 * count)))) i ≡ []
+    stretch-end b = let n = stretch-many in vars-end (each variable (numbers (stretch s start (2 * count)))) i (omega arith)
+
+-- A statement: what stands before its variables, then these.
+statement-parts : (letter : ℕ) (x : Statement) {count : ℕ} → length (x .variables) ≡ count
+    → statementHead letter (x .kind) (x .symbol) count ++ varsFrom (x .variables) 0 ≡ fieldBytes (statementField letter x)
+unfolding fieldBytes statementField numberBytes varsFrom statementHead
+statement-parts letter x {count} h =
+    let a : length (numberBytes (x .symbol ∷ x .variables)) ≡ 2 * suc (length (x .variables)) = length-numbers-written (x .symbol ∷ x .variables) in
+    let n : suc (length (numberBytes (x .symbol ∷ x .variables))) ≡ 3 + 2 * count = omega arith in
     rw (← n)
+
+pub statement-put : (letter : ℕ) (x : Statement) {out₀ out₁ out : List ℕ} {count at r : ℕ} → length (x .variables) ≡ count → Put out₀ out₁ (statementHead letter (x .kind) (x .symbol) count) 0 at
+    → Put out₁ out (varsFrom (x .variables) 0) at r → Put out₀ out (fieldBytes (statementField letter x)) 0 r
+statement-put letter x h a b = rw (← (statement-parts letter x h)) (then a b)
 
 -- A statement by its length. Where nothing of it fits, it is counted.
 module _ (letter : ℕ) (x : Statement) where

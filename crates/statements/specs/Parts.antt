@@ -4,11 +4,14 @@ use Prim.Native.Nat.{ℕ, _+_, _-_, _*_, _≤_}
 use lib.Dec.{eqb}
 use lib.ListN.{length, take}
 use Rattle.definition.specs.Base.{pick, keep, each, _∈_}
+use Rattle.definition.specs.Letters.{typeSet}
 use Rattle.definition.specs.Records.{numbers}
 use Rattle.definition.specs.Rule.{Structure, Element, Row}
 use Rattle.definition.specs.Group.{Statement}
 use Rattle.definition.specs.Names.{numbersOf, variableAt}
 use Rattle.definition.specs.Rows.{members, rowStatement, typeSets}
+use Rattle.definition.specs.Writer.{twoBytes}
+use Rattle.records.specs.Buffer.{headBytes}
 use Rattle.records.specs.Places.{twoAt, stretch}
 use Rattle.rows.specs.Elements.{elementIn}
 use Rattle.naming.specs.Structures.{structureIn}
@@ -20,6 +23,10 @@ use Rattle.statements.specs.declared.sections.Chosen.{Chosen}
 -- A statement that was put together, as the definition's.
 abbrev pub statementOf : put.Statement → Statement
 statementOf x = record { kind = x .kind; symbol = x .symbol; variables = take (x .count) (x .vars) }
+
+-- What stands before a statement's variables: the head of its field, its kind, its symbol.
+unfoldable pub statementHead : ℕ → ℕ → ℕ → ℕ → List ℕ
+statementHead letter kind symbol count = headBytes letter (3 + 2 * count) ++ (kind ∷ []) ++ twoBytes symbol
 
 -- The variable of an element, where those of its structure's elements stand in a row.
 abbrev pub variableBy : Structure → List ℕ → ℕ → ℕ
@@ -58,6 +65,10 @@ pub record Chooses (c : Chosen) : Type 0 where
 -- An element as a statement of a kind: its type, its parents and itself.
 unfoldable pub elementStatement : (ℕ → ℕ) → ℕ → Element → Statement
 elementStatement variable kind e = record { kind = kind; symbol = e .type; variables = each variable (e .parents ++ (e .number ∷ [])) }
+
+-- The TypeSet of a variable with a type.
+unfoldable pub typeSetOf : ℕ → ℕ → Statement
+typeSetOf type v = record { kind = typeSet; symbol = type; variables = v ∷ [] }
 
 -- The element at a place; the flagged member rows; the TypeSets of elements.
 abbrev pub elementSaid : List ℕ → List ℕ → ℕ → List ℕ → ℕ → ℕ → Statement

@@ -37,8 +37,15 @@ use signature::ids::EQUALITY;
 // How many variables an Equality has.
 const EQUALITY_VARS: usize = 2;
 
+// A type as a number.
+fn number(ty: u8) -> u16
+    ensures { λ r. ⌜ r ≡ ty ⌝ }
+{
+    ty as u16
+}
+
 // The Equality of two variables, typed as the first one is.
-fn put_equality(out: &mut [u8], from: usize, letter: u8, types: &[u16], v: u16, w: u16) -> usize
+fn put_equality(out: &mut [u8], from: usize, letter: u8, types: &[u8], v: u16, w: u16) -> usize
     requires { ⌜ (from ≤ countLimit) × (v < length (now types)) ⌝ }
     ensures { λ r. ⌜ Put (now (out .entry)) (now (out .exit)) (fieldBytes (statementField letter (equalityOf (now (types .entry)) v w))) from r ⌝ }
 {
@@ -46,7 +53,7 @@ fn put_equality(out: &mut [u8], from: usize, letter: u8, types: &[u16], v: u16, 
     if out.len() <= from {
         return counted(from, EQUALITY_VARS);
     }
-    let symbol = types[place(v)];
+    let symbol = number(types[place(v)]);
     let vars = [v, w, 0, 0, 0, 0, 0, 0];
     put_statement(
         out,
@@ -69,7 +76,7 @@ fn put_later(
     s: &[u8],
     m: Map,
     vars: &[u16; FIELDS],
-    types: &[u16],
+    types: &[u8],
     p: usize,
 ) -> usize
     requires { ⌜ (from ≤ countLimit) × (p < m .pairs) ⌝ }
@@ -99,7 +106,7 @@ fn put_fiber(
     s: &[u8],
     m: Map,
     vars: &[u16; FIELDS],
-    types: &[u16],
+    types: &[u8],
     e: ElId,
 ) -> usize
     requires { ⌜ from ≤ countLimit ⌝ }
@@ -129,7 +136,7 @@ fn put_kernel_pairs(
     tgt: usize,
     m: Map,
     vars: &[u16; FIELDS],
-    types: &[u16],
+    types: &[u8],
 ) -> usize
     requires { ⌜ from ≤ countLimit ⌝ }
     requires { ⌜ Stands (now s) (now index) tgt ⌝ }
@@ -159,7 +166,7 @@ pub fn put_equalities(
     tgt: usize,
     row: [u16; FIELDS],
     m: Map,
-    types: &[u16],
+    types: &[u8],
 ) -> usize
     requires { ⌜ from ≤ countLimit ⌝ }
     requires { ⌜ Stands (now s) (now index) src × Stands (now s) (now index) tgt ⌝ }

@@ -9,13 +9,17 @@ ghost use Rattle.rows.specs.Elements.{elementIn};
 ghost use Rattle.naming.specs.Structures.{structureIn};
 ghost use Rattle.statements.specs.Said.{flagged};
 ghost use Rattle.statements.specs.Structures.{Stands};
-ghost use Rattle.statements.specs.Parts.{elementSaid, membersSaid, typesSaid};
+ghost use Rattle.statements.specs.Parts.{elementSaid, membersSaid, typeSetOf, typesSaid};
 use crate::sections::vars_of;
 use crate::statement::Statement;
 use crate::statement::counted;
 use crate::statement::put_statement;
+use crate::statement::put_statement_head;
 use flags::flag;
 use records::fields::wide;
+use records::write::past;
+use records::write::put_num;
+use records::write::rest_at;
 use rows::elements::read_element;
 use rows::order::sorted_members;
 use rule::elements::element_count;
@@ -23,6 +27,10 @@ use rule::ids::FIELDS;
 use rule::ids::RULE_INDEX;
 use signature::ids::MEMBER;
 use signature::ids::TYPE_SET;
+use signature::ids::TypeId;
+
+// How many variables a TypeSet has.
+const TYPE_SET_VARS: usize = 1;
 
 // An element as a statement of a kind: its type, its parents and itself.
 fn put_element(
@@ -96,6 +104,14 @@ pub fn put_members(
     at
 }
 
+// A TypeSet at the front of a buffer.
+fn write_type_set(out: &mut [u8], letter: u8, ty: TypeId, v: u16) -> usize
+    ensures { λ r. ⌜ Put (now (out .entry)) (now (out .exit)) (fieldBytes (statementField letter (typeSetOf (ty .0) v))) 0 r ⌝ }
+{
+    let at = put_statement_head(out, letter, TYPE_SET, ty.0, TYPE_SET_VARS);
+    put_num(out, at, v)
+}
+
 // The TypeSet of an element, if it has no parents.
 fn put_type_set(
     out: &mut [u8],
@@ -112,10 +128,16 @@ fn put_type_set(
     ensures { λ r. ⌜ Put (now (out .entry)) (now (out .exit)) (statementBytes letter (typesSaid (structureIn (now (s .entry)) k) (now (row .entry)) (elementIn (now (s .entry)) (now (index .entry)) k i ∷ []))) from r ⌝ }
 {
     let e = read_element(s, index, k, i);
-    if e.parents == 0 {
-        return put_element(out, from, letter, TYPE_SET, s, index, k, row, i);
+    if e.parents != 0 {
+        return from;
     }
-    from
+    // Nothing of it fits: its length is enough.
+    if out.len() <= from {
+        return counted(from, TYPE_SET_VARS);
+    }
+    let rest = rest_at(from, out.len());
+    let len = write_type_set(&mut out[rest..], letter, e.ty, row[i]);
+    past(from, len)
 }
 
 // The TypeSets of the flagged elements without parents.

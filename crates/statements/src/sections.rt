@@ -12,13 +12,15 @@ ghost use Rattle.records.specs.Buffer.{Put, countLimit};
 ghost use Rattle.naming.specs.Structures.{structureIn, Laid};
 ghost use Rattle.statements.specs.Structures.{Stands};
 ghost use Rattle.statements.specs.Parts.{variableBy, NamedIn, rowSaid, chosenStatements, Chooses};
-use crate::statement::Statement;
 use crate::statement::counted;
-use crate::statement::put_statement;
+use crate::statement::put_statement_head;
 use flags::flag;
 use records::fields::Field;
 use records::fields::num;
 use records::fields::read_field;
+use records::write::past;
+use records::write::put_num;
+use records::write::rest_at;
 use rule::elements::Found;
 use rule::elements::find_element;
 use rule::ids::ElId;
@@ -64,6 +66,36 @@ pub fn vars_of(
     vars
 }
 
+// A row as a statement at the front of a buffer, each variable written as it is found.
+fn write_row(
+    out: &mut [u8],
+    letter: u8,
+    kind: u8,
+    s: &[u8],
+    index: &[u16; RULE_INDEX],
+    k: usize,
+    row: &[u16; FIELDS],
+    start: usize,
+    count: usize,
+) -> usize
+    requires { ⌜ (start + 2 + 2 * count ≤ length (now s)) × (count ≤ columnLimit) ⌝ }
+    requires { ⌜ Laid (now s) (now index) k ⌝ }
+    requires { ⌜ NamedIn (structureIn (now s) k) (numbers (stretch (now s) (start + 2) (2 * count))) ⌝ }
+    ensures { λ r. ⌜ Put (now (out .entry)) (now (out .exit)) (fieldBytes (statementField letter (rowSaid (now (s .entry)) k (now (row .entry)) kind start count))) 0 r ⌝ }
+{
+    let mut at = put_statement_head(out, letter, kind, num(s, start), count);
+    let mut i: usize = 0;
+    while i < count {
+        let f = find_element(s, index, k, ElId(num(s, start + 2 + 2 * i)));
+        let Found::At(j) = f else {
+            return at;
+        };
+        at = put_num(out, at, row[j]);
+        i += 1;
+    }
+    at
+}
+
 // A row as a statement of a kind, with so many of its elements.
 fn put_row(
     out: &mut [u8],
@@ -86,19 +118,19 @@ fn put_row(
     if out.len() <= from {
         return counted(from, count);
     }
-    let vars = vars_of(s, index, k, row, start + 2, count);
-    let symbol = num(s, start);
-    put_statement(
-        out,
-        from,
+    let rest = rest_at(from, out.len());
+    let len = write_row(
+        &mut out[rest..],
         letter,
-        Statement {
-            kind,
-            symbol,
-            vars,
-            count,
-        },
-    )
+        kind,
+        s,
+        index,
+        k,
+        row,
+        start,
+        count,
+    );
+    past(from, len)
 }
 
 // The chosen rows of a structure, along their section.

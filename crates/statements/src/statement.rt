@@ -6,7 +6,7 @@ ghost use Rattle.definition.specs.Group as definition;
 ghost use Rattle.definition.specs.Limits.{columnLimit};
 ghost use Rattle.definition.specs.Writer.{statementField, fieldBytes};
 ghost use Rattle.records.specs.Buffer.{Put, capped, countLimit};
-ghost use Rattle.statements.specs.Parts.{statementOf};
+ghost use Rattle.statements.specs.Parts.{statementOf, statementHead};
 use records::write::past;
 use records::write::put_byte;
 use records::write::put_field_head;
@@ -22,15 +22,23 @@ pub struct Statement {
     pub count: usize,
 }
 
+// What stands before a statement's variables, at the front of a buffer: the head of its field, its kind, its symbol.
+pub fn put_statement_head(out: &mut [u8], letter: u8, kind: u8, symbol: u16, count: usize) -> usize
+    requires { ⌜ count ≤ columnLimit ⌝ }
+    ensures { λ r. ⌜ Put (now (out .entry)) (now (out .exit)) (statementHead letter kind symbol count) 0 r ⌝ }
+{
+    let head = put_field_head(out, 0, letter, (3 + 2 * count) as u16);
+    let behind = put_byte(out, head, kind);
+    put_num(out, behind, symbol)
+}
+
 // A statement at the front of a buffer.
 fn write_statement(out: &mut [u8], letter: u8, x: Statement) -> usize
     requires { ⌜ x .count ≤ columnLimit ⌝ }
     ensures { λ r. ⌜ Put (now (out .entry)) (now (out .exit)) (fieldBytes (statementField letter (statementOf x))) 0 r ⌝ }
 {
     let vars = x.vars;
-    let head = put_field_head(out, 0, letter, (3 + 2 * x.count) as u16);
-    let behind = put_byte(out, head, x.kind);
-    let mut at = put_num(out, behind, x.symbol);
+    let mut at = put_statement_head(out, letter, x.kind, x.symbol, x.count);
     let mut i: usize = 0;
     while i < x.count {
         at = put_num(out, at, vars[i]);

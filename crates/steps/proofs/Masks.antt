@@ -9,8 +9,7 @@ use mathlib.Core.Logic.{_⊎_, inl, inr}
 use mathlib.Core.Path.{_≡_, refl, sym, _∙_}
 use borrow.Author.Tests.{ne-eqb}
 use lib.Dec.{eqb}
-use lib.ListN.{length, getD, take}
-use lib.Seq.{getD-take}
+use lib.ListN.{length, getD}
 use Rattle.definition.specs.Base.{consIf, keep, each}
 use Rattle.theory.proofs.Lists.{trichotomy}
 use Rattle.flags.specs.Flags.{flagAt, Packed}
@@ -30,8 +29,8 @@ module _ {A : Type 0} (mask : ℕ) (f : A → Bool) where
   pub flagged-keep : (xs : List A) → ((j : ℕ) → j < length xs → flagAt mask j ≡ getD (each f xs) j false) → flagged mask xs ≡ keep f xs
   flagged-keep xs h = flagged-from 0 xs (λ j l. let e : 0 + j ≡ j = omega arith in rw e (h j l))
 
-  pub packed-keep : {row : List Bool} {count : ℕ} (xs : List A) → Packed mask row count → length xs ≤ count → take (length xs) row ≡ each f xs → flagged mask xs ≡ keep f xs
-  packed-keep {row} xs p l e = flagged-keep xs (λ j h. p .flags .same j (omega arith) ∙ sym (getD-take (length xs) row j false h) ∙ rw e)
+  pub packed-keep : (xs : List A) → Packed mask (each f xs) (length xs) → flagged mask xs ≡ keep f xs
+  packed-keep xs p = flagged-keep xs (p .flags .same)
 
 -- No flag is set in nothing, and one in the power of its place.
 pub no-flag : (i : ℕ) → flagAt 0 i ≡ false

@@ -1,5 +1,5 @@
 -- The new rows of a map's target, by the three sorts.
-use Prim.Native.Nat.{ℕ, min, _+_, _-_, _*_, _/_, _≤_, _<_}
+use Prim.Native.Nat.{ℕ, _+_, _*_, _≤_, _<_}
 use native.Mathlib.Omega.{arith}
 use mathlib.Core.Bool.{Bool, true, false, not, _&&_}
 use mathlib.Core.List.{List, [], _∷_}
@@ -26,6 +26,7 @@ use Rattle.rows.specs.declared.table.Images.{Images}
 use Rattle.rows.specs.declared.table.Images.the-variants as images
 use Rattle.rows.proofs.ElementLaws.{noElement, elements-many, elements-get}
 use Rattle.rows.proofs.Kept.{flag-at}
+use Rattle.rows.proofs.MemberLaws.{no-member-rows, no-new-member}
 use Rattle.flags.specs.Flags.{Packed, PackedLess}
 use Rattle.naming.specs.Structures.{structureIn}
 use Rattle.statements.specs.Structures.{SoundAt}
@@ -33,7 +34,7 @@ use Rattle.steps.specs.Added.{Between, SectionRun, SectionRows, NewRows,
 use Rattle.steps.specs.declared.added.Flagged.{Flagged}
 use Rattle.steps.specs.declared.added.Flagged.the-variants as flagged-as
 use Rattle.steps.specs.declared.step.Step.the-variants.{Adds, Refused}
-use Rattle.steps.proofs.Masks.{packed-keep, none-flagged}
+use Rattle.steps.proofs.Masks.{packed-keep, no-flag, none-flagged}
 
 -- The same fields stand between two positions, however they were told.
 pub run-same : {s : List ℕ} {at end : ℕ} {fs gs : List Field} → Run s at end fs → Run s at end gs → fs ≡ gs
@@ -64,30 +65,18 @@ pub rows-lack : {pairs : List Pair} {sources targets : List Row} {symbols els : 
     → NewRows flagged-as.Unmapped pairs sources targets
 rows-lack w e = record { is = lacking w e }
 
--- They are few: no more than the limit, nor than there is room for.
-run-most : {s : List ℕ} {at end : ℕ} {fs : List Field} → Run s at end fs → at + 3 * length fs ≤ end
-run-most none = omega arith
-run-most {s} (more {at} e r) = let g = got-is s at e in let h = run-most r in omega arith
-
-pub section-few : {s : List ℕ} {from end most : ℕ} {fs : List Field} → RowsFrom s from end → Run s from end fs → most ≡ min ((end - from) / 3) fieldLimit → length fs ≤ most
-section-few {s} {from} {end} {most} {fs} w r e = let a = run-most r in let b : length fs ≤ fieldLimit = rw (run-same r (w .run)) (w .few) in omega arith
-
-pub section-room : {s : List ℕ} {from end : ℕ} → RowsFrom s from end → from ≤ end
-section-room w = run-le (w .run)
-
 pub images-few : {s : List ℕ} {from end : ℕ} {pairs : List Pair} {symbols els : List ℕ} {r : Images} {n : ℕ} (w : RowsFrom s from end)
     → Imaged r pairs (each (rowOf 0) (w .fields)) symbols els → r ≡ images.Count n → n ≤ fieldLimit
 images-few w i e = let a = few-images i e in let b = length-each (rowOf 0) (w .fields) in omega (arith, w .few)
 
-pub rows-new : {kind n mask most : ℕ} {columns : ℕ → ℕ} {pairs : List Pair} {sources : List Row} {symbols els : List ℕ} {flags : List Bool} {r : Images} (gs : List Field)
-    → Imaged r pairs sources symbols els → r ≡ images.Count n → Alike kind columns sources → length gs ≤ most
-    → (Holds kind columns pairs sources symbols els n → take (length gs) flags ≡ each (isNew pairs sources) (each (rowOf kind) gs))
-    → Packed mask flags most → NewRows (flagged-as.Of mask) pairs sources (each (rowOf kind) gs)
-rows-new {kind} {mask = mask} {pairs = pairs} {sources} gs w e a l h p =
+pub rows-new : {kind n mask : ℕ} {columns : ℕ → ℕ} {pairs : List Pair} {sources : List Row} {symbols els : List ℕ} {r : Images} (gs : List Field)
+    → Imaged r pairs sources symbols els → r ≡ images.Count n → Alike kind columns sources
+    → (Holds kind columns pairs sources symbols els n → Packed mask (each (isNew pairs sources) (each (rowOf kind) gs)) (length gs))
+    → NewRows (flagged-as.Of mask) pairs sources (each (rowOf kind) gs)
+rows-new {kind} {mask = mask} {pairs = pairs} {sources} gs w e a h =
     let v = rw e at w in
-    let t = h (record { held = v .is .2; count = v .is .1; alike = a }) in
-    let n = length-each (rowOf kind) gs in
-    record { is = (v .is .0, packed-keep mask (isNew pairs sources) (each (rowOf kind) gs) p (omega arith) (rw n t)) }
+    let p = h (record { held = v .is .2; count = v .is .1; alike = a }) in
+    record { is = (v .is .0, packed-keep mask (isNew pairs sources) (each (rowOf kind) gs) (rw (length-each (rowOf kind) gs) p)) }
 
 -- Without rows on either side there is nothing new.
 pub no-rows : {s : List ℕ} {from end start stop : ℕ} (kind : ℕ) {pairs : List Pair} {fs gs : List Field} → Run s from end fs → from ≡ end → Run s start stop gs → start ≡ stop
@@ -157,6 +146,13 @@ module _ {s index : List ℕ} {src tgt : ℕ} {m : Map} (w : Between s index src
       at u j q =
           let k = elements-many s index tgt in
           flag-at (newMember (pairsIn s m) olds) (elementsIn s index tgt) flags (rw k u) j noElement (rw k q) ∙ ap (newMember (pairsIn s m) olds) (elements-get s index tgt j q)
+
+  -- Without member rows on either side there is nothing new.
+  pub no-members : any hasParents (elementsIn s index src) ≡ false → any hasParents (elementsIn s index tgt) ≡ false → (marks : List Bool) → NewMembers (flagged-as.Of 0) s index src tgt m marks
+  unfolding any
+  no-members a b marks =
+      let e : olds ≡ [] = sym old-rows ∙ no-member-rows s index src a in
+      record { is = (rw e, λ i l. no-flag i ∙ rw (no-new-member s index tgt b (pairsIn s m) olds i l)) }
 
   -- The sections of R and A rows.
   abbrev SectionNew : Flagged → ℕ → Type 0

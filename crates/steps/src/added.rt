@@ -1,10 +1,9 @@
 // The rows and members of a map's target that are no images of the source's: a flag for each, or that a row of the source has an
 // element without an image.
 ghost use mathlib.Core.List.{List};
-ghost use mathlib.Core.Path.{_≡_};
-ghost use Prim.Native.Nat.{ℕ, min, _-_, _/_, _≤_, _<_};
+ghost use Prim.Native.Nat.{ℕ, _≤_, _<_};
 ghost use Rattle.definition.specs.Base.{each};
-ghost use Rattle.definition.specs.Limits.{structureLimit, fieldLimit};
+ghost use Rattle.definition.specs.Limits.{structureLimit};
 ghost use Rattle.definition.specs.Records as definition;
 ghost use Rattle.definition.specs.Rule.{rowOf};
 ghost use Rattle.records.specs.Places.{Run};
@@ -12,9 +11,9 @@ ghost use Rattle.rows.specs.Maps.{pairsIn, MapIn};
 ghost use Rattle.rows.specs.Table.{RowsFrom, Alike};
 ghost use Rattle.steps.specs.Added.{Between, SectionRun, SectionRows, NewRows, NewMembers, AddsRows};
 use crate::step::Step;
-use flags::packed;
 use flags::packed_less;
 use rows::maps::Map;
+use rows::members::has_members;
 use rows::members::mapped_members;
 use rows::members::new_members;
 use rows::table::Images;
@@ -40,19 +39,6 @@ pub const SECTION_R: usize = SECTION_S + 2;
 
 pub const SECTION_A: usize = SECTION_S + 3;
 
-// As many fields as there can be between two positions, each with a head of three bytes, up to a structure's limit: so few are
-// looked at where there are few.
-fn most_fields(from: usize, end: usize) -> usize
-    requires { ⌜ from ≤ end ⌝ }
-    ensures { λ r. ⌜ r ≡ min ((end - from) / 3) fieldLimit ⌝ }
-{
-    let most = (end - from) / 3;
-    if ROWS < most {
-        return ROWS;
-    }
-    most
-}
-
 // Which rows from `start` to `stop` are no images of those from `from` to `end`.
 fn new_between(s: &[u8], from: usize, end: usize, m: Map, start: usize, stop: usize) -> Flagged
     requires { ⌜ MapIn (now s) m ⌝ }
@@ -68,8 +54,7 @@ fn new_between(s: &[u8], from: usize, end: usize, m: Map, start: usize, stop: us
     let Images::Count(images) = mapped else {
         return Flagged::Unmapped;
     };
-    let new = new_rows(s, start, stop, &symbols, &els, images);
-    Flagged::Of(packed(new, most_fields(start, stop)))
+    Flagged::Of(new_rows(s, start, stop, &symbols, &els, images))
 }
 
 // Which R or A rows of the target are new. Small rules often have none on either side: then no tables are cleared for them.
@@ -104,7 +89,7 @@ fn new_section(
     new_between(s, from, end, m, start, stop)
 }
 
-// Which elements of the target have a new member row and no mark.
+// Which elements of the target have a new member row and no mark. Here too no tables are cleared where there are none on either side.
 fn new_unmarked(
     s: &[u8],
     index: &[u16; RULE_INDEX],
@@ -116,6 +101,11 @@ fn new_unmarked(
     requires { ⌜ Between (now s) (now index) src tgt m ⌝ }
     ensures { λ r. ⌜ NewMembers r (now (s .entry)) (now (index .entry)) src tgt m marks ⌝ }
 {
+    if !has_members(s, index, src) {
+        if !has_members(s, index, tgt) {
+            return Flagged::Of(0);
+        }
+    }
     let mut symbols = [0u16; ROWS];
     let mut els = [0u16; TABLE];
     let mapped = mapped_members(s, index, src, m, &mut symbols, &mut els);

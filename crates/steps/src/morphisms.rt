@@ -57,7 +57,7 @@ fn clashes(
     tgt: usize,
     m: Map,
     source: [u16; FIELDS],
-    types: &[u16],
+    types: &[u8],
 ) -> bool
     requires { ⌜ Between (now s) (now index) src tgt m ⌝ }
     requires { ⌜ Joins (now s) src tgt m ⌝ }
@@ -80,7 +80,7 @@ fn new_masks(
     tgt: usize,
     m: Map,
     source: [u16; FIELDS],
-    types: &[u16],
+    types: &[u8],
     marks: [bool; ROWS],
 ) -> Step
     requires { ⌜ Between (now s) (now index) src tgt m ⌝ }
@@ -109,7 +109,7 @@ pub fn flatten_if_arbitrary(
     source: [u16; FIELDS],
     target: [u16; FIELDS],
     first: u16,
-    types: &[u16],
+    types: &[u8],
 ) -> Step
     requires { ⌜ Indexed (now sig) (now arities) counts ⌝ }
     requires { ⌜ Reaches (signatureAt (now sig) (now arities) counts) (now s) (now index) src tgt m source target first ⌝ }
@@ -148,7 +148,7 @@ pub fn flatten_surj_then(
     source: [u16; FIELDS],
     target: [u16; FIELDS],
     first: u16,
-    types: &[u16],
+    types: &[u8],
 ) -> Step
     requires { ⌜ Reaches (signatureAt (now sig) (now arities) counts) (now s) (now index) src tgt m source target first ⌝ }
     requires { ⌜ GivenOut (structureIn (now s) src) source (length (now types)) ⌝ }

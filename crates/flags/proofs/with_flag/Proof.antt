@@ -6,15 +6,12 @@ use Rattle.flags.proofs.with_flag.Tie as tie
 use Rattle.flags.proofs.with_flag.Reads as reads
 use Rattle.flags.proofs.with_flag.Lts as lts
 
--- src/lib.rt:20:13
 shl-result : tie.Need-shl-result
 shl-result c = search needs
 
--- src/lib.rt:20:5
 add-result : tie.Need-add-result
 add-result c = let f = pow-fits (c .args .i) (c .pre .0) in let l = c .pre .1 in rw (shift-is (c .args .i) (c .pre .0)) (search needs)
 
--- src/lib.rt:16:1
 returns : tie.Need-returns
 returns c = rw (shift-is (c .args .i) (c .pre .0))
 

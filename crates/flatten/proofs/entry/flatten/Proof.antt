@@ -10,37 +10,29 @@ use Rattle.flatten.proofs.entry.flatten_rule.Reads as flatten-rule-read
 use Rattle.flatten.proofs.entry.number.Reads as number-reads
 use Rattle.reading.proofs.read_rule_into.Reads as read-rule-into-reads
 
--- src/entry.rt:130:9
 read-rule-into-requires : tie.Need-read-rule-into-requires
 read-rule-into-requires c κs = search needs
 
--- src/entry.rt:131:30
 enum-known-r : tie.Need-enum-known-r
 enum-known-r c = search needs
 
--- src/entry.rt:132:35
 enum-told : tie.Need-enum-told
 enum-told c = search needs
 
--- src/entry.rt:132:35
 number-requires : tie.Need-number-requires
 number-requires c κs = search needs
 
--- src/entry.rt:132:9
 returns : tie.Need-returns
 returns c =
     let u = unread _ _ _ _ (c .before .before .before .read-rule-into .ensures .0) (c .before .enum-told .given .1) (c .number .ensures) in
     (sym u, ((omega arith, refl), tt))
 
--- src/entry.rt:134:5
 flatten-rule-requires : tie.Need-flatten-rule-requires
 flatten-rule-requires c κs = let r = c .before .before .before .before in let w = r .before .before .read-rule-into .ensures in readable _ _ _ _ _ (w .0) (w .1) (r .r .given .1)
 
--- src/entry.rt:123:1
 same-length : tie.Need-same-length
 same-length c = search needs
 
--- src/entry.rt:123:1
 returns-2 : tie.Need-returns-2
 returns-2 c =
     let r = c .before .before .before .before .before .before .before in let w = r .before .before .read-rule-into .ensures in

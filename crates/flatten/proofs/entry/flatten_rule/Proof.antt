@@ -1,8 +1,9 @@
 use mathlib.Core.Path.{refl, sym, _∙_}
 use Rattle.signature.specs.Index.{signatureAt}
 use Rattle.flatten.specs.Ended.{Ground}
-use Rattle.flatten.proofs.Grounds.{AllMapped, ready, counted, ground, first-laid}
+use Rattle.flatten.proofs.Grounds.{AllMapped, ready, counted, ground, first-laid, byte-types}
 use Rattle.flatten.proofs.Writing.{begin-going, ended, ended-writes, refused-at-once, refused-21, refused-22, stopped-walk}
+use Rattle.kinds.proofs.TableLaws.{empty-table}
 use borrow.Author.Needs.{needs}
 use native.Mathlib.Omega.{arith}
 use Rattle.flatten.proofs.entry.flatten_rule.Statement.{statement}
@@ -31,95 +32,77 @@ all-mapped c = (sym (c .before .before .before .unmapped-auxiliary .ensures) ∙
 gr : (c : tie.Else2) → Ground (signatureAt (S c .args .sig .now) (S c .args .arities .now) (S c .args .counts)) (S c .args .s .now) (S c .args .index .now)
 gr c = ground (S c .pre) (all-mapped c)
 
--- src/entry.rt:89:8
 unmapped-auxiliary-requires : tie.Need-unmapped-auxiliary-requires
 unmapped-auxiliary-requires c κs = ready (c .before .before .before .pre)
 
--- src/entry.rt:90:9
 returns : tie.Need-returns
 returns c = refused-at-once _ (refused-21 _ _ _ (sym (c .before .unmapped-auxiliary .ensures) ∙ c .if1 .taken))
 
--- src/entry.rt:92:8
 unmapped-kind-requires : tie.Need-unmapped-kind-requires
 unmapped-kind-requires c κs = ready (c .before .before .before .before .before .pre)
 
--- src/entry.rt:93:9
 returns-2 : tie.Need-returns-2
 returns-2 c = refused-at-once _ (refused-22 _ _ _
     (sym (c .before .before .before .unmapped-auxiliary .ensures) ∙ c .before .before .if1 .left) (sym (c .before .unmapped-kind .ensures) ∙ c .if2 .taken))
 
--- src/entry.rt:95:17
 kind-table-requires : tie.Need-kind-table-requires
-kind-table-requires c κs = ready (S c .pre)
+kind-table-requires c κs = (ready (S (c .before) .pre), empty-table)
 
--- src/entry.rt:96:20
 initial-el-vars-requires : tie.Need-initial-el-vars-requires
-initial-el-vars-requires c κs = first-laid (gr (c .before))
+initial-el-vars-requires c κs = first-laid (gr (c .before .before))
 
 array-set-from-vars : tie.Need-array-set-from-vars
 array-set-from-vars c = search needs
 
--- src/entry.rt:98:5
 array-write-sources : tie.Need-array-write-sources
 array-write-sources c = search needs
 
--- src/entry.rt:100:16
 initial-matching-stmts-requires : tie.Need-initial-matching-stmts-requires
 initial-matching-stmts-requires c κs = search needs
 
--- src/entry.rt:100:5
 array-set-from-masks : tie.Need-array-set-from-masks
 array-set-from-masks c = search needs
 
--- src/entry.rt:102:45
 array-copy-out-type-variables : tie.Need-array-copy-out-type-variables
 array-copy-out-type-variables c = search needs
 
--- src/entry.rt:102:5
 type-variables-requires : tie.Need-type-variables-requires
-type-variables-requires c κs = (first-laid (gr (c .before .before .before .before .before)), (search needs, search needs))
+type-variables-requires c κs = let g = gr (c .before .before .before .before .before .before) in (first-laid g, (byte-types g _ (g .some-one), (search needs, search needs)))
 
--- src/entry.rt:103:9
 flatten-morphisms-requires : tie.Need-flatten-morphisms-requires
 flatten-morphisms-requires c κs =
     let i = c .before .before .before .before .before .before .before .before in let k = i .before .before in
-    let w = S (k .before) .pre in let g = gr (k .before) in
+    let w = S (k .before .before) .pre in let g = gr (k .before .before) in
     ((w .signature-indexed, g), ((counted w, k .kind-table .ensures),
       begin-going g (i .before .initial-el-vars .ensures) (c .before .before .before .before .before .type-variables .ensures) (i .initial-matching-stmts .ensures)))
 
 enum-told : tie.Need-enum-told
 enum-told c = search needs
 
--- src/entry.rt:107:35
 enum-told-2 : tie.Need-enum-told-2
 enum-told-2 c = search needs
 
--- src/entry.rt:107:35
 stopped-requires : tie.Need-stopped-requires
 stopped-requires c κs = search needs
 
--- src/entry.rt:107:9
 returns-3 : tie.Need-returns-3
 returns-3 c =
     let w = c .before .before .before in
-    refused-at-once _ (stopped-walk _ _ _ (all-mapped (w .before .before .before .before .before .before .before .before .before .before .before .before)) _
+    refused-at-once _ (stopped-walk _ _ _ (all-mapped (w .before .before .before .before .before .before .before .before .before .before .before .before .before)) _
       (w .flatten-morphisms .ensures) (c .before .enum-told2 .given .1) (c .stopped .ensures))
 
--- src/entry.rt:109:5
 write-group-requires : tie.Need-write-group-requires
 write-group-requires c κs =
     let e = c .before .before .before .before .before .before in let k = K e in
-    (counted (S (k .before) .pre), ended (gr (k .before)) (k .kind-table .ensures) _ (e .before .before .flatten-morphisms .ensures) (e .enum-told .given .1))
+    (counted (S (k .before .before) .pre), ended (gr (k .before .before)) (k .kind-table .ensures) _ (e .before .before .flatten-morphisms .ensures) (e .enum-told .given .1))
 
--- src/entry.rt:77:1
 same-length : tie.Need-same-length
 same-length c = search needs
 
--- src/entry.rt:77:1
 returns-4 : tie.Need-returns-4
 returns-4 c =
     let e = c .before .before .before .before .before .before .before .before .before in let k = K e in
-    ended-writes _ _ _ (all-mapped (k .before)) (gr (k .before)) (k .kind-table .ensures) _
+    ended-writes _ _ _ (all-mapped (k .before .before)) (gr (k .before .before)) (k .kind-table .ensures) _
       (e .before .before .flatten-morphisms .ensures) (e .enum-told .given .1) (c .before .before .write-group .ensures)
 
 pub flatten-rule-spec : {M : Type 1} → statement M

@@ -8,31 +8,24 @@ use Rattle.flatten.proofs.output.emits.Reads as reads
 use Rattle.flatten.proofs.output.emits.Lts as lts
 use Rattle.flatten.proofs.premise.reached_by.Reads as reached-by-reads
 
--- src/group.rt:42:9
 reached-by-requires : tie.Need-reached-by-requires
 reached-by-requires c κs = search needs
 
--- src/group.rt:44:9
 returns : tie.Need-returns
 returns c = emits-surj (c .before .reached-by .ensures) (c .if1 .taken)
 
--- src/group.rt:47:19
 mul-row : tie.Need-mul-row
 mul-row c = search needs
 
--- src/group.rt:47:19
 element-copy-out-row : tie.Need-element-copy-out-row
 element-copy-out-row c = search needs
 
--- src/group.rt:48:16
 array-read-result : tie.Need-array-read-result
 array-read-result c = search needs
 
--- src/group.rt:48:9
 returns-2 : tie.Need-returns-2
 returns-2 c = emits-rows (c .before .before .before .reached-by .ensures) (c .before .if2 .taken) refl
 
--- src/group.rt:38:1
 returns-3 : tie.Need-returns-3
 returns-3 c = emits-none (c .before .before .reached-by .ensures) (c .before .if1 .left) (c .if2 .left)
 

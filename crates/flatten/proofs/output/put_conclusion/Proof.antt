@@ -10,55 +10,43 @@ use Rattle.flatten.proofs.premise.put_both.Reads as put-both-reads
 use Rattle.flatten.proofs.premise.reached_by.Reads as reached-by-reads
 use Rattle.statements.proofs.writer.put_domains.Reads as put-domains-reads
 
--- src/group.rt:75:9
 reached-by-requires : tie.Need-reached-by-requires
 reached-by-requires c κs = let w = c .before .before .pre .1 in both-small (w .0) (w .1)
 
--- src/group.rt:77:9
 put-both-requires : tie.Need-put-both-requires
 put-both-requires c κs =
     let w = c .before .before .before .before .before .pre in
     ((w .0, surj-mapped (w .1 .0) (w .1 .1) (c .before .before .reached-by .ensures) (c .before .if1 .taken)), w .1)
 
--- src/group.rt:77:9
 same-length : tie.Need-same-length
 same-length c = search needs
 
--- src/group.rt:77:9
 returns : tie.Need-returns
 returns c =
     let a = c .before .before .before .before in let o = c .before .before .put-both .ensures in
     (λ e x q. surj-put e (a .before .before .before .before .pre .1 .1) (a .before .reached-by .ensures) (a .if1 .taken) q (o .0 e), o .1)
 
--- src/group.rt:91:15
 mul-row : tie.Need-mul-row
 mul-row c = search needs
 
--- src/group.rt:91:15
 element-copy-out-row : tie.Need-element-copy-out-row
 element-copy-out-row c = search needs
 
--- src/group.rt:92:47
 mul-put-domains : tie.Need-mul-put-domains
 mul-put-domains c = search needs
 
--- src/group.rt:92:47
 element-copy-out-put-domains : tie.Need-element-copy-out-put-domains
 element-copy-out-put-domains c = search needs
 
--- src/group.rt:92:56
 array-read-put-domains : tie.Need-array-read-put-domains
 array-read-put-domains c = search needs
 
--- src/group.rt:92:5
 put-domains-requires : tie.Need-put-domains-requires
 put-domains-requires c κs = let w = c .before .before .before .before .before .before .before .pre in (w .0, stands-at (w .1 .0) (w .1 .1))
 
--- src/group.rt:54:1
 same-length-2 : tie.Need-same-length-2
 same-length-2 c = search needs
 
--- src/group.rt:54:1
 returns-2 : tie.Need-returns-2
 returns-2 c =
     let a = c .before .before .before .before .before .before in let o = c .before .before .put-domains .ensures in

@@ -11,33 +11,26 @@ use Rattle.naming.proofs.writer.group_name_length.Reads as group-name-length-re
 use Rattle.naming.proofs.writer.put_group_name.Reads as put-group-name-reads
 use Rattle.records.proofs.write.put_field_head.Reads as put-field-head-reads
 
--- src/group.rt:177:49
 group-name-length-requires : tie.Need-group-name-length-requires
 group-name-length-requires c κs = search needs
 
--- src/group.rt:177:9
 put-field-head-requires : tie.Need-put-field-head-requires
 put-field-head-requires c κs = search needs
 
--- src/group.rt:178:9
 put-group-name-requires : tie.Need-put-group-name-requires
 put-group-name-requires c κs = search needs
 
--- src/group.rt:179:9
 put-all-variables-requires : tie.Need-put-all-variables-requires
 put-all-variables-requires c κs =
     let w = c .before .before .before .before .before .before .before .before .before .before .before .before .pre in
     ((omega (arith, c .before .before .before .put-group-name .ensures .size), w .0), ended-numbered (w .1))
 
--- src/group.rt:180:5
 put-rules-requires : tie.Need-put-rules-requires
 put-rules-requires c κs = search needs
 
--- src/group.rt:160:1
 same-length : tie.Need-same-length
 same-length c = search needs
 
--- src/group.rt:160:1
 returns : tie.Need-returns
 returns c =
     let o = c .before .before in let v = o .before .before .before .before in let n = v .before .before .before .before in let h = n .before .before .before .before in

@@ -13,41 +13,32 @@ use Rattle.naming.proofs.writer.put_rule_name.Reads as put-rule-name-reads
 use Rattle.naming.proofs.writer.rule_name_length.Reads as rule-name-length-reads
 use Rattle.records.proofs.write.put_field_head.Reads as put-field-head-reads
 
--- src/group.rt:118:52
 rule-name-length-requires : tie.Need-rule-name-length-requires
 rule-name-length-requires c κs = search needs
 
--- src/group.rt:118:9
 put-field-head-requires : tie.Need-put-field-head-requires
 put-field-head-requires c κs = search needs
 
--- src/group.rt:119:9
 put-rule-name-requires : tie.Need-put-rule-name-requires
 put-rule-name-requires c κs = search needs
 
--- src/group.rt:120:19
 element-copy-out-place : tie.Need-element-copy-out-place
 element-copy-out-place c = search needs
 
--- src/group.rt:120:9
 place-requires : tie.Need-place-requires
 place-requires c κs = search needs
 
--- src/group.rt:121:9
 put-premise-requires : tie.Need-put-premise-requires
 put-premise-requires c κs =
     let w = c .before .before .before .before .before .before .before .before .before .before .before .before .before .before .pre .1 in
     (omega (arith, c .before .before .before .before .before .put-rule-name .ensures .size), (w .0, source-reaching (w .0) (w .1) (c .before .place .ensures .0)))
 
--- src/group.rt:122:5
 put-conclusion-requires : tie.Need-put-conclusion-requires
 put-conclusion-requires c κs = search needs
 
--- src/group.rt:96:1
 same-length : tie.Need-same-length
 same-length c = search needs
 
--- src/group.rt:96:1
 returns : tie.Need-returns
 returns c =
     let o = c .before .before in let p = o .before .before .before .before in let u = p .before .before in let n = u .before .before .before .before in

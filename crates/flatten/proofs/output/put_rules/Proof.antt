@@ -18,41 +18,33 @@ Inv-loop out₀ from s index n kinds sources masks vars types at₀ k₀ t₀ ou
 abbrev μ-loop : tie.MeasureT-loop
 μ-loop out₀ from s index n kinds sources masks vars types at₀ k₀ t₀ out at k t = n - t
 
--- src/group.rt:147:5
 loop-holds : tie.Need-loop-holds Inv-loop μ-loop
 loop-holds c = (omega (arith, c .before .before .pre .1 .ground .some-one), ruling-start _ _ _ _ _ _ _ (c .before .before .pre .0 .0))
 
--- src/group.rt:148:12
 element-copy-out-if1 : tie.Need-element-copy-out-if1 Inv-loop μ-loop
 element-copy-out-if1 c = let k = c .before .before .before .before .pre .1 .ground .few in search needs
 
--- src/group.rt:149:16
 emits-requires : tie.Need-emits-requires Inv-loop μ-loop
 emits-requires c κs =
     let l = c .before .before in let w = l .before .before .before .before .pre in
     both-small (w .1) (ruling-reaching (l .before .loop .inv .1) (w .1) (w .0 .1) (l .loop-test .taken) (c .if1 .taken))
 
--- src/group.rt:150:17
 put-rule-requires : tie.Need-put-rule-requires Inv-loop μ-loop
 put-rule-requires c κs =
     let l = c .before .before .before .before .before in let w = l .before .before .before .before .pre in let r = l .before .loop .inv .1 in
     ((r .small, omega (arith, r .few)), (w .1, ruling-reaching r (w .1) (w .0 .1) (l .loop-test .taken) (c .before .before .before .if1 .taken)))
 
--- src/group.rt:151:17
 add-k : tie.Need-add-k Inv-loop μ-loop
 add-k c =
     let l = c .before .before .before .before .before .before .before .before .before in
     let f = l .loop .inv .1 .few in let n = l .before .before .before .pre .1 .ground .few in search needs
 
--- src/group.rt:154:9
 add-t : tie.Need-add-t Inv-loop μ-loop
 add-t c = search needs
 
--- src/group.rt:147:5
 loop-less : tie.Need-loop-less Inv-loop μ-loop
 loop-less c = search needs
 
--- src/group.rt:147:5
 loop-again : tie.Need-loop-again Inv-loop μ-loop
 loop-again c =
     let l = c .before .before in let p = l .before .before .before .before .pre in let r = l .before .loop .inv .1 in let h = l .loop-test .taken in
@@ -63,11 +55,9 @@ loop-again c =
         (λ w. rw (w .1, w .2, w .3) (ruling-pass r (p .1) (p .0 .1) h (w .0 .left))) v)
       (c .if1 .came))
 
--- src/group.rt:126:1
 same-length : tie.Need-same-length Inv-loop μ-loop
 same-length c = c .before .loop .inv .1 .put (c .before .before .before .before .pre .1) .long
 
--- src/group.rt:126:1
 returns : tie.Need-returns Inv-loop μ-loop
 returns c = (ruling-all (c .before .loop .inv .1) (c .before .before .before .before .pre .0 .1) (c .before .loop .inv .0) (c .loop-test .left), c .before .loop .inv .1 .small)
 

@@ -28,48 +28,39 @@ abbrev called : ℕ → put-premise-lts.Claims
 called t =
     (put-own-reads.Asked, put-own-reads.Learnt, place-reads.Asked, place-reads.Learnt, put-premise-below t, put-premise.Post)
 
--- src/premise.rt:117:9
 put-premise-put-own-requires : (t : ℕ) → put-premise-lts.Need-put-own-requires (called t) (put-premise-at t) put-premise.Post
 put-premise-put-own-requires t c κs =
     let w = c .before .before .before .before .pre .1 in let z = c .before .if1 .taken in
     (w .0, (w .1 .0, rw (← z) (w .1 .1)))
 
--- src/premise.rt:117:9
 put-premise-same-length : (t : ℕ) → put-premise-lts.Need-same-length (called t) (put-premise-at t) put-premise.Post
 put-premise-same-length t c = search needs
 
--- src/premise.rt:117:9
 put-premise-returns : (t : ℕ) → put-premise-lts.Need-returns (called t) (put-premise-at t) put-premise.Post
 put-premise-returns t c =
     let a = c .before .before .before .before in let o = c .before .before .put-own .ensures in let z = a .if1 .taken in
     (λ e. premise-first e (a .before .before .before .pre .1 .1 .1) z (rw z (o .0 e)), o .1)
 
--- src/premise.rt:119:19
 put-premise-element-copy-out-place : (t : ℕ) → put-premise-lts.Need-element-copy-out-place (called t) (put-premise-at t) put-premise.Post
 put-premise-element-copy-out-place t c = let w = c .before .before .before .pre .1 .1 in let p = place-small (w .0) (w .1) in search needs
 
--- src/premise.rt:119:9
 put-premise-place-requires : (t : ℕ) → put-premise-lts.Need-place-requires (called t) (put-premise-at t) put-premise.Post
 put-premise-place-requires t c κs = search needs
 
--- src/premise.rt:120:9
 put-premise-put-premise-requires : (t : ℕ) → put-premise-lts.Need-put-premise-requires (called t) (put-premise-at t) put-premise.Post
 put-premise-put-premise-requires t c κs =
     let w = c .before .before .before .before .before .before .pre in let e = w .1 .1 .0 in let r = w .1 .1 .1 in let p = c .before .place .ensures .0 in
     let l = source-below e r p (c .before .before .before .if1 .left) in
     (omega (arith, w .0), (w .1 .0, (e, source-reaching e r p)))
 
--- src/premise.rt:121:5
 put-premise-put-own-requires-2 : (t : ℕ) → put-premise-lts.Need-put-own-requires-2 (called t) (put-premise-at t) put-premise.Post
 put-premise-put-own-requires-2 t c κs =
     let a = c .before .before .before .before .before in let w = a .before .before .before .before .before .pre .1 .1 in
     let k = source-reaching (w .0) (w .1) (a .place .ensures .0) in search needs
 
--- src/premise.rt:97:1
 put-premise-same-length-2 : (t : ℕ) → put-premise-lts.Need-same-length-2 (called t) (put-premise-at t) put-premise.Post
 put-premise-same-length-2 t c = search needs
 
--- src/premise.rt:97:1
 put-premise-returns-2 : (t : ℕ) → put-premise-lts.Need-returns-2 (called t) (put-premise-at t) put-premise.Post
 put-premise-returns-2 t c =
     let a = c .before .before .before .before .before .before .before .before in let o = c .before .before .put-own2 .ensures in

@@ -12,53 +12,42 @@ use Rattle.flatten.proofs.premise.reached_by.Reads as reached-by-reads
 use Rattle.flatten.proofs.tables.masks_at.Reads as masks-at-reads
 use Rattle.statements.proofs.writer.put_said.Reads as put-said-reads
 
--- src/premise.rt:86:9
 reached-by-requires : tie.Need-reached-by-requires
 reached-by-requires c κs = let w = c .before .before .pre .1 in both-small (w .0) (w .1)
 
--- src/premise.rt:88:9
 returns : tie.Need-returns
 returns c = let w = c .before .before .before .before .pre in (λ e. own-nothing e (w .1 .1) _ (w .0) (c .before .reached-by .ensures) (c .if1 .taken), w .0)
 
--- src/premise.rt:91:9
 put-both-requires : tie.Need-put-both-requires
 put-both-requires c κs =
     let w = c .before .before .before .before .before .before .pre in
     ((w .0, both-mapped (w .1 .0) (w .1 .1) (c .before .before .before .reached-by .ensures)
       (⊎-elim (λ w. inl (w .taken)) (λ w. inr (eqb-true _ _ (w .1 .taken))) (c .before .if2 .came))), w .1)
 
--- src/premise.rt:91:9
 same-length : tie.Need-same-length
 same-length c = search needs
 
--- src/premise.rt:91:9
 returns-2 : tie.Need-returns-2
 returns-2 c =
     let a = c .before .before .before .before in let o = c .before .before .put-both .ensures in
     (λ e. own-both e (a .before .before .before .before .before .pre .1 .1) (a .before .before .reached-by .ensures)
       (⊎-elim (λ w. inl (w .taken)) (λ w. inr (eqb-true _ _ (w .1 .taken))) (a .if2 .came)) (o .0 e), o .1)
 
--- src/premise.rt:93:44
 mul-put-said : tie.Need-mul-put-said
 mul-put-said c = let w = c .before .before .before .before .before .before .before .pre .1 in let p = place-small (w .0) (w .1) in search needs
 
--- src/premise.rt:93:44
 element-copy-out-put-said : tie.Need-element-copy-out-put-said
 element-copy-out-put-said c = let w = c .before .before .before .before .before .before .before .pre .1 in let p = place-small (w .0) (w .1) in search needs
 
--- src/premise.rt:93:53
 masks-at-requires : tie.Need-masks-at-requires
 masks-at-requires c κs = let w = c .before .before .before .before .before .before .before .before .pre .1 in place-small (w .0) (w .1)
 
--- src/premise.rt:93:5
 put-said-requires : tie.Need-put-said-requires
 put-said-requires c κs = let w = c .before .before .before .before .before .before .before .before .before .pre in (w .0, stands-at (w .1 .0) (w .1 .1))
 
--- src/premise.rt:67:1
 same-length-2 : tie.Need-same-length-2
 same-length-2 c = search needs
 
--- src/premise.rt:67:1
 returns-3 : tie.Need-returns-3
 returns-3 c =
     let o = c .before .before in let a = o .before .before .before .before in let k = a .before .before .before in

@@ -7,31 +7,24 @@ use Rattle.flatten.proofs.premise.reached_by.Reads as reads
 use Rattle.flatten.proofs.premise.reached_by.Lts as lts
 use Rattle.flatten.proofs.tables.place.Reads as place-reads
 
--- src/premise.rt:32:9
 returns : tie.Need-returns
 returns c = reached-first refl (c .if1 .taken)
 
--- src/premise.rt:34:19
 element-copy-out-place : tie.Need-element-copy-out-place
 element-copy-out-place c = search needs
 
--- src/premise.rt:34:9
 place-requires : tie.Need-place-requires
 place-requires c κs = search needs
 
--- src/premise.rt:35:5
 mul-result : tie.Need-mul-result
 mul-result c = search needs
 
--- src/premise.rt:35:5
 index-1-result : tie.Need-index-1-result
 index-1-result c = search needs
 
--- src/premise.rt:35:5
 index-2-result : tie.Need-index-2-result
 index-2-result c = search needs
 
--- src/premise.rt:27:1
 returns-2 : tie.Need-returns-2
 returns-2 c = reached-later (c .before .before .before .if1 .left) (c .before .place .ensures .0) refl
 

@@ -20,53 +20,42 @@ Inv-loop out₀ from s index n sources vars at₀ number₀ t₀ out at number t
 abbrev μ-loop : tie.MeasureT-loop
 μ-loop out₀ from s index n sources vars at₀ number₀ t₀ out at number t = n - t
 
--- src/variables.rt:35:5
 loop-holds : tie.Need-loop-holds Inv-loop μ-loop
 loop-holds c = (search needs, naming-start _ _ _ _ (search needs))
 
--- src/variables.rt:36:12
 element-copy-out-if1 : tie.Need-element-copy-out-if1 Inv-loop μ-loop
 element-copy-out-if1 c = search needs
 
--- src/variables.rt:37:23
 mul-row : tie.Need-mul-row Inv-loop μ-loop
 mul-row c = search needs
 
--- src/variables.rt:37:23
 element-copy-out-row : tie.Need-element-copy-out-row Inv-loop μ-loop
 element-copy-out-row c = search needs
 
--- src/variables.rt:38:13
 put-variables-requires : tie.Need-put-variables-requires Inv-loop μ-loop
 put-variables-requires c κs =
     let l = c .before .before .before .before in let w = l .before .before .before .before .pre in naming-asks (w .1) (w .0 .1) (l .loop-test .taken) (l .before .loop .inv .1)
 
--- src/variables.rt:39:34
 element-count-requires : tie.Need-element-count-requires Inv-loop μ-loop
 element-count-requires c κs = search needs
 
--- src/variables.rt:39:23
 fresh-requires : tie.Need-fresh-requires Inv-loop μ-loop
 fresh-requires c κs =
     let l = c .before .before .before .before .before .before .before .before in let w = l .before .before .before .before .pre in
     count-small (naming-asks (w .1) (w .0 .1) (l .loop-test .taken) (l .before .loop .inv .1) .1 .0) (c .element-count .ensures)
 
--- src/variables.rt:39:13
 add-number : tie.Need-add-number Inv-loop μ-loop
 add-number c =
     let l = c .before .before .before .before .before .before .before .before .before in let w = l .before .before .before .before .pre in
     let a = naming-asks (w .1) (w .0 .1) (l .loop-test .taken) (l .before .loop .inv .1) in
     let h = fresh-room _ _ (c .fresh .ensures) (count-small (a .1 .0) (c .before .element-count .ensures)) (a .1 .1) in search needs
 
--- src/variables.rt:41:9
 add-t : tie.Need-add-t Inv-loop μ-loop
 add-t c = search needs
 
--- src/variables.rt:35:5
 loop-less : tie.Need-loop-less Inv-loop μ-loop
 loop-less c = search needs
 
--- src/variables.rt:35:5
 loop-again : tie.Need-loop-again Inv-loop μ-loop
 loop-again c =
     let l = c .before .before in let p = l .before .before .before .before .pre in let h = l .loop-test .taken in let n = l .before .loop .inv .1 in
@@ -75,11 +64,9 @@ loop-again c =
       (λ w. rw (w .1, w .2, w .3) (naming-pass (p .1) (p .0 .1) h n (w .0 .left)))
       (c .if1 .came))
 
--- src/variables.rt:19:1
 same-length : tie.Need-same-length Inv-loop μ-loop
 same-length c = search needs
 
--- src/variables.rt:19:1
 returns : tie.Need-returns Inv-loop μ-loop
 returns c =
     let e = c .before .loop .inv .0 in let f = c .loop-test .left in

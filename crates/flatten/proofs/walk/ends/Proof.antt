@@ -7,23 +7,18 @@ use Rattle.flatten.proofs.walk.ends.Tie as tie
 use Rattle.flatten.proofs.walk.ends.Reads as reads
 use Rattle.flatten.proofs.walk.ends.Lts as lts
 
--- src/walk.rt:35:8
 element-copy-out-if1 : tie.Need-element-copy-out-if1
 element-copy-out-if1 c = search needs
 
--- src/walk.rt:36:9
 returns : tie.Need-returns
 returns c = record { is = inl (refl, c .if1 .taken) }
 
--- src/walk.rt:38:8
 element-copy-out-if2 : tie.Need-element-copy-out-if2
 element-copy-out-if2 c = search needs
 
--- src/walk.rt:39:9
 returns-2 : tie.Need-returns-2
 returns-2 c = record { is = inr (refl, c .before .before .if1 .left, c .if2 .taken) }
 
--- src/walk.rt:31:1
 returns-3 : tie.Need-returns-3
 returns-3 c = record { is = (c .before .before .if1 .left, c .if2 .left) }
 

@@ -9,27 +9,21 @@ use Rattle.steps.proofs.morphisms.flatten_if_arbitrary.Reads as flatten-if-arbi
 use Rattle.steps.proofs.morphisms.flatten_non_surj_then.Reads as flatten-non-surj-then-reads
 use Rattle.steps.proofs.morphisms.flatten_surj_then.Reads as flatten-surj-then-reads
 
--- src/walk.rt:83:9
 flatten-surj-then-requires : tie.Need-flatten-surj-then-requires
 flatten-surj-then-requires c κs = search needs
 
--- src/walk.rt:83:9
 returns : tie.Need-returns
 returns c = λ table k y h. surj-does _ _ _ _ _ _ _ _ _ (c .flatten-surj-then .ensures table y) (c .before .before .if1 .taken) h
 
--- src/walk.rt:88:9
 flatten-non-surj-then-requires : tie.Need-flatten-non-surj-then-requires
 flatten-non-surj-then-requires c κs = search needs
 
--- src/walk.rt:88:9
 returns-2 : tie.Need-returns-2
 returns-2 c = λ table k y h. non-surj-does _ _ _ _ _ _ _ _ _ (c .flatten-non-surj-then .ensures table) (c .before .if2 .taken) h
 
--- src/walk.rt:92:5
 flatten-if-arbitrary-requires : tie.Need-flatten-if-arbitrary-requires
 flatten-if-arbitrary-requires c κs = search needs
 
--- src/walk.rt:61:1
 returns-3 : tie.Need-returns-3
 returns-3 c =
     λ table k y h. let d = c .flatten-if-arbitrary .ensures table y in

@@ -50,33 +50,26 @@ behind c = ⊎-elim
     (λ w. rw (w .1, w .2, w .3, w .4, w .5) (skip (stands (c .before .before)) (w .0 .left) (c .before .before .before .loop .inv .2)))
     (c .if1 .came)
 
--- src/walk.rt:162:20
 element-count-requires : tie.Need-element-count-requires Inv-loop μ-loop
 element-count-requires c κs = search needs
 
--- src/walk.rt:162:20
 cast-next : tie.Need-cast-next Inv-loop μ-loop
 cast-next c = let h = count-small (first-laid (c .before .before .before .pre .0 .1)) (c .element-count .ensures) in search needs
 
--- src/walk.rt:165:5
 loop-holds : tie.Need-loop-holds Inv-loop μ-loop
 loop-holds c =
     let w = c .before .before .before .pre in let e = w .1 .0 .0 in let h = w .0 .1 .some-one in
     (search needs, omega arith, begin-walk (w .0 .1) (c .element-count .ensures) (w .1 .1))
 
--- src/walk.rt:166:20
 mul-kind : tie.Need-mul-kind Inv-loop μ-loop
 mul-kind c = let h = within (stands c) .0 in let k = within (stands c) .1 in search needs
 
--- src/walk.rt:166:20
 index-1-kind : tie.Need-index-1-kind Inv-loop μ-loop
 index-1-kind c = let h = within (stands c) .0 in let k = within (stands c) .1 in search needs
 
--- src/walk.rt:166:20
 index-2-kind : tie.Need-index-2-kind Inv-loop μ-loop
 index-2-kind c = let h = within (stands c) .0 in let k = within (stands c) .1 in search needs
 
--- src/walk.rt:168:17
 walk-map-requires : tie.Need-walk-map-requires Inv-loop μ-loop
 walk-map-requires c κs =
     let l = c .before .before .before .before .before .before .before in
@@ -85,43 +78,34 @@ walk-map-requires c κs =
 enum-told : tie.Need-enum-told Inv-loop μ-loop
 enum-told c = search needs
 
--- src/walk.rt:172:17
 enum-told-2 : tie.Need-enum-told-2 Inv-loop μ-loop
 enum-told-2 c = search needs
 
--- src/walk.rt:172:17
 returns : tie.Need-returns Inv-loop μ-loop
 returns c = stopped _ (c .before .before .walk-map .ensures) (c .enum-told2 .given .1)
 
--- src/walk.rt:175:9
 add-u : tie.Need-add-u Inv-loop μ-loop
 add-u c = let h = within (stands (c .before .before)) .0 in search needs
 
--- src/walk.rt:178:13
 add-t : tie.Need-add-t Inv-loop μ-loop
 add-t c = let h = within (stands (c .before .before .before)) .1 in search needs
 
--- src/walk.rt:165:5
 loop-less : tie.Need-loop-less Inv-loop μ-loop
 loop-less c = let l = c .before .before .before in left-turn _ _ _ (l .loop-test .taken) (l .before .loop .inv .1)
 
--- src/walk.rt:165:5
 loop-again : tie.Need-loop-again Inv-loop μ-loop
 loop-again c =
     let a = stands (c .before .before .before) in let h = a .target-in in let l = a .source-in in
     (omega arith, omega arith, next-target (a .counted) h (c .if2 .taken) (behind (c .before)))
 
--- src/walk.rt:165:5
 loop-less-2 : tie.Need-loop-less-2 Inv-loop μ-loop
 loop-less-2 c = let l = c .before .before .before in left-step _ _ _ (l .loop-test .taken) (l .before .loop .inv .1)
 
--- src/walk.rt:165:5
 loop-again-2 : tie.Need-loop-again-2 Inv-loop μ-loop
 loop-again-2 c =
     let a = stands (c .before .before .before) in let h = a .target-in in let l = a .source-in in let d = c .if2 .left in
     (omega arith, omega arith, behind (c .before))
 
--- src/walk.rt:143:1
 returns-2 : tie.Need-returns-2 Inv-loop μ-loop
 returns-2 c =
     let w = c .before .before .before .before .before .pre in

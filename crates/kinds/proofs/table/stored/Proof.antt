@@ -1,4 +1,3 @@
-use Rattle.kinds.proofs.TableLaws.{empty-table}
 use Rattle.kinds.proofs.Storing.{Storing, store-start, store-end, store-named, store-next}
 use Rattle.kinds.proofs.Scanning.{kinds-from, values-bad, values-inside, values-long}
 use mathlib.Core.Path.{_∙_, sym, ap}
@@ -10,16 +9,16 @@ use Rattle.kinds.proofs.table.stored.Statement.{statement}
 use Rattle.kinds.proofs.table.stored.Tie as tie
 
 abbrev Inv-loop : tie.InvT-loop
-Inv-loop s index kinds table₀ at₀ table at = Storing s (kinds .to) at table
+Inv-loop s index table₀ kinds at₀ table at = Storing s (kinds .to) at table
 
 abbrev μ-loop : tie.MeasureT-loop
-μ-loop s index kinds table₀ at₀ table at = kinds .to - at
+μ-loop s index table₀ kinds at₀ table at = kinds .to - at
 
 section-behind-requires : tie.Need-section-behind-requires Inv-loop μ-loop
 section-behind-requires c κs = search needs
 
 loop-holds : tie.Need-loop-holds Inv-loop μ-loop
-loop-holds c = store-start (c .before .before .pre) empty-table (kinds-from (c .before .before .pre) (c .section-behind .ensures))
+loop-holds c = store-start (c .before .before .pre .0) (c .before .before .pre .1) (kinds-from (c .before .before .pre .0) (c .section-behind .ensures))
 
 read-field-requires : tie.Need-read-field-requires Inv-loop μ-loop
 read-field-requires c κs = search needs

@@ -3,12 +3,6 @@ use borrow.Author.Needs.{needs}
 use Rattle.naming.proofs.assign.assign_el_vars.Statement.{statement}
 use Rattle.naming.proofs.assign.assign_el_vars.Tie as tie
 
-mul-carried : tie.Need-mul-carried
-mul-carried c = search needs
-
-array-copy-out-carried : tie.Need-array-copy-out-carried
-array-copy-out-carried c = search needs
-
 carried-requires : tie.Need-carried-requires
 carried-requires c κs = search needs
 
@@ -18,24 +12,10 @@ element-count-requires c κs = search needs
 assign-structure-el-vars-requires : tie.Need-assign-structure-el-vars-requires
 assign-structure-el-vars-requires c κs = search needs
 
-mul-table : tie.Need-mul-table
-mul-table c = search needs
-
-array-set-from-table : tie.Need-array-set-from-table
-array-set-from-table c = search needs
-
 returns : tie.Need-returns
-returns c = rw (assigned (c .before .before .before .before .before .pre .0 .1) (c .before .before .before .before .before .pre .1 .0 .1) (c .before .before .before .before .before .pre .1 .1 .0) (search needs) (c .before .element-count .ensures) (c .before .before .carried .ensures) (c .assign-structure-el-vars .ensures))
+returns c = assigned (c .before .before .before .before .pre .0 .1) (c .before .before .before .before .pre .1 .0 .1) (c .before .before .before .before .pre .1 .1 .0) (search needs) (c .before .element-count .ensures) (c .before .before .carried .ensures) (c .assign-structure-el-vars .ensures)
 
 pub assign-el-vars-spec : {M : Type 1} → statement M
 assign-el-vars-spec =
     tie.close
-    (tie.spec
-    mul-carried
-    array-copy-out-carried
-    carried-requires
-    element-count-requires
-    assign-structure-el-vars-requires
-    mul-table
-    array-set-from-table
-    returns)
+    (tie.spec carried-requires element-count-requires assign-structure-el-vars-requires returns)

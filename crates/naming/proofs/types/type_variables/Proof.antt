@@ -1,5 +1,5 @@
 use Rattle.naming.proofs.News.{Typing, typing, type-on, type-pass, type-end}
-use Rattle.naming.proofs.Placed.{below-count, past-count, element-few, type-read}
+use Rattle.naming.proofs.Placed.{below-count, past-count, element-few, type-read, type-byte}
 use Rattle.naming.specs.Structures.{structureIn}
 use mathlib.Core.Logic.{⊎-elim}
 use Prim.Native.Nat.{_≤_, _-_}
@@ -31,8 +31,10 @@ array-read-if1 c = search needs
 read-element-requires : tie.Need-read-element-requires Inv-loop μ-loop
 read-element-requires c κs = ((c .before .before .before .before .before .before .pre .0 .few, search needs), c .before .before .before .before .before .before .pre .0 .elements)
 
-mul-types : tie.Need-mul-types Inv-loop μ-loop
-mul-types c = search needs
+cast-types : tie.Need-cast-types Inv-loop μ-loop
+cast-types c =
+    let r = c .before .before in let p = r .before .before .before .before .before .before .before .pre in
+    let h = type-byte (p .0) (p .1 .0) (r .read-element .result) _ (search needs) (r .read-element .ensures .0) in search needs
 
 element-write-types : tie.Need-element-write-types Inv-loop μ-loop
 element-write-types c = search needs
@@ -47,7 +49,7 @@ loop-less : tie.Need-loop-less Inv-loop μ-loop
 loop-less c = search needs
 
 loop-again : tie.Need-loop-again Inv-loop μ-loop
-loop-again c = ⊎-elim (λ w. (search needs, rw (w .3, w .4) (type-on (c .before .before .loop .inv .1) (let f = element-few (c .before .before .before .before .before .before .pre .0) in search needs) (below-count (c .before .before .before .before .before .before .pre .0) (c .before .before .before .before .element-count .ensures) (c .before .loop-test .taken)) (w .0 .taken) (type-read (c .before .before .before .before .before .before .pre .0) (w .1 .result) _ (search needs) (w .1 .ensures .0))))) (λ w. (search needs, rw (w .1, w .2) (type-pass (c .before .before .loop .inv .1) (let f = element-few (c .before .before .before .before .before .before .pre .0) in search needs) (below-count (c .before .before .before .before .before .before .pre .0) (c .before .before .before .before .element-count .ensures) (c .before .loop-test .taken)) (w .0 .left)))) (c .if1 .came)
+loop-again c = ⊎-elim (λ w. (search needs, rw (w .4, w .5) (type-on (c .before .before .loop .inv .1) (let f = element-few (c .before .before .before .before .before .before .pre .0) in search needs) (below-count (c .before .before .before .before .before .before .pre .0) (c .before .before .before .before .element-count .ensures) (c .before .loop-test .taken)) (w .0 .taken) (type-read (c .before .before .before .before .before .before .pre .0) (w .1 .result) _ (search needs) (w .1 .ensures .0))))) (λ w. (search needs, rw (w .1, w .2) (type-pass (c .before .before .loop .inv .1) (let f = element-few (c .before .before .before .before .before .before .pre .0) in search needs) (below-count (c .before .before .before .before .before .before .pre .0) (c .before .before .before .before .element-count .ensures) (c .before .loop-test .taken)) (w .0 .left)))) (c .if1 .came)
 
 returns : tie.Need-returns Inv-loop μ-loop
 returns c = type-end (c .before .loop .inv .1) (let f = element-few (c .before .before .before .before .before .pre .0) in search needs) (past-count (c .before .before .before .before .before .pre .0) (c .before .before .before .element-count .ensures) (c .loop-test .left))
@@ -64,7 +66,7 @@ type-variables-spec =
     mul-if1
     array-read-if1
     read-element-requires
-    mul-types
+    cast-types
     element-write-types
     add-number
     add-i

@@ -1,30 +1,24 @@
-use Rattle.naming.proofs.Printing.{measure, base-short}
+use lib.ListN.{length-append}
 use borrow.Author.Needs.{needs}
 use native.Mathlib.Omega.{arith}
 use Rattle.naming.proofs.writer.name_length.Statement.{statement}
 use Rattle.naming.proofs.writer.name_length.Tie as tie
 
-array-borrow-prefix-none : tie.Need-array-borrow-prefix-none
-array-borrow-prefix-none c = search needs
+base-length-requires : tie.Need-base-length-requires
+base-length-requires c κs = search needs
 
-slice-aggregate-put-name : tie.Need-slice-aggregate-put-name
-slice-aggregate-put-name c = search needs
+digits-requires : tie.Need-digits-requires
+digits-requires c κs = search needs
 
-put-name-requires : tie.Need-put-name-requires
-put-name-requires c κs = search needs
+add-result : tie.Need-add-result
+add-result c = let e = c .before .base-length .ensures (c .before .before .before .args .s .now) (c .before .before .before .pre) in omega arith
 
 cast-result : tie.Need-cast-result
-cast-result c = let m = measure (c .before .put-name .ensures) (base-short (c .before .before .before .before .args .s .now) (c .before .before .before .before .args .base) (c .before .before .before .before .args .number) (c .before .before .before .before .pre)) in omega arith
+cast-result c = let e = c .before .base-length .ensures (c .before .before .before .args .s .now) (c .before .before .before .pre) in omega arith
 
 returns : tie.Need-returns
-returns c = measure (c .before .put-name .ensures) (base-short (c .before .before .before .before .args .s .now) (c .before .before .before .before .args .base) (c .before .before .before .before .args .number) (c .before .before .before .before .pre))
+returns c = let e = c .before .base-length .ensures (c .before .before .before .args .s .now) (c .before .before .before .pre) in (rw length-append (omega arith), omega arith)
 
 pub name-length-spec : {M : Type 1} → statement M
 name-length-spec =
-    tie.close
-    (tie.spec
-    array-borrow-prefix-none
-    slice-aggregate-put-name
-    put-name-requires
-    cast-result
-    returns)
+    tie.close (tie.spec base-length-requires digits-requires add-result cast-result returns)

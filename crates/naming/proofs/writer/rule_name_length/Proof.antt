@@ -1,30 +1,35 @@
-use Rattle.naming.proofs.Printing.{measure, rule-short}
+use lib.ListN.{length-append}
+use Rattle.naming.proofs.Printing.{group-short}
 use borrow.Author.Needs.{needs}
 use native.Mathlib.Omega.{arith}
 use Rattle.naming.proofs.writer.rule_name_length.Statement.{statement}
 use Rattle.naming.proofs.writer.rule_name_length.Tie as tie
 
-array-borrow-prefix-none : tie.Need-array-borrow-prefix-none
-array-borrow-prefix-none c = search needs
+group-name-length-requires : tie.Need-group-name-length-requires
+group-name-length-requires c κs = search needs
 
-slice-aggregate-put-rule-name : tie.Need-slice-aggregate-put-rule-name
-slice-aggregate-put-rule-name c = search needs
+add-result : tie.Need-add-result
+add-result c = search needs
 
-put-rule-name-requires : tie.Need-put-rule-name-requires
-put-rule-name-requires c κs = search needs
+digits-requires : tie.Need-digits-requires
+digits-requires c κs = search needs
 
 cast-result : tie.Need-cast-result
-cast-result c = let m = measure (c .before .put-rule-name .ensures) (rule-short (c .before .before .before .before .pre) _) in omega arith
+cast-result c = search needs
+
+add-result-2 : tie.Need-add-result-2
+add-result-2 c = search needs
 
 returns : tie.Need-returns
-returns c = measure (c .before .put-rule-name .ensures) (rule-short (c .before .before .before .before .pre) _)
+returns c = (rw length-append (omega arith), omega (arith, group-short (c .before .before .before .pre)))
 
 pub rule-name-length-spec : {M : Type 1} → statement M
 rule-name-length-spec =
     tie.close
     (tie.spec
-    array-borrow-prefix-none
-    slice-aggregate-put-rule-name
-    put-rule-name-requires
+    group-name-length-requires
+    add-result
+    digits-requires
     cast-result
+    add-result-2
     returns)

@@ -26,9 +26,6 @@ element-copy-out-variable c = search needs
 variable-requires : tie.Need-variable-requires Inv-loop μ-loop
 variable-requires c κs = search needs
 
-mul-ty : tie.Need-mul-ty Inv-loop μ-loop
-mul-ty c = search needs
-
 shared-slice-read-ty : tie.Need-shared-slice-read-ty Inv-loop μ-loop
 shared-slice-read-ty c = rw (c .before .variable .ensures .0) (c .before .before .before .before .before .before .pre .1 .1 .below _ (c .before .before .before .before .before .before .pre .1 .0))
 
@@ -49,9 +46,6 @@ element-copy-out-variable-2 c = search needs
 
 variable-requires-2 : tie.Need-variable-requires-2 Inv-loop μ-loop
 variable-requires-2 c κs = search needs
-
-mul-if3 : tie.Need-mul-if3 Inv-loop μ-loop
-mul-if3 c = search needs
 
 shared-slice-read-if3 : tie.Need-shared-slice-read-if3 Inv-loop μ-loop
 shared-slice-read-if3 c = rw (c .before .variable2 .ensures .0) (c .before .before .before .before .before .before .before .before .before .before .before .before .before .before .before .before .pre .1 .1 .below _ (c .before .before .before .before .before .before .before .if1 .taken))
@@ -81,7 +75,6 @@ clashes-later-spec =
     mul-variable
     element-copy-out-variable
     variable-requires
-    mul-ty
     shared-slice-read-ty
     add-q
     loop-holds
@@ -89,7 +82,6 @@ clashes-later-spec =
     mul-variable-2
     element-copy-out-variable-2
     variable-requires-2
-    mul-if3
     shared-slice-read-if3
     returns
     add-q-2

@@ -1,6 +1,5 @@
 use Rattle.rule.proofs.Storing.{holds-not}
-use Rattle.rule.proofs.Bodies.{rest-run, letter-e, named-is, known-more, bodied-kept, body-e, body-rest, holds-any, stored-any}
-use Prim.Native.Nat.{_+_, _*_}
+use Rattle.rule.proofs.Bodies.{run-e, named-is, known-more, bodied-kept, body-e, body-rest, stored-not}
 use borrow.Author.Needs.{needs}
 use native.Mathlib.Omega.{arith}
 use Rattle.rule.proofs.reader.check_body.Statement.{statement}
@@ -34,13 +33,22 @@ enum-told-2 : tie.Need-enum-told-2
 enum-told-2 c = search needs
 
 returns : tie.Need-returns
-returns c = (λ body b. body-e _ body (c .before .before .check-elements .ensures .0 body (rw (c .before .before .before .before .before .before .bound .ensures, c .before .before .before .before .bound2 .ensures) (rest-run b 3 _ (6 * c .before .before .before .before .before .before .before .before .before .before .args .k + 1 + 1) (6 * c .before .before .before .before .before .before .before .before .before .before .args .k + 1 + 2) (omega arith) (omega arith) letter-e (omega arith) (omega arith)))) (c .enum-told2 .given .1), rw (c .enum-told2 .given .1) (λ body b. holds-not, (rw (c .enum-told2 .given .1) at (c .before .before .check-elements .ensures .1 .1 .0), c .before .before .check-elements .ensures .1 .1 .1)))
+returns c = (λ body b. body-e _ body (c .before .before .check-elements .ensures .0 body (rw (c .before .before .before .before .before .before .bound .ensures, c .before .before .before .before .bound2 .ensures) (run-e b))) (c .enum-told2 .given .1), rw (c .enum-told2 .given .1) (λ body b. holds-not, (rw (c .enum-told2 .given .1) at (c .before .before .check-elements .ensures .1 .1 .0), c .before .before .check-elements .ensures .1 .1 .1)))
 
 check-rest-requires : tie.Need-check-rest-requires
 check-rest-requires c κs = let w = rw (c .before .enum-told .given .1) at (c .before .before .before .check-elements .ensures .1 .1 .0) in (c .before .before .before .before .before .before .before .before .before .before .before .pre .0, (c .before .before .before .before .before .before .before .before .before .before .before .pre .1 .1 .1 .0, known-more (w .kept) (c .before .before .before .before .before .before .before .before .before .before .before .pre .1 .1 .1 .1) (c .before .before .before .before .before .before .before .before .before .before .before .pre .1 .1 .1 .0) (w .known)))
 
+enum-told-3 : tie.Need-enum-told-3
+enum-told-3 c = search needs
+
+enum-told-4 : tie.Need-enum-told-4
+enum-told-4 c = search needs
+
 returns-2 : tie.Need-returns-2
-returns-2 c = (λ body b. body-rest _ body (c .check-rest .result) (c .before .before .before .before .check-elements .ensures .0 body (rw (c .before .before .before .before .before .before .before .before .bound .ensures, c .before .before .before .before .before .before .bound2 .ensures) (rest-run b 3 _ (6 * c .before .before .before .before .before .before .before .before .before .before .before .before .args .k + 1 + 1) (6 * c .before .before .before .before .before .before .before .before .before .before .before .before .args .k + 1 + 2) (omega arith) (omega arith) letter-e (omega arith) (omega arith)))) (c .before .before .enum-told .given .1) (c .check-rest .ensures body (bodied-kept (c .before .before .before .before .before .before .before .before .before .before .before .before .pre .1 .1 .1 .0) ((rw (c .before .before .enum-told .given .1) at (c .before .before .before .before .check-elements .ensures .1 .1 .0)) .kept) b) (named-is body ((rw (c .before .before .enum-told .given .1) at (c .before .before .before .before .check-elements .ensures .1 .1 .0)) .known) ((rw (c .before .before .enum-told .given .1) at (c .before .before .before .before .check-elements .ensures .1 .0 body (rw (c .before .before .before .before .before .before .before .before .bound .ensures, c .before .before .before .before .before .before .bound2 .ensures) (rest-run b 3 _ (6 * c .before .before .before .before .before .before .before .before .before .before .before .before .args .k + 1 + 1) (6 * c .before .before .before .before .before .before .before .before .before .before .before .before .args .k + 1 + 2) (omega arith) (omega arith) letter-e (omega arith) (omega arith))))) .is))), (λ body b. holds-any (rw (c .before .before .enum-told .given .1) at (c .before .before .before .before .check-elements .ensures .1 .0 body (rw (c .before .before .before .before .before .before .before .before .bound .ensures, c .before .before .before .before .before .before .bound2 .ensures) (rest-run b 3 _ (6 * c .before .before .before .before .before .before .before .before .before .before .before .before .args .k + 1 + 1) (6 * c .before .before .before .before .before .before .before .before .before .before .before .before .args .k + 1 + 2) (omega arith) (omega arith) letter-e (omega arith) (omega arith))))) (c .check-rest .result), (stored-any (rw (c .before .before .enum-told .given .1) at (c .before .before .before .before .check-elements .ensures .1 .1 .0)) (c .check-rest .result), c .before .before .before .before .check-elements .ensures .1 .1 .1)))
+returns-2 c = let w = rw (c .before .before .before .before .enum-told .given .1) at (c .before .before .before .before .before .before .check-elements .ensures .1 .1 .0) in (λ body b. body-rest _ body (c .before .before .check-rest .result) (c .before .before .before .before .before .before .check-elements .ensures .0 body (rw (c .before .before .before .before .before .before .before .before .before .before .bound .ensures, c .before .before .before .before .before .before .before .before .bound2 .ensures) (run-e b))) (c .before .before .before .before .enum-told .given .1) (c .before .before .check-rest .ensures body (bodied-kept (c .before .before .before .before .before .before .before .before .before .before .before .before .before .before .pre .1 .1 .1 .0) (w .kept) b) (named-is body (w .known) ((rw (c .before .before .before .before .enum-told .given .1) at (c .before .before .before .before .before .before .check-elements .ensures .1 .0 body (rw (c .before .before .before .before .before .before .before .before .before .before .bound .ensures, c .before .before .before .before .before .before .before .before .bound2 .ensures) (run-e b)))) .is))), rw (c .enum-told4 .given .1) (λ body b. holds-not, (stored-not w, c .before .before .before .before .before .before .check-elements .ensures .1 .1 .1)))
+
+returns-3 : tie.Need-returns-3
+returns-3 c = let w = rw (c .before .before .before .before .enum-told .given .1) at (c .before .before .before .before .before .before .check-elements .ensures .1 .1 .0) in (λ body b. rw (c .enum-told3 .given .1) at (body-rest _ body (c .before .before .check-rest .result) (c .before .before .before .before .before .before .check-elements .ensures .0 body (rw (c .before .before .before .before .before .before .before .before .before .before .bound .ensures, c .before .before .before .before .before .before .before .before .bound2 .ensures) (run-e b))) (c .before .before .before .before .enum-told .given .1) (c .before .before .check-rest .ensures body (bodied-kept (c .before .before .before .before .before .before .before .before .before .before .before .before .before .before .pre .1 .1 .1 .0) (w .kept) b) (named-is body (w .known) ((rw (c .before .before .before .before .enum-told .given .1) at (c .before .before .before .before .before .before .check-elements .ensures .1 .0 body (rw (c .before .before .before .before .before .before .before .before .before .before .bound .ensures, c .before .before .before .before .before .before .before .before .bound2 .ensures) (run-e b)))) .is)))), (λ body b. rw (c .before .before .before .before .enum-told .given .1) at (c .before .before .before .before .before .before .check-elements .ensures .1 .0 body (rw (c .before .before .before .before .before .before .before .before .before .before .bound .ensures, c .before .before .before .before .before .before .before .before .bound2 .ensures) (run-e b))), (w, c .before .before .before .before .before .before .check-elements .ensures .1 .1 .1)))
 
 pub check-body-spec : {M : Type 1} → statement M
 check-body-spec =
@@ -57,4 +65,7 @@ check-body-spec =
     enum-told-2
     returns
     check-rest-requires
-    returns-2)
+    enum-told-3
+    enum-told-4
+    returns-2
+    returns-3)

@@ -1,5 +1,4 @@
-use Rattle.rule.proofs.Bodies.{rest-run, letter-r, letter-a, letter-v, letter-i, rest-r, rest-a, rest-v, rest-i}
-use Prim.Native.Nat.{_+_, _*_}
+use Rattle.rule.proofs.Bodies.{run-r, run-a, run-v, run-i, rest-r, rest-a, rest-v, rest-i}
 use borrow.Author.Needs.{needs}
 use native.Mathlib.Omega.{arith}
 use Rattle.rule.proofs.reader.check_rest.Statement.{statement}
@@ -27,7 +26,7 @@ enum-told-2 : tie.Need-enum-told-2
 enum-told-2 c = search needs
 
 returns : tie.Need-returns
-returns c = λ body b e. rest-r _ _ _ _ body e (c .before .before .check-section .ensures body (rest-run b 4 _ (6 * c .before .before .before .before .before .args .k + 1 + 2) (6 * c .before .before .before .before .before .args .k + 1 + 2 + 1) (omega arith) (omega arith) letter-r (omega arith) (omega arith))) (c .enum-told2 .given .1)
+returns c = λ body b e. rest-r _ _ _ _ body e (c .before .before .check-section .ensures body (run-r b)) (c .enum-told2 .given .1)
 
 add-check-section-3 : tie.Need-add-check-section-3
 add-check-section-3 c = search needs
@@ -45,7 +44,7 @@ enum-told-4 : tie.Need-enum-told-4
 enum-told-4 c = search needs
 
 returns-2 : tie.Need-returns-2
-returns-2 c = λ body b e. rest-a _ _ _ _ body e (c .before .before .before .before .before .check-section .ensures body (rest-run b 4 _ (6 * c .before .before .before .before .before .before .before .before .args .k + 1 + 2) (6 * c .before .before .before .before .before .before .before .before .args .k + 1 + 2 + 1) (omega arith) (omega arith) letter-r (omega arith) (omega arith))) (c .before .before .before .enum-told .given .1) (c .before .before .check-section2 .ensures body (rest-run b 5 _ (6 * c .before .before .before .before .before .before .before .before .args .k + 1 + 3) (6 * c .before .before .before .before .before .before .before .before .args .k + 1 + 3 + 1) (omega arith) (omega arith) letter-a (omega arith) (omega arith))) (c .enum-told4 .given .1)
+returns-2 c = λ body b e. rest-a _ _ _ _ body e (c .before .before .before .before .before .check-section .ensures body (run-r b)) (c .before .before .before .enum-told .given .1) (c .before .before .check-section2 .ensures body (run-a b)) (c .enum-told4 .given .1)
 
 add-check-section-5 : tie.Need-add-check-section-5
 add-check-section-5 c = search needs
@@ -63,7 +62,7 @@ enum-told-6 : tie.Need-enum-told-6
 enum-told-6 c = search needs
 
 returns-3 : tie.Need-returns-3
-returns-3 c = λ body b e. rest-v _ _ _ _ body e (c .before .before .before .before .before .before .before .before .check-section .ensures body (rest-run b 4 _ (6 * c .before .before .before .before .before .before .before .before .before .before .before .args .k + 1 + 2) (6 * c .before .before .before .before .before .before .before .before .before .before .before .args .k + 1 + 2 + 1) (omega arith) (omega arith) letter-r (omega arith) (omega arith))) (c .before .before .before .before .before .before .enum-told .given .1) (c .before .before .before .before .before .check-section2 .ensures body (rest-run b 5 _ (6 * c .before .before .before .before .before .before .before .before .before .before .before .args .k + 1 + 3) (6 * c .before .before .before .before .before .before .before .before .before .before .before .args .k + 1 + 3 + 1) (omega arith) (omega arith) letter-a (omega arith) (omega arith))) (c .before .before .before .enum-told3 .given .1) (c .before .before .check-section3 .ensures body (rest-run b 6 _ (6 * c .before .before .before .before .before .before .before .before .before .before .before .args .k + 1 + 4) (6 * c .before .before .before .before .before .before .before .before .before .before .before .args .k + 1 + 4 + 1) (omega arith) (omega arith) letter-v (omega arith) (omega arith))) (c .enum-told6 .given .1)
+returns-3 c = λ body b e. rest-v _ _ _ _ body e (c .before .before .before .before .before .before .before .before .check-section .ensures body (run-r b)) (c .before .before .before .before .before .before .enum-told .given .1) (c .before .before .before .before .before .check-section2 .ensures body (run-a b)) (c .before .before .before .enum-told3 .given .1) (c .before .before .check-section3 .ensures body (run-v b)) (c .enum-told6 .given .1)
 
 add-check-section-7 : tie.Need-add-check-section-7
 add-check-section-7 c = search needs
@@ -74,8 +73,17 @@ add-check-section-8 c = search needs
 check-section-requires-4 : tie.Need-check-section-requires-4
 check-section-requires-4 c κs = (c .before .before .before .before .before .before .before .before .before .before .before .pre .0, (c .before .before .before .before .before .before .before .before .before .before .before .pre .1 .1, (omega arith, λ q. omega arith)))
 
+enum-told-7 : tie.Need-enum-told-7
+enum-told-7 c = search needs
+
+enum-told-8 : tie.Need-enum-told-8
+enum-told-8 c = search needs
+
 returns-4 : tie.Need-returns-4
-returns-4 c = λ body b e. rest-i _ _ _ _ body e (c .before .before .before .before .before .before .before .before .before .check-section .ensures body (rest-run b 4 _ (6 * c .before .before .before .before .before .before .before .before .before .before .before .before .args .k + 1 + 2) (6 * c .before .before .before .before .before .before .before .before .before .before .before .before .args .k + 1 + 2 + 1) (omega arith) (omega arith) letter-r (omega arith) (omega arith))) (c .before .before .before .before .before .before .before .enum-told .given .1) (c .before .before .before .before .before .before .check-section2 .ensures body (rest-run b 5 _ (6 * c .before .before .before .before .before .before .before .before .before .before .before .before .args .k + 1 + 3) (6 * c .before .before .before .before .before .before .before .before .before .before .before .before .args .k + 1 + 3 + 1) (omega arith) (omega arith) letter-a (omega arith) (omega arith))) (c .before .before .before .before .enum-told3 .given .1) (c .before .before .before .check-section3 .ensures body (rest-run b 6 _ (6 * c .before .before .before .before .before .before .before .before .before .before .before .before .args .k + 1 + 4) (6 * c .before .before .before .before .before .before .before .before .before .before .before .before .args .k + 1 + 4 + 1) (omega arith) (omega arith) letter-v (omega arith) (omega arith))) (c .before .enum-told5 .given .1) (c .check-section4 .result) (c .check-section4 .ensures body (rest-run b 7 _ (6 * c .before .before .before .before .before .before .before .before .before .before .before .before .args .k + 1 + 5) (6 * c .before .before .before .before .before .before .before .before .before .before .before .before .args .k + 1 + 5 + 1) (omega arith) (omega arith) letter-i (omega arith) (omega arith)))
+returns-4 c = λ body b e. rest-i _ _ _ _ body e (c .before .before .before .before .before .before .before .before .before .before .before .check-section .ensures body (run-r b)) (c .before .before .before .before .before .before .before .before .before .enum-told .given .1) (c .before .before .before .before .before .before .before .before .check-section2 .ensures body (run-a b)) (c .before .before .before .before .before .before .enum-told3 .given .1) (c .before .before .before .before .before .check-section3 .ensures body (run-v b)) (c .before .before .before .enum-told5 .given .1) (c .before .before .check-section4 .result) (c .before .before .check-section4 .ensures body (run-i b))
+
+returns-5 : tie.Need-returns-5
+returns-5 c = λ body b e. rw (c .enum-told7 .given .1) at (rest-i _ _ _ _ body e (c .before .before .before .before .before .before .before .before .before .before .before .check-section .ensures body (run-r b)) (c .before .before .before .before .before .before .before .before .before .enum-told .given .1) (c .before .before .before .before .before .before .before .before .check-section2 .ensures body (run-a b)) (c .before .before .before .before .before .before .enum-told3 .given .1) (c .before .before .before .before .before .check-section3 .ensures body (run-v b)) (c .before .before .before .enum-told5 .given .1) (c .before .before .check-section4 .result) (c .before .before .check-section4 .ensures body (run-i b)))
 
 pub check-rest-spec : {M : Type 1} → statement M
 check-rest-spec =
@@ -104,4 +112,7 @@ check-rest-spec =
     add-check-section-7
     add-check-section-8
     check-section-requires-4
-    returns-4)
+    enum-told-7
+    enum-told-8
+    returns-4
+    returns-5)

@@ -32,8 +32,17 @@ returns-2 c = λ fs b e. tail-k _ fs e (c .before .before .before .before .befor
 check-section-requires-3 : tie.Need-check-section-requires-3
 check-section-requires-3 c κs = (c .before .before .before .before .before .before .before .before .pre .0, (c .before .before .before .before .before .before .before .before .pre .1, (omega arith, λ q. absurd (⊎-elim (λ e. omega arith) (⊎-elim (λ e. omega arith) (⊎-elim (λ e. omega arith) (λ e. omega arith))) q))))
 
+enum-told-5 : tie.Need-enum-told-5
+enum-told-5 c = search needs
+
+enum-told-6 : tie.Need-enum-told-6
+enum-told-6 c = search needs
+
 returns-3 : tie.Need-returns-3
-returns-3 c = λ fs b e. tail-x _ fs e (c .before .before .before .before .before .before .check-section .ensures fs (tail-run b 8 _ 193 194 (omega arith) (omega arith) letter-m (omega arith) (omega arith))) (c .before .before .before .before .enum-told .given .1) (c .before .before .before .check-section2 .ensures fs (tail-run b 9 _ 194 195 (omega arith) (omega arith) letter-k (omega arith) (omega arith))) (c .before .enum-told3 .given .1) (c .check-section3 .result) (c .check-section3 .ensures fs (tail-run b 10 _ 195 196 (omega arith) (omega arith) letter-x (omega arith) (omega arith)))
+returns-3 c = λ fs b e. tail-x _ fs e (c .before .before .before .before .before .before .before .before .check-section .ensures fs (tail-run b 8 _ 193 194 (omega arith) (omega arith) letter-m (omega arith) (omega arith))) (c .before .before .before .before .before .before .enum-told .given .1) (c .before .before .before .before .before .check-section2 .ensures fs (tail-run b 9 _ 194 195 (omega arith) (omega arith) letter-k (omega arith) (omega arith))) (c .before .before .before .enum-told3 .given .1) (c .before .before .check-section3 .result) (c .before .before .check-section3 .ensures fs (tail-run b 10 _ 195 196 (omega arith) (omega arith) letter-x (omega arith) (omega arith)))
+
+returns-4 : tie.Need-returns-4
+returns-4 c = λ fs b e. rw (c .enum-told5 .given .1) at (tail-x _ fs e (c .before .before .before .before .before .before .before .before .check-section .ensures fs (tail-run b 8 _ 193 194 (omega arith) (omega arith) letter-m (omega arith) (omega arith))) (c .before .before .before .before .before .before .enum-told .given .1) (c .before .before .before .before .before .check-section2 .ensures fs (tail-run b 9 _ 194 195 (omega arith) (omega arith) letter-k (omega arith) (omega arith))) (c .before .before .before .enum-told3 .given .1) (c .before .before .check-section3 .result) (c .before .before .check-section3 .ensures fs (tail-run b 10 _ 195 196 (omega arith) (omega arith) letter-x (omega arith) (omega arith))))
 
 pub check-tail-spec : {M : Type 1} → statement M
 check-tail-spec =
@@ -48,4 +57,7 @@ check-tail-spec =
     enum-told-4
     returns-2
     check-section-requires-3
-    returns-3)
+    enum-told-5
+    enum-told-6
+    returns-3
+    returns-4)

@@ -26,7 +26,7 @@ number-requires : tie.Need-number-requires
 number-requires c κs = search needs
 
 returns-2 : tie.Need-returns-2
-returns-2 c = (ap refused (c .number .ensures ∙ ap numberOf (c .before .enum-told .given .1)) ∙ read-types (c .before .before .before .before .before .pass .ensures .0) (c .before .before .before .before .before .pass .ensures .1) (c .before .before .before .before .before .before .if1 .left) (rw (c .before .enum-told .given .1) at (c .before .before .before .check .ensures .0 _ (c .before .before .before .before .before .pass .ensures .0 .run))), tt)
+returns-2 c = (ap refused (c .number .ensures ∙ ap numberOf (c .before .enum-told .given .1)) ∙ read-types (c .before .before .before .before .before .before .pass .ensures .0) (c .before .before .before .before .before .before .pass .ensures .1) (c .before .before .before .before .before .before .before .if1 .left) (rw (c .before .enum-told .given .1) at (c .before .before .before .check .ensures .0 _ (c .before .before .before .before .before .before .pass .ensures .0 .run))), tt)
 
 check-requires-2 : tie.Need-check-requires-2
 check-requires-2 c κs = search needs
@@ -41,7 +41,7 @@ number-requires-2 : tie.Need-number-requires-2
 number-requires-2 c κs = search needs
 
 returns-3 : tie.Need-returns-3
-returns-3 c = (ap refused (c .number2 .ensures ∙ ap numberOf (c .before .enum-told2 .given .1)) ∙ read-preds (c .before .before .before .before .before .before .before .before .before .before .pass .ensures .0) (c .before .before .before .before .before .before .before .before .before .before .pass .ensures .1) (c .before .before .before .before .before .before .before .before .before .before .before .if1 .left) (rw (c .before .before .before .before .before .before .t .given .1) at (c .before .before .before .before .before .before .before .before .check .ensures .0 _ (c .before .before .before .before .before .before .before .before .before .before .pass .ensures .0 .run))) (rw (c .before .enum-told2 .given .1) at (c .before .before .before .check2 .ensures .0 _ (c .before .before .before .before .before .before .before .before .before .before .pass .ensures .0 .run))), tt)
+returns-3 c = (ap refused (c .number2 .ensures ∙ ap numberOf (c .before .enum-told2 .given .1)) ∙ read-preds (c .before .before .before .before .before .before .before .before .before .before .before .pass .ensures .0) (c .before .before .before .before .before .before .before .before .before .before .before .pass .ensures .1) (c .before .before .before .before .before .before .before .before .before .before .before .before .if1 .left) (rw (c .before .before .before .before .before .before .t .given .1) at (c .before .before .before .before .before .before .before .before .check .ensures .0 _ (c .before .before .before .before .before .before .before .before .before .before .before .pass .ensures .0 .run))) (rw (c .before .enum-told2 .given .1) at (c .before .before .before .check2 .ensures .0 _ (c .before .before .before .before .before .before .before .before .before .before .before .pass .ensures .0 .run))), tt)
 
 check-requires-3 : tie.Need-check-requires-3
 check-requires-3 c κs = search needs
@@ -56,13 +56,13 @@ number-requires-3 : tie.Need-number-requires-3
 number-requires-3 c κs = search needs
 
 returns-4 : tie.Need-returns-4
-returns-4 c = (ap refused (c .number3 .ensures ∙ ap numberOf (c .before .enum-told3 .given .1)) ∙ read-funcs (c .before .before .before .before .before .before .before .before .before .before .before .before .before .before .before .pass .ensures .0) (c .before .before .before .before .before .before .before .before .before .before .before .before .before .before .before .pass .ensures .1) (c .before .before .before .before .before .before .before .before .before .before .before .before .before .before .before .before .if1 .left) (rw (c .before .before .before .before .before .before .before .before .before .before .before .t .given .1) at (c .before .before .before .before .before .before .before .before .before .before .before .before .before .check .ensures .0 _ (c .before .before .before .before .before .before .before .before .before .before .before .before .before .before .before .pass .ensures .0 .run))) (rw (c .before .before .before .before .before .before .q .given .1) at (c .before .before .before .before .before .before .before .before .check2 .ensures .0 _ (c .before .before .before .before .before .before .before .before .before .before .before .before .before .before .before .pass .ensures .0 .run))) (rw (c .before .enum-told3 .given .1) at (c .before .before .before .check3 .ensures .0 _ (c .before .before .before .before .before .before .before .before .before .before .before .before .before .before .before .pass .ensures .0 .run))), tt)
+returns-4 c = (ap refused (c .number3 .ensures ∙ ap numberOf (c .before .enum-told3 .given .1)) ∙ read-funcs (c .before .before .before .before .before .before .before .before .before .before .before .before .before .before .before .before .pass .ensures .0) (c .before .before .before .before .before .before .before .before .before .before .before .before .before .before .before .before .pass .ensures .1) (c .before .before .before .before .before .before .before .before .before .before .before .before .before .before .before .before .before .if1 .left) (rw (c .before .before .before .before .before .before .before .before .before .before .before .t .given .1) at (c .before .before .before .before .before .before .before .before .before .before .before .before .before .check .ensures .0 _ (c .before .before .before .before .before .before .before .before .before .before .before .before .before .before .before .before .pass .ensures .0 .run))) (rw (c .before .before .before .before .before .before .q .given .1) at (c .before .before .before .before .before .before .before .before .check2 .ensures .0 _ (c .before .before .before .before .before .before .before .before .before .before .before .before .before .before .before .before .pass .ensures .0 .run))) (rw (c .before .enum-told3 .given .1) at (c .before .before .before .check3 .ensures .0 _ (c .before .before .before .before .before .before .before .before .before .before .before .before .before .before .before .before .pass .ensures .0 .run))), tt)
 
 returns-5 : tie.Need-returns-5
-returns-5 c = (read-part (c .before .before .before .before .before .before .before .before .before .before .before .before .before .before .before .before .before .pass .ensures .0) (c .before .before .before .before .before .before .before .before .before .before .before .before .before .before .before .before .before .pass .ensures .1) (c .before .before .before .before .before .before .before .before .before .before .before .before .before .before .before .before .before .before .if1 .left) (rw (c .before .before .before .before .before .before .before .before .before .before .before .before .before .t .given .1) at (c .before .before .before .before .before .before .before .before .before .before .before .before .before .before .before .check .ensures .0 _ (c .before .before .before .before .before .before .before .before .before .before .before .before .before .before .before .before .before .pass .ensures .0 .run))) (rw (c .before .before .before .before .before .before .before .before .q .given .1) at (c .before .before .before .before .before .before .before .before .before .before .check2 .ensures .0 _ (c .before .before .before .before .before .before .before .before .before .before .before .before .before .before .before .before .before .pass .ensures .0 .run))) (rw (c .before .before .before .f .given .1) at (c .before .before .before .before .before .check3 .ensures .0 _ (c .before .before .before .before .before .before .before .before .before .before .before .before .before .before .before .before .before .pass .ensures .0 .run))) (not-true _ (c .if2 .taken)), tt)
+returns-5 c = (read-part (c .before .before .before .before .before .before .before .before .before .before .before .before .before .before .before .before .before .before .pass .ensures .0) (c .before .before .before .before .before .before .before .before .before .before .before .before .before .before .before .before .before .before .pass .ensures .1) (c .before .before .before .before .before .before .before .before .before .before .before .before .before .before .before .before .before .before .before .if1 .left) (rw (c .before .before .before .before .before .before .before .before .before .before .before .before .before .t .given .1) at (c .before .before .before .before .before .before .before .before .before .before .before .before .before .before .before .check .ensures .0 _ (c .before .before .before .before .before .before .before .before .before .before .before .before .before .before .before .before .before .before .pass .ensures .0 .run))) (rw (c .before .before .before .before .before .before .before .before .q .given .1) at (c .before .before .before .before .before .before .before .before .before .before .check2 .ensures .0 _ (c .before .before .before .before .before .before .before .before .before .before .before .before .before .before .before .before .before .before .pass .ensures .0 .run))) (rw (c .before .before .before .f .given .1) at (c .before .before .before .before .before .check3 .ensures .0 _ (c .before .before .before .before .before .before .before .before .before .before .before .before .before .before .before .before .before .before .pass .ensures .0 .run))) (not-true _ (c .if2 .taken)), tt)
 
 returns-6 : tie.Need-returns-6
-returns-6 c = let ct = rw (c .before .before .before .before .before .before .before .before .before .before .before .before .before .t .given .1) at (c .before .before .before .before .before .before .before .before .before .before .before .before .before .before .before .check .ensures .0 _ (c .before .before .before .before .before .before .before .before .before .before .before .before .before .before .before .before .before .pass .ensures .0 .run)) in let cp = rw (c .before .before .before .before .before .before .before .before .q .given .1) at (c .before .before .before .before .before .before .before .before .before .before .check2 .ensures .0 _ (c .before .before .before .before .before .before .before .before .before .before .before .before .before .before .before .before .before .pass .ensures .0 .run)) in let cf = rw (c .before .before .before .f .given .1) at (c .before .before .before .before .before .check3 .ensures .0 _ (c .before .before .before .before .before .before .before .before .before .before .before .before .before .before .before .before .before .pass .ensures .0 .run)) in let st = rw (c .before .before .before .before .before .before .before .before .before .before .before .before .before .t .given .1) at (c .before .before .before .before .before .before .before .before .before .before .before .before .before .before .before .check .ensures .1) in let sp = rw (c .before .before .before .before .before .before .before .before .q .given .1) at (c .before .before .before .before .before .before .before .before .before .before .check2 .ensures .1) in let sf = rw (c .before .before .before .f .given .1) at (c .before .before .before .before .before .check3 .ensures .1) in (read-sound (c .before .before .before .before .before .before .before .before .before .before .before .before .before .before .before .before .before .pass .ensures .0) (c .before .before .before .before .before .before .before .before .before .before .before .before .before .before .before .before .before .pass .ensures .1) (c .before .before .before .before .before .before .before .before .before .before .before .before .before .before .before .before .before .before .if1 .left) ct cp cf st sp sf (not-false _ (c .if2 .left)), read-indexed (c .before .before .before .before .before .before .before .before .before .before .before .before .before .before .before .before .before .pass .ensures .0) (c .before .before .before .before .before .before .before .before .before .before .before .before .before .before .before .before .before .pass .ensures .1) (c .before .before .before .before .before .before .before .before .before .before .before .before .before .before .before .before .before .before .if1 .left) ct cp cf st sp sf)
+returns-6 c = let ct = rw (c .before .before .before .before .before .before .before .before .before .before .before .before .before .t .given .1) at (c .before .before .before .before .before .before .before .before .before .before .before .before .before .before .before .check .ensures .0 _ (c .before .before .before .before .before .before .before .before .before .before .before .before .before .before .before .before .before .before .pass .ensures .0 .run)) in let cp = rw (c .before .before .before .before .before .before .before .before .q .given .1) at (c .before .before .before .before .before .before .before .before .before .before .check2 .ensures .0 _ (c .before .before .before .before .before .before .before .before .before .before .before .before .before .before .before .before .before .before .pass .ensures .0 .run)) in let cf = rw (c .before .before .before .f .given .1) at (c .before .before .before .before .before .check3 .ensures .0 _ (c .before .before .before .before .before .before .before .before .before .before .before .before .before .before .before .before .before .before .pass .ensures .0 .run)) in let st = rw (c .before .before .before .before .before .before .before .before .before .before .before .before .before .t .given .1) at (c .before .before .before .before .before .before .before .before .before .before .before .before .before .before .before .check .ensures .1) in let sp = rw (c .before .before .before .before .before .before .before .before .q .given .1) at (c .before .before .before .before .before .before .before .before .before .before .check2 .ensures .1) in let sf = rw (c .before .before .before .f .given .1) at (c .before .before .before .before .before .check3 .ensures .1) in (read-sound (c .before .before .before .before .before .before .before .before .before .before .before .before .before .before .before .before .before .before .pass .ensures .0) (c .before .before .before .before .before .before .before .before .before .before .before .before .before .before .before .before .before .before .pass .ensures .1) (c .before .before .before .before .before .before .before .before .before .before .before .before .before .before .before .before .before .before .before .if1 .left) ct cp cf st sp sf (not-false _ (c .if2 .left)), read-indexed (c .before .before .before .before .before .before .before .before .before .before .before .before .before .before .before .before .before .before .pass .ensures .0) (c .before .before .before .before .before .before .before .before .before .before .before .before .before .before .before .before .before .before .pass .ensures .1) (c .before .before .before .before .before .before .before .before .before .before .before .before .before .before .before .before .before .before .before .if1 .left) ct cp cf st sp sf)
 
 pub read-signature-spec : {M : Type 1} → statement M
 read-signature-spec =

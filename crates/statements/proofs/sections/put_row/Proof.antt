@@ -1,7 +1,5 @@
-use Rattle.statements.proofs.Variables.{beyond}
-use Rattle.rows.proofs.Parts.{count-in}
-use Rattle.theory.proofs.Lists.{length-each}
-use mathlib.Core.Path.{_∙_}
+use Rattle.statements.proofs.Variables.{stretch-many, beyond}
+use Rattle.records.proofs.Tail.{lent}
 use borrow.Author.Needs.{needs}
 use Rattle.statements.proofs.sections.put_row.Statement.{statement}
 use Rattle.statements.proofs.sections.put_row.Tie as tie
@@ -10,25 +8,31 @@ counted-requires : tie.Need-counted-requires
 counted-requires c κs = search needs
 
 returns : tie.Need-returns
-returns c = beyond _ _ (c .counted .ensures _ _ (length-each _ _ ∙ count-in _ _ _ (search needs))) (c .before .if1 .taken)
+returns c = beyond _ _ (c .counted .ensures _ _ (stretch-many _ _ _ (c .before .before .before .before .pre .0 .1) _)) (c .before .if1 .taken)
 
-add-vars-of : tie.Need-add-vars-of
-add-vars-of c = search needs
+rest-at-requires : tie.Need-rest-at-requires
+rest-at-requires c κs = search needs
 
-vars-of-requires : tie.Need-vars-of-requires
-vars-of-requires c κs = search needs
+sub-write-row : tie.Need-sub-write-row
+sub-write-row c = search needs
 
-num-requires : tie.Need-num-requires
-num-requires c κs = search needs
+part-write-row-start : tie.Need-part-write-row-start
+part-write-row-start c = search needs
 
-put-statement-requires : tie.Need-put-statement-requires
-put-statement-requires c κs = search needs
+part-write-row-end : tie.Need-part-write-row-end
+part-write-row-end c = search needs
+
+write-row-requires : tie.Need-write-row-requires
+write-row-requires c κs = search needs
+
+past-requires : tie.Need-past-requires
+past-requires c κs = search needs
 
 same-length : tie.Need-same-length
 same-length c = search needs
 
 returns-2 : tie.Need-returns-2
-returns-2 c = rw (← (c .before .before .before .before .before .vars-of .ensures), ← (c .before .before .before .before .num .ensures)) (c .before .before .put-statement .ensures)
+returns-2 c = lent (c .before .before .before .before .before .rest-at .ensures) (c .before .before .before .write-row .ensures) (c .past .ensures) (c .before .before .before .before .before .before .before .before .before .pre .0 .0)
 
 pub put-row-spec : {M : Type 1} → statement M
 put-row-spec =
@@ -36,9 +40,11 @@ put-row-spec =
     (tie.spec
     counted-requires
     returns
-    add-vars-of
-    vars-of-requires
-    num-requires
-    put-statement-requires
+    rest-at-requires
+    sub-write-row
+    part-write-row-start
+    part-write-row-end
+    write-row-requires
+    past-requires
     same-length
     returns-2)

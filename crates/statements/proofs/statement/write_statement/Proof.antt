@@ -1,39 +1,25 @@
-use lib.ListN.{length}
-use mathlib.Core.Path.{_≡_}
-use Rattle.statements.proofs.Variables.{varsFrom, vars-on, vars-end, statement-parts}
-use Rattle.records.proofs.Tail.{Writing, begin, wrote, finish, then}
 use Prim.Native.Nat.{_-_, _≤_}
+use Rattle.records.proofs.Tail.{Writing, begin, wrote, finish}
+use Rattle.statements.proofs.Variables.{varsFrom, first-on, first-end, statement-put}
+use mathlib.Core.Path.{_≡_}
+use lib.Seq.{length-take-le}
+use lib.ListN.{length, take}
 use borrow.Author.Needs.{needs}
 use native.Mathlib.Omega.{arith}
 use Rattle.statements.proofs.statement.write_statement.Statement.{statement}
 use Rattle.statements.proofs.statement.write_statement.Tie as tie
 
 abbrev Inv-loop : tie.InvT-loop
-Inv-loop out₀ letter x vars head behind at₀ i₀ out at i = (i ≤ x .count) × Writing out₀ out at₀ at (varsFrom (x .vars) (x .count) 0) (varsFrom (x .vars) (x .count) i)
+Inv-loop out₀ letter x vars at₀ i₀ out at i = (i ≤ x .count) × Writing out₀ out at₀ at (varsFrom (take (x .count) (x .vars)) 0) (varsFrom (take (x .count) (x .vars)) i)
 
 abbrev μ-loop : tie.MeasureT-loop
-μ-loop out₀ letter x vars head behind at₀ i₀ out at i = x .count - i
+μ-loop out₀ letter x vars at₀ i₀ out at i = x .count - i
 
-mul-put-field-head : tie.Need-mul-put-field-head Inv-loop μ-loop
-mul-put-field-head c = search needs
-
-add-put-field-head : tie.Need-add-put-field-head Inv-loop μ-loop
-add-put-field-head c = search needs
-
-cast-put-field-head : tie.Need-cast-put-field-head Inv-loop μ-loop
-cast-put-field-head c = search needs
-
-put-field-head-requires : tie.Need-put-field-head-requires Inv-loop μ-loop
-put-field-head-requires c κs = search needs
-
-put-byte-requires : tie.Need-put-byte-requires Inv-loop μ-loop
-put-byte-requires c κs = search needs
-
-put-num-requires : tie.Need-put-num-requires Inv-loop μ-loop
-put-num-requires c κs = search needs
+put-statement-head-requires : tie.Need-put-statement-head-requires Inv-loop μ-loop
+put-statement-head-requires c κs = search needs
 
 loop-holds : tie.Need-loop-holds Inv-loop μ-loop
-loop-holds c = (search needs, begin _ _ (omega (arith, c .before .before .put-num .ensures .size)))
+loop-holds c = (search needs, begin _ _ (search needs))
 
 mul-put-num : tie.Need-mul-put-num Inv-loop μ-loop
 mul-put-num c = search needs
@@ -41,8 +27,8 @@ mul-put-num c = search needs
 array-read-put-num : tie.Need-array-read-put-num Inv-loop μ-loop
 array-read-put-num c = search needs
 
-put-num-requires-2 : tie.Need-put-num-requires-2 Inv-loop μ-loop
-put-num-requires-2 c κs = search needs
+put-num-requires : tie.Need-put-num-requires Inv-loop μ-loop
+put-num-requires c κs = search needs
 
 add-i : tie.Need-add-i Inv-loop μ-loop
 add-i c = search needs
@@ -51,13 +37,13 @@ loop-less : tie.Need-loop-less Inv-loop μ-loop
 loop-less c = search needs
 
 loop-again : tie.Need-loop-again Inv-loop μ-loop
-loop-again c = let n : length (c .before .before .before .before .before .before .before .before .before .before .before .before .before .before .before .before .before .before .before .before .before .before .args .x .vars) ≡ 8 = search needs in (search needs, wrote (c .before .before .before .before .before .before .loop .inv .1) (vars-on (c .before .before .before .before .before .before .before .before .before .before .before .before .before .before .before .before .before .before .before .before .before .before .args .x .vars) (omega (arith, c .before .before .before .before .before .before .before .before .before .before .before .before .before .before .before .before .before .before .before .before .before .before .pre)) _ (c .before .before .before .before .if1 .taken)) (c .before .before .put-num2 .ensures))
+loop-again c = let n : length (c .before .before .before .before .before .before .before .before .before .before .before .before .before .args .x .vars) ≡ 8 = search needs in (search needs, wrote (c .before .before .before .before .before .before .loop .inv .1) (first-on (c .before .before .before .before .before .before .before .before .before .before .before .before .before .args .x .vars) (omega (arith, c .before .before .before .before .before .before .before .before .before .before .before .before .before .pre)) _ (c .before .before .before .before .if1 .taken)) (c .before .before .put-num .ensures))
 
 same-length : tie.Need-same-length Inv-loop μ-loop
 same-length c = search needs
 
 returns : tie.Need-returns Inv-loop μ-loop
-returns c = let n : length (c .before .before .before .before .before .before .before .before .before .before .before .before .before .before .before .before .before .before .args .x .vars) ≡ 8 = search needs in rw (← (statement-parts (c .before .before .before .before .before .before .before .before .before .before .before .before .before .before .before .before .before .before .args .letter) (c .before .before .before .before .before .before .before .before .before .before .before .before .before .before .before .before .before .before .args .x) (omega (arith, c .before .before .before .before .before .before .before .before .before .before .before .before .before .before .before .before .before .before .pre)))) (then (then (then (c .before .before .before .before .before .before .before .before .before .before .before .before .before .put-field-head .ensures) (c .before .before .before .before .before .before .before .before .before .put-byte .ensures)) (c .before .before .before .before .before .put-num .ensures)) (finish (c .before .before .loop .inv .1) (vars-end (c .before .before .before .before .before .before .before .before .before .before .before .before .before .before .before .before .before .before .args .x .vars) (omega (arith, c .before .before .before .before .before .before .before .before .before .before .before .before .before .before .before .before .before .before .pre)) _ (c .if1 .left))))
+returns c = let n : length (c .before .before .before .before .before .before .before .before .before .args .x .vars) ≡ 8 = search needs in statement-put _ _ (length-take-le _ (c .before .before .before .before .before .before .before .before .before .args .x .vars) (omega (arith, c .before .before .before .before .before .before .before .before .before .pre))) (c .before .before .before .before .before .put-statement-head .ensures) (finish (c .before .before .loop .inv .1) (first-end (c .before .before .before .before .before .before .before .before .before .args .x .vars) (omega (arith, c .before .before .before .before .before .before .before .before .before .pre)) _ (c .if1 .left)))
 
 pub write-statement-spec : {M : Type 1} → statement M
 write-statement-spec =
@@ -65,16 +51,11 @@ write-statement-spec =
     (tie.spec
     Inv-loop
     μ-loop
-    mul-put-field-head
-    add-put-field-head
-    cast-put-field-head
-    put-field-head-requires
-    put-byte-requires
-    put-num-requires
+    put-statement-head-requires
     loop-holds
     mul-put-num
     array-read-put-num
-    put-num-requires-2
+    put-num-requires
     add-i
     loop-less
     loop-again

@@ -1,5 +1,5 @@
 use borrow.Author.Needs.{needs}
-use Rattle.steps.proofs.New.{rows-lack, rows-new, images-few, section-few, section-room}
+use Rattle.steps.proofs.New.{rows-lack, rows-new, images-few}
 use Rattle.steps.proofs.added.new_between.Statement.{statement}
 use Rattle.steps.proofs.added.new_between.Tie as tie
 
@@ -18,14 +18,8 @@ returns c = λ kind columns fs gs r q a b. rows-lack (c .before .before .mapped-
 new-rows-requires : tie.Need-new-rows-requires
 new-rows-requires c κs = (c .before .before .before .before .before .before .before .before .before .pre .1 .1, (images-few (c .before .before .before .before .before .before .before .before .before .pre .1 .0) (c .before .before .before .before .before .mapped-rel-apps .ensures .0 0 _ (c .before .before .before .before .before .before .before .before .before .pre .1 .0 .run)) (c .before .before .before .mapped .given .1), c .before .before .before .before .before .mapped-rel-apps .ensures .1 .1))
 
-most-fields-requires : tie.Need-most-fields-requires
-most-fields-requires c κs = section-room (c .before .before .before .before .before .before .before .before .before .before .pre .1 .1)
-
-packed-requires : tie.Need-packed-requires
-packed-requires c κs = search needs
-
 returns-2 : tie.Need-returns-2
-returns-2 c = λ kind columns fs gs r q a b. rows-new gs (c .before .before .before .before .before .before .before .before .mapped-rel-apps .ensures .0 kind fs r) (c .before .before .before .before .before .before .mapped .given .1) a (section-few (c .before .before .before .before .before .before .before .before .before .before .before .before .pre .1 .1) q (c .before .most-fields .ensures)) (λ h. c .before .before .new-rows .ensures kind columns _ _ gs h q b) (c .packed .ensures)
+returns-2 c = λ kind columns fs gs r q a b. rows-new gs (c .before .before .before .before .before .before .mapped-rel-apps .ensures .0 kind fs r) (c .before .before .before .before .mapped .given .1) a (λ h. c .new-rows .ensures kind columns _ _ gs h q b)
 
 pub new-between-spec : {M : Type 1} → statement M
 new-between-spec =
@@ -36,6 +30,4 @@ new-between-spec =
     enum-told
     returns
     new-rows-requires
-    most-fields-requires
-    packed-requires
     returns-2)
