@@ -98,7 +98,19 @@ pub fn put_bytes(out: &mut [u8], from: usize, s: &[u8], start: usize, len: usize
     end
 }
 
-// A number in decimal: what stands before its last digit, then that.
+// The digits of a number: what stands before the last one, then that.
+fn put_digits(out: &mut [u8], at: usize, n: u16) -> usize
+    requires { ⌜ at ≤ countLimit ⌝ }
+    ensures { λ r. ⌜ Put (now (out .entry)) (now (out .exit)) (decimal n) at r ⌝ }
+{
+    if n < 10 {
+        return put_byte(out, at, b'0' + n as u8);
+    }
+    let behind = put_digits(out, at, n / 10);
+    put_byte(out, behind, b'0' + (n % 10) as u8)
+}
+
+// A number in decimal. Most have one digit, for which nothing is called.
 pub fn put_decimal(out: &mut [u8], at: usize, n: u16) -> usize
     requires { ⌜ at ≤ countLimit ⌝ }
     ensures { λ r. ⌜ Put (now (out .entry)) (now (out .exit)) (decimal n) at r ⌝ }
@@ -106,8 +118,7 @@ pub fn put_decimal(out: &mut [u8], at: usize, n: u16) -> usize
     if n < 10 {
         return put_byte(out, at, b'0' + n as u8);
     }
-    let behind = put_decimal(out, at, n / 10);
-    put_byte(out, behind, b'0' + (n % 10) as u8)
+    put_digits(out, at, n)
 }
 
 // How many bytes put_decimal writes.

@@ -11,12 +11,13 @@ use borrow.Author.Tests.{le-leb}
 use Rattle.definition.specs.Base.{keep, each}
 use Rattle.definition.specs.Letters.{letterE, letterR, letterA, letterV, letterI, start}
 use Rattle.definition.specs.Limits.{structureLimit, fieldLimit}
-use Rattle.definition.specs.Records.{Field, numberAt, withLetter, faultAmong}
+use Rattle.definition.specs.Records.{Field, numberAt, withLetter, faultFrom, faultAmong}
 use Rattle.definition.specs.Signature.{Signature}
 use Rattle.definition.specs.Rule.{namedElements, elementFault, rowFault, nameFault, bodyFault}
 use Rattle.records.specs.Places.{twoAt, stretch, Run}
 use Rattle.records.specs.Held.{fieldIn}
 use Rattle.records.proofs.Numbers.{length-stretch}
+use Rattle.records.proofs.Runs.{run-le, run-end}
 use Rattle.records.proofs.Index.{length-held, held-get, held-same}
 use Rattle.signature.specs.Faults.{faultOf}
 use Rattle.signature.specs.declared.faults.Fault.{Fault}
@@ -110,6 +111,18 @@ module _ {s index : List ℕ} {k : ℕ} {body : List Field} (b : Bodied s index 
   unfolding letterAt
   run-i = run-of 7 letterI (6 * k + 1 + 5) (6 * k + 1 + 5 + 1) (omega arith) (omega arith) refl (omega arith) (omega arith)
 
+  -- Where nothing stands behind the R fields, there are no A, V or I fields.
+  pub none-behind : {t u : ℕ} → getD index t 0 ≡ getD index u 0 → t ≡ 6 * k + 4 → u ≡ 6 * k + 7
+      → (withLetter letterA body ≡ []) × (withLetter letterV body ≡ []) × (withLetter letterI body ≡ [])
+  unfolding letterAt
+  none-behind {t} {u} e m n =
+      let w : getD index (6 * k + 4) 0 ≡ getD index (6 * k + 7) 0 = rw (m, n) at e in
+      let a : Run s (getD index (6 * k + 4) 0) (getD index (6 * k + 5) 0) (withLetter letterA body) = run-of 5 letterA _ _ (omega arith) (omega arith) refl (omega arith) refl in
+      let v : Run s (getD index (6 * k + 5) 0) (getD index (6 * k + 6) 0) (withLetter letterV body) = run-of 6 letterV _ _ (omega arith) (omega arith) refl (omega arith) refl in
+      let i : Run s (getD index (6 * k + 6) 0) (getD index (6 * k + 7) 0) (withLetter letterI body) = run-of 7 letterI _ _ (omega arith) (omega arith) refl (omega arith) refl in
+      let x = run-le a in let y = run-le v in let z = run-le i in
+      (run-end a (omega arith), run-end v (omega arith), run-end i (omega arith))
+
 pub bodied-kept : {s index₀ index : List ℕ} {k m : ℕ} {body : List Field} → k < structureLimit → Kept index₀ index m → Bodied s index₀ k body → Bodied s index k body
 bodied-kept {k = k} h kept b = record { run = λ q lo hi. rw (kept .before (6 * k + q - 1) (omega arith), kept .before (6 * k + q) (omega arith)) (b .run q lo hi) }
 
@@ -145,6 +158,10 @@ module _ (sig : Signature) (s index : List ℕ) (k : ℕ) (body : List Field) (e
   rest-r {r} h d = sym (rw (← (of-r r h), d))
 
   module _ {r : Fault} (hr : Of letterR r) (dr : r ≡ Sound) where
+    pub rest-none : (withLetter letterA body ≡ []) × (withLetter letterV body ≡ []) × (withLetter letterI body ≡ []) → Answer Sound
+    unfolding restFault faultAmong faultFrom
+    rest-none n = sym (rw (← (of-r r hr), dr, n .0, n .1, n .2))
+
     pub rest-a : {a : Fault} {n : ℕ} → Of letterA a → a ≡ Draws n → Answer a
     unfolding restFault
     rest-a {a} h d = sym (rw (← (of-r r hr), dr, ← (of-a a h), d))

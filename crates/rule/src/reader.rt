@@ -176,6 +176,10 @@ fn check_rest(
     let Fault::Sound = r else {
         return r;
     };
+    // Nothing more stands in many structures.
+    if bound(index, section + 3) == bound(index, section + 6) {
+        return Fault::Sound;
+    }
     let a = check_section(sig, symbols, counts, s, index, k + 1, LETTER_A, section + 3);
     let Fault::Sound = a else {
         return a;
