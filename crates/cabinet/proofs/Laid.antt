@@ -5,7 +5,7 @@ use mathlib.Core.List.{List}
 use mathlib.Core.Path.{_≡_, sym}
 use lib.ListN.{length, take, drop, take-append-drop}
 use lib.Seq.{length-take-le}
-use Rattle.definition.specs.Base.{Outcome, refused, accepted}
+use Rattle.definition.specs.Base.{refused}
 use Rattle.definition.specs.Flatten.{flattenOf}
 use Rattle.flatten.specs.Answers.{outcomeOf, sizeOf, Demanded}
 use Rattle.flatten.specs.declared.entry.Flattened.{Flattened}

@@ -1,5 +1,5 @@
 -- The definition's scope as numbers, by the answer of scope.
-use Prim.Native.Nat.{ℕ, _+_, _*_}
+use Prim.Native.Nat.{ℕ}
 use native.Mathlib.Omega.{arith}
 use native.Mathlib.Nat.{add-sub-cancel-left}
 use mathlib.Core.List.{List}

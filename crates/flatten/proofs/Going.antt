@@ -6,7 +6,7 @@ use mathlib.Core.Logic.{_⊎_, inl, inr}
 use mathlib.Core.List.{List, [], _∷_}
 use mathlib.Core.Option.{Option, none, some}
 use lib.ListN.{length, getD, set}
-use lib.Seq.{sets, getD-set-same, getD-set-other}
+use lib.Seq.{sets, getD-set-same}
 use Rattle.definition.specs.Base.{refused}
 use Rattle.definition.specs.Limits.{structureLimit, fieldLimit, variableLimit}
 use Rattle.definition.specs.Rule.{MorphismKind}
@@ -40,7 +40,7 @@ use Rattle.flatten.specs.Went.{Ends, Met, Does, numberOf, wholeWalk, Wen
 use Rattle.flatten.proofs.Numbers.{source-read}
 use Rattle.flatten.proofs.Reaching.{given-more}
 use Rattle.flatten.proofs.Walkable.{Walkable, MapAt}
-use Rattle.flatten.proofs.Stepping.{row, taken, long, below, source-given, apart, stepped}
+use Rattle.flatten.proofs.Stepping.{row, taken, long, below, source-given, stepped}
 use Rattle.flatten.proofs.Mapping.{no-source, has-target, map-refused, map-accepted}
 use Rattle.flatten.proofs.Folding.{stop, go-on}
 

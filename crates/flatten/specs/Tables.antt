@@ -1,8 +1,7 @@
 -- The tables of the walk, and what they say of the structures that were reached.
 use mathlib.Core.List.{List, [], _∷_, _++_}
 use mathlib.Core.Option.{Option, none, some}
-use mathlib.Core.Path.{_≡_}
-use Prim.Native.Nat.{ℕ, zero, suc, _+_, _<_}
+use Prim.Native.Nat.{ℕ, zero, suc, _+_}
 use lib.Dec.{eqb, ltb}
 use lib.ListN.{length, getD}
 use Rattle.definition.specs.Base.{pick, orDefault, each, _∈_}

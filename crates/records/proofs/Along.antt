@@ -32,10 +32,6 @@ module _ (s : List ℕ) (start len : ℕ) (h : start + len ≤ length s) (i : �
   unfolding stretchFrom
   stretch-end l = left-end (stretch s start len) (length-stretch s start len h) l
 
-pub stretch-start : (s : List ℕ) (start len : ℕ) → stretch s start len ≡ stretchFrom s start len 0
-unfolding stretchFrom
-stretch-start s start len = refl
-
 -- The order of two stretches from an index on.
 unfoldable pub lessFrom : List ℕ → ℕ → ℕ → ℕ → ℕ → ℕ → Bool
 lessFrom s a m b n i = less (stretchFrom s a m i) (stretchFrom s b n i)

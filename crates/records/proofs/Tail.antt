@@ -3,7 +3,7 @@ use Prim.Native.Nat.{ℕ, _+_, _-_, _≤_, _<_, min}
 use native.Mathlib.Omega.{arith}
 use native.Mathlib.Nat.{add-zero, zero-add}
 use mathlib.Core.Path.{_≡_, refl, _∙_}
-use mathlib.Core.List.{List, [], _∷_, _++_, append-assoc, append-nil}
+use mathlib.Core.List.{List, [], _++_, append-assoc, append-nil}
 use lib.ListN.{length, take, drop, length-append, length-take, length-drop, drop-of-length-le, take-append-drop}
 use lib.Seq.{take-at, drop-at, drop-drop, take-all, sets, sets-eq, length-sets}
 use borrow.Rule.Slice.PartMut.{putMid}
@@ -79,14 +79,6 @@ module _ {out₀ out all rest : List ℕ} {at₀ at : ℕ} (w : Writing out₀ o
 
   pub finish : rest ≡ [] → Put out₀ out all at₀ at
   finish q = let e : all ≡ w .done = w .cut ∙ rw (q, append-nil) in rw e (w .put)
-
--- At an empty buffer nothing is written.
-pub measured : {o p : List ℕ} {at m : ℕ} (xs : List ℕ) → Put [] o p at m → o ++ xs ≡ xs
-measured {o} xs h = go o (h .long)
-  where
-    go : (o : List ℕ) → length o ≡ 0 → o ++ xs ≡ xs
-    go [] e = refl
-    go (x ∷ o) e = absurd (omega arith)
 
 -- A field is its head, then its content.
 pub field-bytes : (f : Field) → fieldBytes f ≡ headBytes (f .letter) (length (f .content)) ++ f .content

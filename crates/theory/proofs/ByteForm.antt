@@ -2,14 +2,13 @@
 use Prim.Native.Nat.{ℕ, _+_}
 use native.Mathlib.Omega.{arith}
 use native.Mathlib.Nat.{add-zero}
-use mathlib.Core.Path.{_≡_, refl, ap, sym, _∙_}
-use mathlib.Core.List.{List, [], _∷_, _++_, append-assoc}
+use mathlib.Core.Path.{_≡_, refl, ap, _∙_}
+use mathlib.Core.List.{List, [], _∷_, _++_}
 use lib.ListN.{length}
 use Rattle.definition.specs.Base.{each, joined}
-use Rattle.definition.specs.Letters.{letterG, letterU, letterB, letterH, underscore}
+use Rattle.definition.specs.Letters.{letterG, letterU, letterB, letterH}
 use Rattle.definition.specs.Records.{Field}
-use Rattle.definition.specs.Group.{Variable, Statement, FlatRule, Group}
-use Rattle.definition.specs.Names.{decimal}
+use Rattle.definition.specs.Group.{Statement, FlatRule, Group}
 use Rattle.definition.specs.Kinds.{Emitted}
 use Rattle.definition.specs.Walk.{namedRules}
 use Rattle.definition.specs.Writer.{fieldBytes, recordBytes, variableField, statementField, flatRuleFields, groupFields, groupBytesOf}

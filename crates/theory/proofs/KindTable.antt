@@ -1,18 +1,18 @@
 -- The walked kinds as a table: at each pair of structures one kind or none.
-use Prim.Native.Nat.{ℕ, _≤_, _<_}
+use Prim.Native.Nat.{ℕ}
 use native.Mathlib.Omega.{arith}
 use mathlib.Core.Path.{_≡_, refl, ap, sym, _∙_}
-use mathlib.Core.Logic.{_⊎_, inl, inr, ⊎-elim}
-use mathlib.Core.Bool.{Bool, true, false, not, _&&_}
+use mathlib.Core.Logic.{_⊎_, ⊎-elim}
+use mathlib.Core.Bool.{Bool, true, false}
 use mathlib.Core.Option.{Option, none, some}
 use mathlib.Core.List.{List, [], _∷_, _++_, List·Memᴰ·head, List·Memᴰ·tail, List·Memᴰ·not-nil, List·Memᴰ·cases-cons, List·Memᴰ·append-cases, List·Memᴰ·eq-of-singleton}
 use lib.Dec.{eqb}
 use lib.ListN.{length}
 use borrow.Author.Tests.{eqb-true, eq-eqb}
-use Rattle.definition.specs.Base.{pick, orElse, orDefault, consIf, keep, each, joined, any, firstOf, span, less, _∈_}
+use Rattle.definition.specs.Base.{pick, orElse, consIf, keep, each, joined, any, firstOf, span, less, _∈_}
 use Rattle.definition.specs.Rule.{Map, Kind, MorphismKind, Auxiliary, Rule}
-use Rattle.definition.specs.Walk.{incomingSource, ofPair, auxiliaryKind, addPair, completed, walkedKinds}
-use Rattle.theory.proofs.Lists.{never, or-else-none, joined-same, bool-cases, and-left, and-right, and-true, or-left, or-right, any-true, any-mem, any-false, mem-keep}
+use Rattle.definition.specs.Walk.{ofPair, addPair, completed, walkedKinds}
+use Rattle.theory.proofs.Lists.{never, or-else-none, joined-same, bool-cases, and-left, and-right, and-true, or-left, or-right, any-true, any-false}
 use Rattle.theory.proofs.Orders.{Ascending, less-not}
 use Rattle.theory.proofs.SoundOrder.{kindKey}
 

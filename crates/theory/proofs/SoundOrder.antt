@@ -1,8 +1,8 @@
 -- An accepted rule is in order: elements by number, maps and kinds by source and target.
-use Prim.Native.Nat.{ℕ, _≤_, _<_, _*_, _+_}
+use Prim.Native.Nat.{ℕ, _≤_}
 use native.Mathlib.Omega.{arith}
-use mathlib.Core.Path.{_≡_, refl, ap, sym, _∙_}
-use mathlib.Core.Bool.{Bool, true, false, not}
+use mathlib.Core.Path.{_≡_, refl}
+use mathlib.Core.Bool.{true}
 use mathlib.Core.Option.{Option, none, some}
 use mathlib.Core.List.{List, [], _∷_}
 use lib.Dec.{ltb}
@@ -11,7 +11,7 @@ use borrow.Author.Tests.{ltb-false, eqb-true}
 use Rattle.definition.specs.Base.{accepted, each, less, _∈_}
 use Rattle.definition.specs.Limits.{ruleBytes}
 use Rattle.definition.specs.Letters.{letterE, letterM, letterK, letterS}
-use Rattle.definition.specs.Records.{Field, Block, numbers, numberAt, withLetter, blocks, notAbove, odd}
+use Rattle.definition.specs.Records.{Field, Block, numbers, numberAt, withLetter, blocks, odd}
 use Rattle.definition.specs.Signature.{Signature}
 use Rattle.definition.specs.Rule.{Element, Map, Kind, Structure, Rule, elementOf, mapOf, kindOf, sourceTarget, elementFault, mapFault, kindFault, namedElements, namedIn, structureOf, ruleOf, ruleFault, rulePart, readRule}
 use Rattle.theory.proofs.Lists.{or-left, or-right, not-false, lowest-none, mem-each}

@@ -1,11 +1,11 @@
 -- The step of a map in the form that a program has: a refusal that asks nothing of the statements, what the target appends to
 -- them, and the conclusions of the rules that it emits.
-use mathlib.Core.Path.{_≡_, refl, ap, sym, _∙_}
+use mathlib.Core.Path.{_≡_, refl}
 use mathlib.Core.Bool.{Bool, true, false, not}
 use mathlib.Core.Option.{Option, none, some}
 use mathlib.Core.List.{List, [], _∷_, _++_, append-nil}
 use Prim.Native.Nat.{ℕ}
-use Rattle.definition.specs.Base.{Outcome, refused, accepted, pick, each, all, butLast, lowest, empty}
+use Rattle.definition.specs.Base.{refused, accepted, pick, each, all, butLast, lowest, empty}
 use Rattle.definition.specs.Signature.{Signature}
 use Rattle.definition.specs.Rule.{Row, Pair, MorphismKind, If, SurjThen, NonSurjThen, Noop}
 use Rattle.definition.specs.Group.{Variable, Statement}

@@ -1,6 +1,5 @@
 use Rattle.flags.proofs.Bits.{pow-fits, shift-is}
 use borrow.Author.Needs.{needs}
-use native.Mathlib.Omega.{arith}
 use Rattle.flags.proofs.with_flag.Statement.{statement}
 use Rattle.flags.proofs.with_flag.Tie as tie
 use Rattle.flags.proofs.with_flag.Reads as reads

@@ -1,11 +1,10 @@
-use mathlib.Core.Path.{refl, sym, _∙_}
+use mathlib.Core.Path.{sym, _∙_}
 use Rattle.signature.specs.Index.{signatureAt}
 use Rattle.flatten.specs.Ended.{Ground}
 use Rattle.flatten.proofs.Grounds.{AllMapped, ready, counted, ground, first-laid, byte-types}
 use Rattle.flatten.proofs.Writing.{begin-going, ended, ended-writes, refused-at-once, refused-21, refused-22, stopped-walk}
 use Rattle.kinds.proofs.TableLaws.{empty-table}
 use borrow.Author.Needs.{needs}
-use native.Mathlib.Omega.{arith}
 use Rattle.flatten.proofs.entry.flatten_rule.Statement.{statement}
 use Rattle.flatten.proofs.entry.flatten_rule.Tie as tie
 use Rattle.flatten.proofs.entry.flatten_rule.Reads as reads

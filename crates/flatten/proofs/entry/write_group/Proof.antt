@@ -1,6 +1,5 @@
 use Rattle.flatten.proofs.Writing.{over, no-room, wrote-all, copied-all}
 use borrow.Author.Needs.{needs}
-use native.Mathlib.Omega.{arith}
 use Rattle.flatten.proofs.entry.write_group.Statement.{statement}
 use Rattle.flatten.proofs.entry.write_group.Tie as tie
 use Rattle.flatten.proofs.entry.write_group.Reads as reads

@@ -1,7 +1,6 @@
 use Rattle.flatten.proofs.Rules.{emits-surj, emits-rows, emits-none}
 use mathlib.Core.Path.{refl}
 use borrow.Author.Needs.{needs}
-use native.Mathlib.Omega.{arith}
 use Rattle.flatten.proofs.output.emits.Statement.{statement}
 use Rattle.flatten.proofs.output.emits.Tie as tie
 use Rattle.flatten.proofs.output.emits.Reads as reads

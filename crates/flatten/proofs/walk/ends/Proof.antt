@@ -1,7 +1,6 @@
 use mathlib.Core.Logic.{inl, inr}
 use mathlib.Core.Path.{refl}
 use borrow.Author.Needs.{needs}
-use native.Mathlib.Omega.{arith}
 use Rattle.flatten.proofs.walk.ends.Statement.{statement}
 use Rattle.flatten.proofs.walk.ends.Tie as tie
 use Rattle.flatten.proofs.walk.ends.Reads as reads

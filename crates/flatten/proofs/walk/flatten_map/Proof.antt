@@ -1,6 +1,5 @@
 use Rattle.flatten.proofs.Doing.{surj-does, non-surj-does, if-does}
 use borrow.Author.Needs.{needs}
-use native.Mathlib.Omega.{arith}
 use Rattle.flatten.proofs.walk.flatten_map.Statement.{statement}
 use Rattle.flatten.proofs.walk.flatten_map.Tie as tie
 use Rattle.flatten.proofs.walk.flatten_map.Reads as reads

@@ -6,7 +6,6 @@ use Rattle.flatten.proofs.Numbers.{count-small, fresh-room}
 use Rattle.flatten.proofs.Walkable.{Walkable, map-at}
 use Rattle.flatten.proofs.Going.{ends-stop, walkable, room, source-laid, target-laid, given-read, typed-read, reaches, went-refused, went-on}
 use borrow.Author.Needs.{needs}
-use native.Mathlib.Omega.{arith}
 use Rattle.flatten.proofs.walk.walk_map.Statement.{statement}
 use Rattle.flatten.proofs.walk.walk_map.Tie as tie
 use Rattle.flatten.proofs.walk.walk_map.Reads as reads

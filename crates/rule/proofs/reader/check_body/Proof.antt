@@ -1,7 +1,6 @@
 use Rattle.rule.proofs.Storing.{holds-not}
 use Rattle.rule.proofs.Bodies.{run-e, named-is, known-more, bodied-kept, body-e, body-rest, stored-not}
 use borrow.Author.Needs.{needs}
-use native.Mathlib.Omega.{arith}
 use Rattle.rule.proofs.reader.check_body.Statement.{statement}
 use Rattle.rule.proofs.reader.check_body.Tie as tie
 
