@@ -30,7 +30,7 @@ use Rattle.kinds.specs.Table.{Tabled}
 use Rattle.naming.specs.Structures.{structureIn}
 use Rattle.naming.specs.Variables.{noVar, rowOf, newIn}
 use Rattle.naming.proofs.News.{typesOf}
-use Rattle.flatten.specs.Tables.{Tables, tables, unreached, allMasks}
+use Rattle.flatten.specs.Tables.{Tables, tables, unreached, allMasks, noRows}
 use Rattle.flatten.specs.Left.{Going}
 use Rattle.flatten.specs.Ended.{Ground, Ended}
 use Rattle.flatten.specs.Went.{wholeWalk, Walks}
@@ -96,24 +96,21 @@ pub ended : {sig : Signature} {s index types : List ℕ} {kinds : List (List ℕ
 ended {sig} gr td walked.On w e = record { sig = sig; state = w .is .0; ground = gr; tabled = td; finished = w .is .2 }
 ended gr td (walked.Refused n) w e = let z : _≡_ {A = ℕ} 0 1 = cc in absurd (omega arith)
 
--- The walk's beginning: no structure has a row of variables,
-abbrev noRows : List (List ℕ)
-noRows = replicate structureLimit (replicate fieldLimit noVar)
-
--- then structure 0 has.
-pub begin-going : {sig : Signature} {s index : List ℕ} → Ground sig s index → {row types first : List ℕ}
+-- The walk's beginning: of the structures only 0 has a row of variables.
+pub begin-going : {sig : Signature} {s index : List ℕ} → Ground sig s index → {rows : List (List ℕ)} {row types first : List ℕ}
+    → rows ≡ noRows
     → row ≡ rowOf (numbered 0 (nothingTaken (structureIn s 0)))
-    → types ≡ sets (replicate variableLimit 0) 0 (typesOf (newIn (structureIn s 0) 0 (getD (set noRows 0 row) 0 [])))
+    → types ≡ sets (replicate variableLimit 0) 0 (typesOf (newIn (structureIn s 0) 0 (getD (set rows 0 row) 0 [])))
     → first ≡ allMasks
-    → Going sig s (tables (set (replicate structureLimit unreached) 0 0) (set (replicate structureLimit noMasks) 0 first) (set noRows 0 row))
+    → Going sig s (tables (set (replicate structureLimit unreached) 0 0) (set (replicate structureLimit noMasks) 0 first) (set rows 0 row))
       types (length (structureIn s 0 .elements)) 0 0
-begin-going {sig} {s} gr {row} {types} e f m =
-    let r : getD (set noRows 0 row) 0 [] ≡ rowOf (numbered 0 (nothingTaken (structureIn s 0))) =
-      row-read noRows row {t = 0} refl (length-replicate structureLimit (replicate fieldLimit noVar)) (omega arith) ∙ e in
+begin-going {sig} {s} gr {rows} {row} {types} z e f m =
+    let l : length rows ≡ structureLimit = ap length z ∙ length-replicate structureLimit (replicate fieldLimit noVar) in
+    let r : getD (set rows 0 row) 0 [] ≡ rowOf (numbered 0 (nothingTaken (structureIn s 0))) = row-read rows row {t = 0} refl l (omega arith) ∙ e in
     let g : types ≡ sets (replicate variableLimit 0) 0 (typesOf (newIn (structureIn s 0) 0 (rowOf (numbered 0 (nothingTaken (structureIn s 0)))))) = f ∙ rw r in
     record {
       state = initialState (ruleAt s);
-      walking = rw (e, m) (started sig s (first-rows gr) (gr .some-one) g);
+      walking = rw (z, e, m) (started sig s (first-rows gr) (gr .some-one) g);
       rest = ap (walkFrom sig (ruleAt s) (initialState (ruleAt s))) (left-all s (gr .once) (gr .some-one));
     }
 

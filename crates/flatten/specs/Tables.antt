@@ -3,10 +3,10 @@ use mathlib.Core.List.{List, [], _∷_, _++_}
 use mathlib.Core.Option.{Option, none, some}
 use Prim.Native.Nat.{ℕ, zero, suc, _+_}
 use lib.Dec.{eqb, ltb}
-use lib.ListN.{length, getD}
+use lib.ListN.{length, getD, replicate}
 use Rattle.definition.specs.Base.{pick, orDefault, each, _∈_}
 use Rattle.definition.specs.Letters.{underscore}
-use Rattle.definition.specs.Limits.{structureLimit}
+use Rattle.definition.specs.Limits.{structureLimit, fieldLimit}
 use Rattle.definition.specs.Rule.{Pair, MorphismKind, If, SurjThen, NonSurjThen, Noop}
 use Rattle.definition.specs.Group.{Variable, Statement, FlatRule}
 use Rattle.definition.specs.Signature.{Signature}
@@ -17,7 +17,7 @@ use Rattle.theory.proofs.KindTable.{kindAt}
 use Rattle.theory.proofs.StepForm.{emitted}
 use Rattle.rule.specs.Lookup.{ruleAt}
 use Rattle.naming.specs.Structures.{structureIn}
-use Rattle.naming.specs.Variables.{variablesIn, newIn}
+use Rattle.naming.specs.Variables.{noVar, variablesIn, newIn}
 use Rattle.statements.specs.Said.{saidBy, domainsBy}
 use Rattle.statements.specs.Structures.{sideIn}
 use Rattle.statements.specs.declared.masks.Masks.{Masks}
@@ -37,6 +37,10 @@ tables sources masks vars = record { sources = sources; masks = masks; vars = va
 
 unfoldable pub sourceAt : Tables → ℕ → ℕ
 sourceAt tb t = getD (tb .sources) t unreached
+
+-- The rows of variables before any structure has them.
+abbrev pub noRows : List (List ℕ)
+noRows = replicate structureLimit (replicate fieldLimit noVar)
 
 unfoldable pub rowAt : Tables → ℕ → List ℕ
 rowAt tb t = getD (tb .vars) t []

@@ -13,6 +13,7 @@ use crate::output::put_group;
 use crate::tables::SORTS;
 use crate::tables::UNREACHED;
 use crate::tables::initial_matching_stmts;
+use crate::tables::no_el_vars;
 use crate::walk::Walked;
 use crate::walk::flatten_morphisms;
 use kinds::sources::unmapped_auxiliary;
@@ -21,7 +22,6 @@ use kinds::table::NO_KIND;
 use kinds::table::kind_table;
 use naming::assign::initial_el_vars;
 use naming::types::type_variables;
-use naming::variables::NO_VAR;
 use naming::variables::VARIABLES;
 use reading::RuleReading;
 use reading::read_rule_into;
@@ -45,7 +45,7 @@ pub enum Flattened {
 // most groups are small, and are gone along only once.
 const SMALL_GROUP: usize = 512;
 
-// The group, measured first, then written where it fits.
+// The group, measured first, then written where it fits. The walk is over: its variables are handed over for good.
 fn write_group(
     out: &mut [u8],
     s: &[u8],
@@ -54,17 +54,17 @@ fn write_group(
     kinds: &[[u8; STRUCTURES]; STRUCTURES],
     sources: &[u8; STRUCTURES],
     masks: &[[u64; SORTS]; STRUCTURES],
-    vars: &[[u16; FIELDS]; STRUCTURES],
+    vars: [[u16; FIELDS]; STRUCTURES],
     types: &[u8; VARIABLES],
 ) -> Flattened
     requires { ⌜ n ≡ length (ruleAt (now s) .structures) ⌝ }
-    requires { ⌜ Ended (now s) (now index) (now types) (now kinds) (tables (now sources) (now masks) (now vars)) ⌝ }
-    ensures { λ r. ⌜ ((e : Ended (now (s .entry)) (now (index .entry)) (now (types .entry)) (now (kinds .entry)) (tables (now (sources .entry)) (now (masks .entry)) (now (vars .entry))))
+    requires { ⌜ Ended (now s) (now index) (now types) (now kinds) (tables (now sources) (now masks) vars) ⌝ }
+    ensures { λ r. ⌜ ((e : Ended (now (s .entry)) (now (index .entry)) (now (types .entry)) (now (kinds .entry)) (tables (now (sources .entry)) (now (masks .entry)) vars))
         → Writes r (now (out .entry)) (now (out .exit)) (fitted (length (now (out .entry))) (groupBytesOf (groupLeft (ruleAt (now (s .entry))) (e .state))))) ⌝ }
 {
     let room = out.len();
     let mut own = [0u8; SMALL_GROUP];
-    let size = put_group(&mut own, s, index, n, kinds, sources, masks, vars, types);
+    let size = put_group(&mut own, s, index, n, kinds, sources, masks, &vars, types);
     if ANSWER < size {
         return Flattened::Refused(31);
     }
@@ -75,7 +75,7 @@ fn write_group(
         put_bytes(out, 0, &own, 0, size);
         return Flattened::Written(size);
     }
-    put_group(out, s, index, n, kinds, sources, masks, vars, types);
+    put_group(out, s, index, n, kinds, sources, masks, &vars, types);
     Flattened::Written(size)
 }
 
@@ -110,7 +110,7 @@ pub fn flatten_rule(
     }
     let mut kinds = [[NO_KIND; STRUCTURES]; STRUCTURES];
     kind_table(s, index, &mut kinds);
-    let mut vars = [[NO_VAR; FIELDS]; STRUCTURES];
+    let mut vars = no_el_vars();
     vars[0] = initial_el_vars(s, index);
     let mut sources = [UNREACHED; STRUCTURES];
     sources[0] = 0;
@@ -124,7 +124,7 @@ pub fn flatten_rule(
     let Walked::On = w else {
         return Flattened::Refused(stopped(w));
     };
-    write_group(out, s, index, n, &kinds, &sources, &masks, &vars, &types)
+    write_group(out, s, index, n, &kinds, &sources, &masks, vars, &types)
 }
 
 // The number of a refused reading.

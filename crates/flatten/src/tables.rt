@@ -4,7 +4,9 @@ ghost use mathlib.Core.Path.{_≡_};
 ghost use Prim.Native.Nat.{_<_};
 ghost use lib.ListN.{getD};
 ghost use Rattle.definition.specs.Limits.{structureLimit};
-ghost use Rattle.flatten.specs.Tables.{masksOf, allMasks};
+ghost use Rattle.flatten.specs.Tables.{masksOf, allMasks, noRows};
+use naming::variables::NO_VAR;
+use rule::ids::FIELDS;
 use rule::ids::STRUCTURES;
 use statements::masks::Masks;
 
@@ -16,6 +18,13 @@ pub const SORTS: usize = 4;
 
 // Every flag is set.
 const ALL: u64 = 18446744073709551615;
+
+// The variables before any structure has them: a row for each structure, with a place for each of its elements.
+pub fn no_el_vars() -> [[u16; FIELDS]; STRUCTURES]
+    ensures { λ r. ⌜ r ≡ noRows ⌝ }
+{
+    [[NO_VAR; FIELDS]; STRUCTURES]
+}
 
 // The masks of structure 0: its premise has all that it says, every row and every TypeSet.
 pub fn initial_matching_stmts() -> [u64; SORTS]

@@ -176,7 +176,7 @@ fn check_rest(
     let Fault::Sound = r else {
         return r;
     };
-    // Nothing more stands in many structures.
+    // Many structures have no A, V or I fields; then no section is gone into for them.
     if bound(index, section + 3) == bound(index, section + 6) {
         return Fault::Sound;
     }

@@ -11,6 +11,7 @@ use Rattle.flatten.proofs.entry.flatten_rule.Reads as reads
 use Rattle.flatten.proofs.entry.flatten_rule.Lts as lts
 use Rattle.flatten.proofs.entry.stopped.Reads as stopped-reads
 use Rattle.flatten.proofs.entry.write_group.Reads as write-group-reads
+use Rattle.flatten.proofs.tables.no_el_vars.Reads as no-el-vars-reads
 use Rattle.flatten.proofs.walk.flatten_morphisms.Reads as flatten-morphisms-reads
 use Rattle.kinds.proofs.sources.unmapped_auxiliary.Reads as unmapped-auxiliary-reads
 use Rattle.kinds.proofs.sources.unmapped_kind.Reads as unmapped-kind-reads
@@ -22,7 +23,7 @@ abbrev S : tie.Else2 → tie.Start
 S c = c .before .before .before .before .before .before .before
 
 abbrev K : tie.After-enum-told → tie.After-kind-table
-K c = c .before .before .before .before .before .before .before .before .before .before .before .before .before
+K c = c .before .before .before .before .before .before .before .before .before .before .before .before .before .before
 
 -- Behind 21 and 22.
 all-mapped : (c : tie.Else2) → AllMapped (S c .args .s .now)
@@ -47,8 +48,11 @@ returns-2 c = refused-at-once _ (refused-22 _ _ _
 kind-table-requires : tie.Need-kind-table-requires
 kind-table-requires c κs = (ready (S (c .before) .pre), empty-table)
 
+no-el-vars-requires : tie.Need-no-el-vars-requires
+no-el-vars-requires c κs = search needs
+
 initial-el-vars-requires : tie.Need-initial-el-vars-requires
-initial-el-vars-requires c κs = first-laid (gr (c .before .before))
+initial-el-vars-requires c κs = first-laid (gr (c .before .before .before))
 
 array-set-from-vars : tie.Need-array-set-from-vars
 array-set-from-vars c = search needs
@@ -66,14 +70,14 @@ array-copy-out-type-variables : tie.Need-array-copy-out-type-variables
 array-copy-out-type-variables c = search needs
 
 type-variables-requires : tie.Need-type-variables-requires
-type-variables-requires c κs = let g = gr (c .before .before .before .before .before .before) in (first-laid g, (byte-types g _ (g .some-one), (search needs, search needs)))
+type-variables-requires c κs = let g = gr (c .before .before .before .before .before .before .before) in (first-laid g, (byte-types g _ (g .some-one), (search needs, search needs)))
 
 flatten-morphisms-requires : tie.Need-flatten-morphisms-requires
 flatten-morphisms-requires c κs =
-    let i = c .before .before .before .before .before .before .before .before in let k = i .before .before in
+    let i = c .before .before .before .before .before .before .before .before in let k = i .before .before .before in
     let w = S (k .before .before) .pre in let g = gr (k .before .before) in
     ((w .signature-indexed, g), ((counted w, k .kind-table .ensures),
-      begin-going g (i .before .initial-el-vars .ensures) (c .before .before .before .before .before .type-variables .ensures) (i .initial-matching-stmts .ensures)))
+      begin-going g (i .before .before .no-el-vars .ensures) (i .before .initial-el-vars .ensures) (c .before .before .before .before .before .type-variables .ensures) (i .initial-matching-stmts .ensures)))
 
 enum-told : tie.Need-enum-told
 enum-told c = search needs
@@ -87,12 +91,12 @@ stopped-requires c κs = search needs
 returns-3 : tie.Need-returns-3
 returns-3 c =
     let w = c .before .before .before in
-    refused-at-once _ (stopped-walk _ _ _ (all-mapped (w .before .before .before .before .before .before .before .before .before .before .before .before .before)) _
+    refused-at-once _ (stopped-walk _ _ _ (all-mapped (w .before .before .before .before .before .before .before .before .before .before .before .before .before .before)) _
       (w .flatten-morphisms .ensures) (c .before .enum-told2 .given .1) (c .stopped .ensures))
 
 write-group-requires : tie.Need-write-group-requires
 write-group-requires c κs =
-    let e = c .before .before .before .before .before .before in let k = K e in
+    let e = c .before .before .before .before .before in let k = K e in
     (counted (S (k .before .before) .pre), ended (gr (k .before .before)) (k .kind-table .ensures) _ (e .before .before .flatten-morphisms .ensures) (e .enum-told .given .1))
 
 same-length : tie.Need-same-length
@@ -100,7 +104,7 @@ same-length c = search needs
 
 returns-4 : tie.Need-returns-4
 returns-4 c =
-    let e = c .before .before .before .before .before .before .before .before .before in let k = K e in
+    let e = c .before .before .before .before .before .before .before .before in let k = K e in
     ended-writes _ _ _ (all-mapped (k .before .before)) (gr (k .before .before)) (k .kind-table .ensures) _
       (e .before .before .flatten-morphisms .ensures) (e .enum-told .given .1) (c .before .before .write-group .ensures)
 
@@ -113,6 +117,7 @@ flatten-rule-spec =
     unmapped-kind-requires
     returns-2
     kind-table-requires
+    no-el-vars-requires
     initial-el-vars-requires
     array-set-from-vars
     array-write-sources

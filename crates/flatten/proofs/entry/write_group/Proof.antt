@@ -41,7 +41,7 @@ same-length-2 c = search needs
 
 returns-4 : tie.Need-returns-4
 returns-4 c =
-    let b = c .before .before .before .before in
+    let b = c .before .before .before .before .before in
     λ e. wrote-all (b .before .before .before .before .put-group .ensures .0 e) (b .before .before .if1 .left) (b .before .if2 .left) (c .before .before .put-group2 .ensures .0 e)
 
 pub write-group-spec : {M : Type 1} → statement M
