@@ -1,27 +1,46 @@
 -- The loop over all pairs: kinds as the table has them, and the walk's end.
-use Prim.Native.Nat.{ℕ, suc, _+_, _-_, _*_, _≤_, _<_}
+use Prim.Native.Nat.{ℕ, zero, suc, _+_, _-_, _*_, _≤_, _<_}
 use native.Mathlib.Omega.{arith}
 use native.Mathlib.Nat.{suc-mul}
+use mathlib.Core.Bool.{Bool, true, false}
 use mathlib.Core.Path.{_≡_, ap, sym, _∙_}
 use mathlib.Core.List.{List}
-use lib.ListN.{length}
+use lib.ListN.{length, set, replicate, length-replicate}
+use lib.Seq.{sets}
+use borrow.Author.Tests.{ltb-true, ltb-false}
+use Rattle.definition.specs.Base.{refused}
+use Rattle.definition.specs.Limits.{variableLimit}
+use Rattle.definition.specs.Names.{numbered}
 use Rattle.definition.specs.Signature.{Signature}
-use Rattle.definition.specs.Walk.{walkFrom, namedRules, groupName, completed}
+use Rattle.definition.specs.Walk.{walkFrom, initialState, walkedKinds, nothingTaken, namedRules, groupName, completed}
+use Rattle.theory.proofs.Refusals.{walk-refuses}
 use Rattle.rule.specs.Elements.{countAt}
 use Rattle.rule.specs.Lookup.{ruleAt}
 use Rattle.naming.specs.Structures.{structureIn}
+use Rattle.naming.specs.Variables.{rowOf, newIn}
+use Rattle.naming.proofs.News.{typesOf}
 use Rattle.naming.proofs.Placed.{elements-are}
 use Rattle.kinds.specs.Table.{kindIn, entryAt, Tabled}
-use Rattle.flatten.specs.Tables.{Tables, unreached, sourceAt, kindOn}
+use Rattle.flatten.specs.Tables.{Tables, tables, unreached, sourceAt, kindOn}
 use Rattle.flatten.specs.Left.{leftOf, Going}
 use Rattle.flatten.specs.Ended.{Ground}
-use Rattle.flatten.specs.Went.{Met, Went, Walks}
+use Rattle.flatten.specs.Answers.{stopIn}
+use Rattle.flatten.specs.Went.{Met, wholeWalk, Went, toWalk, Begun, Walks}
 use Rattle.flatten.specs.declared.walk.Walked.{Walked}
 use Rattle.flatten.specs.declared.walk.Walked.the-variants.{On, Refused}
 use Rattle.kinds.proofs.TableLaws.{kind-some, kind-none}
-use Rattle.flatten.proofs.Grounds.{first-laid}
+use Rattle.flatten.proofs.Grounds.{first-laid, first-rows}
+use Rattle.flatten.proofs.Starting.{started}
 use Rattle.flatten.proofs.Reaching.{news-none, emitted-none}
-use Rattle.flatten.proofs.Folding.{pass-on, turn}
+use Rattle.flatten.proofs.Folding.{left-all, pass-on, turn}
+
+-- The walk under way, or refused.
+abbrev UnderAs : Walked → Signature → List ℕ → Tables → List ℕ → ℕ → ℕ → ℕ → Type 0
+UnderAs On sig s tb types next t u = Going sig s tb types next t u
+UnderAs (Refused n) sig s tb types next t u = wholeWalk sig s ≡ refused n
+
+pub record Under (end : Walked) (sig : Signature) (s : List ℕ) (tb : Tables) (types : List ℕ) (next t u : ℕ) : Type 0 where
+  pub is : UnderAs end sig s tb types next t u
 
 -- The walk stands at two structures, whose kind the table has.
 pub record Standing (sig : Signature) (s index : List ℕ) (kinds : List (List ℕ)) (n t u : ℕ) : Type 0 where
@@ -48,30 +67,46 @@ module _ {sig : Signature} {s index : List ℕ} {kinds : List (List ℕ)} {n t u
   pub met : entryAt kinds u t < 4 → Met s u t (entryAt kinds u t)
   met b = let k = kind-some (entryAt kinds u t) b in record { kind = k .0; said = k .1; on = sym entry-is ∙ k .1; source-in = source-inside; target-in = target-inside }
 
-  pub skip : {tb : Tables} {types : List ℕ} {next : ℕ} → 4 ≤ entryAt kinds u t → Going sig s tb types next t u → Going sig s tb types next t (u + 1)
-  skip b g = let q : u + 1 ≡ suc u = omega arith in rw q (pass-on g target-inside source-inside (sym entry-is ∙ kind-none (entryAt kinds u t) b))
+  -- A pair without a kind, or behind a refusal, is passed by.
+  pub skip : {tb : Tables} {types : List ℕ} {next : ℕ} {b : Bool} (end : Walked) → b ≡ toWalk (entryAt kinds u t) end → b ≡ false → Under end sig s tb types next t u
+      → Under end sig s tb types next t (u + 1)
+  skip {b = b} On e f w =
+      let q : u + 1 ≡ suc u = omega arith in let h : 4 ≤ entryAt kinds u t = ltb-false (entryAt kinds u t) 4 (sym e ∙ f) in
+      record { is = rw q (pass-on (w .is) target-inside source-inside (sym entry-is ∙ kind-none (entryAt kinds u t) h)) }
+  skip (Refused n) e f w = record { is = w .is }
+
+-- A map is walked where there is a kind, and where the walk was not refused.
+pub walked-kind : {b : Bool} (kind : ℕ) (end : Walked) → b ≡ toWalk kind end → b ≡ true → kind < 4
+walked-kind kind On e h = ltb-true kind 4 (sym e ∙ h)
+walked-kind kind (Refused n) e h = let z : _≡_ {A = ℕ} 0 1 = cc in absurd (omega arith)
+
+pub walked-going : {b : Bool} (kind : ℕ) {sig : Signature} {s types : List ℕ} {tb : Tables} {next t u : ℕ} (end : Walked) → b ≡ toWalk kind end → b ≡ true
+    → Under end sig s tb types next t u → Going sig s tb types next t u
+walked-going kind On e h w = w .is
+walked-going kind (Refused n) e h w = let z : _≡_ {A = ℕ} 0 1 = cc in absurd (omega arith)
 
 -- What `walk_map` answered.
-pub went-going : {sig : Signature} {s types : List ℕ} {tb : Tables} {next t u : ℕ} (r : Walked) → Went r sig s tb types next t u → r ≡ On → Going sig s tb types next t (u + 1)
-went-going {u = u} On w e = let q : u + 1 ≡ suc u = omega arith in rw q (w .is)
-went-going (Refused n) w e = let z : _≡_ {A = ℕ} 0 1 = cc in absurd (omega arith)
-
-pub stopped : {sig : Signature} {s types types′ : List ℕ} {tb tb′ : Tables} {next t u n : ℕ} (r : Walked) → Went r sig s tb types next t u → r ≡ Refused n → Walks r sig s tb′ types′
-stopped On w e = let z : _≡_ {A = ℕ} 0 1 = cc in absurd (omega arith)
-stopped (Refused k) w e = record { is = w .is }
+pub went-under : {sig : Signature} {s types : List ℕ} {tb : Tables} {next t u : ℕ} (end : Walked) → Went end sig s tb types next t u → Under end sig s tb types next t (u + 1)
+went-under {u = u} On w = let q : u + 1 ≡ suc u = omega arith in record { is = rw q (w .is) }
+went-under (Refused n) w = record { is = w .is }
 
 -- The next target.
-pub next-target : {sig : Signature} {s types : List ℕ} {tb : Tables} {next t n v : ℕ} → n ≡ length (ruleAt s .structures) → t < n → v ≡ n
-    → Going sig s tb types next t v → Going sig s tb types next (t + 1) 0
-next-target {sig} {s} {types} {tb} {next} {t} e h f g =
+pub next-target : {sig : Signature} {s types : List ℕ} {tb : Tables} {next t n v : ℕ} (end : Walked) → n ≡ length (ruleAt s .structures) → t < n → v ≡ n
+    → Under end sig s tb types next t v → Under end sig s tb types next (t + 1) 0
+next-target {sig} {s} {types} {tb} {next} {t} On e h f w =
     let q : t + 1 ≡ suc t = omega arith in
-    let g′ : Going sig s tb types next t (length (ruleAt s .structures)) = rw (f ∙ e) at g in rw q (turn g′ (omega arith))
+    let g : Going sig s tb types next t (length (ruleAt s .structures)) = rw (f ∙ e) at (w .is) in record { is = rw q (turn g (omega arith)) }
+next-target (Refused n) e h f w = record { is = w .is }
 
--- All pairs are walked.
-pub walked-all : {sig : Signature} {s index types : List ℕ} {tb : Tables} {next t u n : ℕ} → Ground sig s index → n ≡ length (ruleAt s .structures) → t ≤ n → n ≤ t → Going sig s tb types next t u
-    → Walks On sig s tb types
+-- All pairs are behind: the walk has ended, or was refused, and no refusal is 0.
+refused-walk : {sig : Signature} {s types : List ℕ} {tb : Tables} (n : ℕ) → wholeWalk sig s ≡ refused n → Walks n sig s tb types
+refused-walk {sig} {s} zero e = let h = walk-refuses sig (ruleAt s) (walkedKinds (ruleAt s)) (initialState (ruleAt s)) .within 0 e in absurd (omega (arith, h .0))
+refused-walk (suc n) e = record { is = e }
+
+ended-walk : {sig : Signature} {s index types : List ℕ} {tb : Tables} {next t u n : ℕ} → Ground sig s index → n ≡ length (ruleAt s .structures) → t ≡ n → Going sig s tb types next t u
+    → Walks 0 sig s tb types
 unfolding leftOf walkFrom
-walked-all {sig} {s} {tb = tb} {next} {t} {u} gr e a b g =
+ended-walk {sig} {s} {tb = tb} {next} {t} {u} gr e a g =
     let w = g .walking in
     let c : length (ruleAt s .structures) ≡ t = omega arith in
     let z : length (ruleAt s .structures) - t ≡ 0 = omega arith in
@@ -92,10 +127,29 @@ walked-all {sig} {s} {tb = tb} {next} {t} {u} gr e a b g =
       );
     }
 
--- The walk begins.
-pub begin-walk : {sig : Signature} {s index types : List ℕ} {tb : Tables} {next : ℕ} → Ground sig s index → next ≡ countAt index 0
-    → Going sig s tb types (length (structureIn s 0 .elements)) 0 0 → Going sig s tb types next 0 0
-begin-walk {sig} {s} {types = types} {tb} {next} gr c g = let q : next ≡ length (structureIn s 0 .elements) = c ∙ sym (elements-are (first-laid gr)) in rw q g
+pub walked-all : {sig : Signature} {s index types : List ℕ} {tb : Tables} {next t u n k : ℕ} (end : Walked) → Ground sig s index → n ≡ length (ruleAt s .structures) → t ≡ n
+    → Under end sig s tb types next t u → k ≡ stopIn end → Walks k sig s tb types
+walked-all On gr e a w f = rw f (ended-walk gr e a (w .is))
+walked-all (Refused n) gr e a w f = rw f (refused-walk n (w .is))
+
+-- There is a type for each variable that may be given out.
+pub begun-long : {sources types : List ℕ} {masks vars : List (List ℕ)} → Begun sources masks vars types → length types ≡ variableLimit
+begun-long b = ap length (b .types-are) ∙ length-replicate {A = ℕ} variableLimit 0
+
+-- The walk begins: of the structures only 0 has a row of variables.
+pub begin-walk : {sig : Signature} {s index : List ℕ} → Ground sig s index → {sources types types′ row : List ℕ} {masks vars : List (List ℕ)} {next : ℕ} → Begun sources masks vars types
+    → row ≡ rowOf (numbered 0 (nothingTaken (structureIn s 0))) → types′ ≡ sets types 0 (typesOf (newIn (structureIn s 0) 0 row)) → next ≡ countAt index 0
+    → Under On sig s (tables sources masks (set vars 0 row)) types′ next 0 0
+begin-walk {sig} {s} gr {types′ = types′} {next = next} b e f c =
+    let q : next ≡ length (structureIn s 0 .elements) = c ∙ sym (elements-are (first-laid gr)) in
+    let g : types′ ≡ sets (replicate variableLimit 0) 0 (typesOf (newIn (structureIn s 0) 0 (rowOf (numbered 0 (nothingTaken (structureIn s 0)))))) = f ∙ rw (b .types-are, e) in
+    record {
+      is = rw (q, b .sources-are, b .masks-are, b .vars-are, e) (record {
+        state = initialState (ruleAt s);
+        walking = started sig s (first-rows gr) (gr .some-one) g;
+        rest = ap (walkFrom sig (ruleAt s) (initialState (ruleAt s))) (left-all s (gr .once) (gr .some-one));
+      });
+    }
 
 -- What is left falls.
 rows-left : (n t : ℕ) → t < n → (n - t) * n ≡ (n - (t + 1)) * n + n

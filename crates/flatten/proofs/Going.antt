@@ -6,7 +6,7 @@ use mathlib.Core.Logic.{_⊎_, inl, inr}
 use mathlib.Core.List.{List, [], _∷_}
 use mathlib.Core.Option.{Option, none, some}
 use lib.ListN.{length, getD, set}
-use lib.Seq.{sets, getD-set-same}
+use lib.Seq.{sets}
 use Rattle.definition.specs.Base.{refused}
 use Rattle.definition.specs.Limits.{structureLimit, fieldLimit, variableLimit}
 use Rattle.definition.specs.Rule.{MorphismKind}
@@ -92,10 +92,6 @@ module _ {sig : Signature} {s index types : List ℕ} {tb : Tables} {next t u nu
       go (inr l) = let r = read-target in let f = d .is .1 in absurd (omega arith)
   walkable (Refused n) d e = let z : _≡_ {A = ℕ} 0 1 = cc in absurd (omega arith)
 
--- What was stored, as it is read.
-pub row-read : (vars : List (List ℕ)) (row : List ℕ) {grown : List (List ℕ)} {t : ℕ} → grown ≡ set vars t row → length vars ≡ structureLimit → t < structureLimit → getD grown t [] ≡ row
-row-read vars row {t = t} e l h = rw e (getD-set-same vars t row [] (omega arith))
-
 -- What the parts of the code ask.
 module _ {sig : Signature} {s index types : List ℕ} {tb : Tables} {next t u number : ℕ} (o : Walkable sig s index tb types next t u number) where
   pub room : next + fieldLimit ≤ variableLimit
@@ -107,9 +103,9 @@ module _ {sig : Signature} {s index types : List ℕ} {tb : Tables} {next t u nu
   pub target-laid : Laid s index t
   target-laid = o .ground .sounds t (o .met .target-in) .laid
 
-  pub given-read : GivenOut (structureIn s u) (getD (tb .vars) u []) next
+  pub given-read : {source : List ℕ} → source ≡ getD (tb .vars) u [] → GivenOut (structureIn s u) source next
   unfolding rowAt
-  given-read = source-given o
+  given-read e = rw e (source-given o)
 
 module _ {sig : Signature} {s index types : List ℕ} {tb : Tables} {next t u number : ℕ} {m : Map} {source target : List ℕ}
     (o : Walkable sig s index tb types next t u number) (p : MapAt s u t m)

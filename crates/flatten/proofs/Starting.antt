@@ -34,7 +34,7 @@ use Rattle.naming.proofs.Placed.{length-numbers-of}
 use Rattle.naming.proofs.Reached.{new-row, types-more}
 use Rattle.flags.specs.Flags.{flagAt}
 use Rattle.statements.specs.Said.{flaggedFrom, memberFlag, saidBy}
-use Rattle.flatten.specs.Tables.{Tables, unreached, sourceAt, rowAt, masksOf, allFlags, allMasks, masksAt, reachedBy, ownBy, saidAt, ownAt, concludedBy, concludedAt, before, newsTo, emittedTo}
+use Rattle.flatten.specs.Tables.{Tables, unreached, sourceAt, rowAt, masksOf, allFlags, allMasks, noMasks, masksAt, reachedBy, ownBy, saidAt, ownAt, concludedBy, concludedAt, before, newsTo, emittedTo}
 use Rattle.flatten.specs.Walks.{ReachedAt, Tie, Ties, Walking}
 use Rattle.flatten.proofs.Stepping.{numbered-given}
 
@@ -101,9 +101,6 @@ named-none group = refl
 no-types : TypesOf [] (replicate variableLimit 0)
 unfolding typeIn
 no-types = record { same = λ v h. getD-default variableLimit v 0 }
-
-abbrev pub noMasks : List ℕ
-noMasks = 0 ∷ 0 ∷ 0 ∷ 0 ∷ []
 
 -- The tables at the start of the walk.
 abbrev pub firstTables : List ℕ → Tables

@@ -2,8 +2,9 @@
 use mathlib.Core.List.{List}
 use mathlib.Core.Path.{_≡_}
 use Prim.Native.Nat.{ℕ, _≤_}
+use lib.Dec.{ltb}
 use lib.ListN.{length, take, drop}
-use Rattle.definition.specs.Base.{Outcome, refused, accepted, onAccepted}
+use Rattle.definition.specs.Base.{pick, Outcome, refused, accepted, onAccepted}
 use Rattle.definition.specs.Signature.{Signature, readSignature}
 use Rattle.definition.specs.Rule.{readRule}
 use Rattle.definition.specs.Walk.{State, walkOf}
@@ -25,6 +26,10 @@ use Rattle.flatten.specs.declared.walk.Walked.the-variants as walked
 abbrev pub outcomeOf : Flattened → List ℕ → Outcome (List ℕ)
 outcomeOf (Written n) out = accepted (take n out)
 outcomeOf (Refused n) out = refused n
+
+-- The answer of a group of so many bytes, of which at most so many fit.
+abbrev pub answeredIn : ℕ → ℕ → Flattened
+answeredIn size most = pick (ltb most size) (Refused 31) (Written size)
 
 -- How many bytes of the buffer are the answer.
 abbrev pub sizeOf : Flattened → ℕ

@@ -55,6 +55,10 @@ allFlags = 18446744073709551615
 abbrev pub allMasks : List ℕ
 allMasks = allFlags ∷ allFlags ∷ allFlags ∷ allFlags ∷ []
 
+-- Those of a structure that no map has reached yet.
+abbrev pub noMasks : List ℕ
+noMasks = 0 ∷ 0 ∷ 0 ∷ 0 ∷ []
+
 unfoldable pub masksAt : Tables → ℕ → Masks
 masksAt tb t = masksOf (getD (tb .masks) t [])
 

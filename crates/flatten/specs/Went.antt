@@ -1,10 +1,13 @@
 -- What the walk's functions answer.
-use mathlib.Core.List.{List}
+use mathlib.Core.Bool.{Bool, false}
+use mathlib.Core.List.{List, []}
 use mathlib.Core.Logic.{_⊎_}
 use mathlib.Core.Option.{some}
 use mathlib.Core.Path.{_≡_}
-use Prim.Native.Nat.{ℕ, suc, _≤_, _<_}
-use lib.ListN.{length, getD}
+use Prim.Native.Nat.{ℕ, zero, suc, _≤_, _<_}
+use lib.Dec.{ltb}
+use lib.ListN.{length, getD, set, replicate}
+use Rattle.definition.specs.Limits.{structureLimit, variableLimit}
 use Rattle.definition.specs.Base.{Outcome, refused, accepted}
 use Rattle.definition.specs.Rule.{MorphismKind}
 use Rattle.definition.specs.Group.{Variable, Statement}
@@ -24,7 +27,7 @@ use Rattle.kinds.specs.Table.{kindIn}
 use Rattle.steps.specs.Steps.{StepAs}
 use Rattle.steps.specs.declared.step.Step.{Step}
 use Rattle.steps.specs.declared.step.Step.the-variants as step
-use Rattle.flatten.specs.Tables.{Tables, unreached, kindOn, ownBy, concludedBy}
+use Rattle.flatten.specs.Tables.{Tables, tables, unreached, noRows, allMasks, noMasks, kindOn, ownBy, concludedBy}
 use Rattle.flatten.specs.Left.{Going}
 use Rattle.flatten.specs.Ended.{Finished}
 use Rattle.flatten.specs.declared.walk.Walked.{Walked}
@@ -71,6 +74,12 @@ numberOf (step.Refused n) = n
 abbrev pub wholeWalk : Signature → List ℕ → Outcome State
 wholeWalk sig s = walkFrom sig (ruleAt s) (initialState (ruleAt s)) (walkedKinds (ruleAt s))
 
+-- The row of variables of a map's source, in a walk under way.
+pub record GoingFrom (sig : Signature) (s sources : List ℕ) (masks : List (List ℕ)) (source types : List ℕ) (next t u : ℕ) : Type 0 where
+  pub vars : List (List ℕ)
+  pub row : source ≡ getD vars u []
+  pub going : Going sig s (tables sources masks vars) types next t u
+
 -- One map on, or the walk is refused.
 abbrev WentAs : Walked → Signature → List ℕ → Tables → List ℕ → ℕ → ℕ → ℕ → Type 0
 WentAs On sig s tb types next t u = Going sig s tb types next t (suc u)
@@ -79,10 +88,22 @@ WentAs (Refused n) sig s tb types next t u = wholeWalk sig s ≡ refused n
 pub record Went (r : Walked) (sig : Signature) (s : List ℕ) (tb : Tables) (types : List ℕ) (next t u : ℕ) : Type 0 where
   pub is : WentAs r sig s tb types next t u
 
--- All maps walked, or the walk is refused.
-abbrev WalksAs : Walked → Signature → List ℕ → Tables → List ℕ → Type 0
-WalksAs On sig s tb types = (state : State) × (wholeWalk sig s ≡ accepted state) × Finished sig s tb types state
-WalksAs (Refused n) sig s tb types = wholeWalk sig s ≡ refused n
+-- A map is walked where there is a kind, and none behind a refusal.
+abbrev pub toWalk : ℕ → Walked → Bool
+toWalk kind On = ltb kind 4
+toWalk kind (Refused n) = false
 
-pub record Walks (r : Walked) (sig : Signature) (s : List ℕ) (tb : Tables) (types : List ℕ) : Type 0 where
-  pub is : WalksAs r sig s tb types
+-- The tables before the first map: of the structures only 0 is reached, and no variable is given out yet.
+pub record Begun (sources : List ℕ) (masks vars : List (List ℕ)) (types : List ℕ) : Type 0 where
+  pub sources-are : sources ≡ set (replicate structureLimit unreached) 0 0
+  pub masks-are : masks ≡ set (replicate structureLimit noMasks) 0 allMasks
+  pub vars-are : vars ≡ noRows
+  pub types-are : types ≡ replicate variableLimit 0
+
+-- All maps walked, or the walk is refused with a number, which is not 0.
+abbrev WalksAs : ℕ → Signature → List ℕ → Tables → List ℕ → Type 0
+WalksAs zero sig s tb types = (state : State) × (wholeWalk sig s ≡ accepted state) × Finished sig s tb types state
+WalksAs (suc n) sig s tb types = wholeWalk sig s ≡ refused (suc n)
+
+pub record Walks (n : ℕ) (sig : Signature) (s : List ℕ) (tb : Tables) (types : List ℕ) : Type 0 where
+  pub is : WalksAs n sig s tb types

@@ -1,27 +1,25 @@
 // The entry: a signature and a rule as bytes, flattened into a lent buffer.
 ghost use mathlib.Core.Path.{_≡_};
-ghost use Prim.Native.Nat.{_≤_};
+ghost use Prim.Native.Nat.{_≤_, min};
 ghost use lib.ListN.{length, drop};
 ghost use Rattle.definition.specs.Flatten.{groupLeft, fitted, flattenOf};
+ghost use Rattle.definition.specs.Limits.{answerBytes};
 ghost use Rattle.definition.specs.Writer.{groupBytesOf};
 ghost use Rattle.rule.specs.Lookup.{ruleAt};
 ghost use Rattle.signature.specs.Index.{signatureAt};
 ghost use Rattle.flatten.specs.Tables.{tables};
 ghost use Rattle.flatten.specs.Ended.{Ended};
-ghost use Rattle.flatten.specs.Answers.{Readable, Writes, outcomeOf, sizeOf, Demanded, ruleOutcome, numberIn, stopIn};
+ghost use Rattle.flatten.specs.Answers.{answeredIn, Readable, Writes, outcomeOf, sizeOf, Demanded, ruleOutcome, numberIn, stopIn};
 use crate::output::put_group;
 use crate::tables::SORTS;
 use crate::tables::UNREACHED;
 use crate::tables::initial_matching_stmts;
 use crate::tables::no_el_vars;
-use crate::walk::Walked;
 use crate::walk::flatten_morphisms;
 use kinds::sources::unmapped_auxiliary;
 use kinds::sources::unmapped_kind;
 use kinds::table::NO_KIND;
 use kinds::table::kind_table;
-use naming::assign::initial_el_vars;
-use naming::types::type_variables;
 use naming::variables::VARIABLES;
 use reading::RuleReading;
 use reading::read_rule_into;
@@ -45,6 +43,26 @@ pub enum Flattened {
 // most groups are small, and are gone along only once.
 const SMALL_GROUP: usize = 512;
 
+// How many bytes of a buffer are used.
+fn usable(len: usize) -> usize
+    ensures { λ r. ⌜ r ≡ min len answerBytes ⌝ }
+{
+    if ANSWER < len {
+        return ANSWER;
+    }
+    len
+}
+
+// The answer of a group of so many bytes, of which at most so many fit.
+fn answered(size: usize, most: usize) -> Flattened
+    ensures { λ r. ⌜ r ≡ answeredIn size most ⌝ }
+{
+    if most < size {
+        return Flattened::Refused(31);
+    }
+    Flattened::Written(size)
+}
+
 // The group, measured first, then written where it fits. The walk is over: its variables are handed over for good.
 fn write_group(
     out: &mut [u8],
@@ -62,31 +80,20 @@ fn write_group(
     ensures { λ r. ⌜ ((e : Ended (now (s .entry)) (now (index .entry)) (now (types .entry)) (now (kinds .entry)) (tables (now (sources .entry)) (now (masks .entry)) vars))
         → Writes r (now (out .entry)) (now (out .exit)) (fitted (length (now (out .entry))) (groupBytesOf (groupLeft (ruleAt (now (s .entry))) (e .state))))) ⌝ }
 {
-    let room = out.len();
+    let room = usable(out.len());
     let mut own = [0u8; SMALL_GROUP];
     let size = put_group(&mut own, s, index, n, kinds, sources, masks, &vars, types);
-    if ANSWER < size {
-        return Flattened::Refused(31);
-    }
+    let answer = answered(size, room);
+    // A refusal leaves the buffer as it was, so it comes before the first byte.
     if room < size {
-        return Flattened::Refused(31);
+        return answer;
     }
     if size <= SMALL_GROUP {
         put_bytes(out, 0, &own, 0, size);
-        return Flattened::Written(size);
+        return answer;
     }
     put_group(out, s, index, n, kinds, sources, masks, &vars, types);
-    Flattened::Written(size)
-}
-
-// The number of a refused walk.
-fn stopped(w: Walked) -> u8
-    ensures { λ r. ⌜ r ≡ stopIn w ⌝ }
-{
-    match w {
-        Walked::On => 0,
-        Walked::Refused(n) => n,
-    }
+    answer
 }
 
 // An accepted rule, with its index and that of its signature.
@@ -110,20 +117,18 @@ pub fn flatten_rule(
     }
     let mut kinds = [[NO_KIND; STRUCTURES]; STRUCTURES];
     kind_table(s, index, &mut kinds);
-    let mut vars = no_el_vars();
-    vars[0] = initial_el_vars(s, index);
     let mut sources = [UNREACHED; STRUCTURES];
     sources[0] = 0;
     let mut masks = [[0u64; SORTS]; STRUCTURES];
     masks[0] = initial_matching_stmts();
     let mut types = [0u8; VARIABLES];
-    type_variables(&mut types, s, index, 0, vars[0], 0);
-    let w = flatten_morphisms(
-        sig, arities, counts, s, index, n, &kinds, &mut vars, &mut sources, &mut masks, &mut types,
+    let mut refused: u8 = 0;
+    let vars = flatten_morphisms(
+        sig, arities, counts, s, index, n, &kinds, no_el_vars(), &mut sources, &mut masks, &mut types, &mut refused,
     );
-    let Walked::On = w else {
-        return Flattened::Refused(stopped(w));
-    };
+    if refused != 0 {
+        return Flattened::Refused(refused);
+    }
     write_group(out, s, index, n, &kinds, &sources, &masks, vars, &types)
 }
 

@@ -1,5 +1,6 @@
 pub mod Drawn
 pub mod Passing
+pub mod InOrder
 pub mod Checking
 pub mod Whole
 pub mod Symbols

@@ -2,7 +2,7 @@
 use Prim.Native.Nat.{ℕ, _+_, _≤_, _<_}
 use native.Mathlib.Omega.{arith}
 use mathlib.Core.Bool.{Bool, true, false}
-use mathlib.Core.List.{List}
+use mathlib.Core.List.{List, []}
 use mathlib.Core.Option.{Option, none, some}
 use mathlib.Core.Path.{_≡_, sym, _∙_, ap}
 use lib.ListN.{length}
@@ -10,7 +10,7 @@ use borrow.Author.Tests.{lt-ltb, le-ltb}
 use Rattle.definition.specs.Base.{refused, accepted, orElse}
 use Rattle.definition.specs.Letters.{letterT, letterP, letterF}
 use Rattle.definition.specs.Limits.{signatureBytes, symbolLimit}
-use Rattle.definition.specs.Records.{Field, withLetter, faultAmong, readPart}
+use Rattle.definition.specs.Records.{withLetter, faultAmong, readPart}
 use Rattle.definition.specs.Signature.{signatureFault, signatureOf, signaturePart, readSignature}
 use Rattle.records.specs.Places.{Parted}
 use Rattle.records.specs.Held.{heldAt}
@@ -20,6 +20,7 @@ use Rattle.signature.specs.Index.{typesFrom, predsFrom, funcsFrom, signa
 use Rattle.signature.specs.Answers.{Checks, Stored}
 use Rattle.signature.specs.declared.ids.Counts.{Counts}
 use Rattle.signature.specs.declared.reader.Checked.the-variants.{Count, Refused}
+use Rattle.signature.proofs.InOrder.{fields, behindT, behindP, preds-same, funcs-same}
 
 -- 1 comes before all fields.
 pub read-long : (s : List ℕ) → signatureBytes < length s → refused 1 ≡ readSignature s
@@ -27,7 +28,7 @@ unfolding readSignature
 read-long s h = rw (lt-ltb _ _ h)
 
 -- What earlier entries of the index hold stays, where only later ones were stored.
-module _ {s index₀ index : List ℕ} {letter types from n : ℕ} (w : Stored (Count n) s index₀ index letter types from) where
+module _ {s index₀ index : List ℕ} {letter types from n next : ℕ} (w : Stored (Count n next) s index₀ index letter types from) where
   held-kept : (base count : ℕ) → base + count ≤ from → heldAt s index base count ≡ heldAt s index₀ base count
   held-kept base count h = held-same s index index₀ base count (λ i a b. w .kept i (omega arith))
 
@@ -40,41 +41,39 @@ module _ {s index₀ index : List ℕ} {letter types from n : ℕ} (w : Stored (
 
 module _ {s : List ℕ} {end t : ℕ} {whole : Bool} (p : Parted s (signaturePart s) end whole)
     (e : t ≡ length (withLetter letterT (signaturePart s .fields))) (short : length s ≤ signatureBytes) where
-  abbrev fs : List Field
-  fs = signaturePart s .fields
+  faults : signatureFault (fields s) ≡ orElse (faultAmong letterT (checkOf letterT t) (fields s))
+      (orElse (faultAmong letterP (checkOf letterP t) (behindT s)) (faultAmong letterF (checkOf letterF t) (behindP s)))
+  unfolding signatureFault faultAmong checkOf
+  faults = rw (e, preds-same s, funcs-same s)
 
-  faults : signatureFault fs ≡ orElse (faultAmong letterT (checkOf letterT t) fs) (orElse (faultAmong letterP (checkOf letterP t) fs) (faultAmong letterF (checkOf letterF t) fs))
-  unfolding signatureFault checkOf
-  faults = rw e
-
-  read-is : {f : Option ℕ} → signatureFault fs ≡ f → readPart (signaturePart s) f (signatureOf fs) ≡ readSignature s
+  read-is : {f : Option ℕ} → signatureFault (fields s) ≡ f → readPart (signaturePart s) f (signatureOf (fields s)) ≡ readSignature s
   unfolding readSignature
   read-is q = rw (le-ltb _ _ short, q)
 
-  drawn : {n : ℕ} → signatureFault fs ≡ some n → refused n ≡ readSignature s
+  drawn : {n : ℕ} → signatureFault (fields s) ≡ some n → refused n ≡ readSignature s
   unfolding readPart
   drawn q = read-is q
 
   -- A fault of a T.
-  pub read-types : {n : ℕ} {h₁ : List ℕ} → Checks (Refused n) s h₁ letterT t typesFrom fs → refused n ≡ readSignature s
+  pub read-types : {n : ℕ} {h₁ : List ℕ} → Checks (Refused n) s h₁ letterT t typesFrom end (fields s) (behindT s) → refused n ≡ readSignature s
   read-types c = drawn (faults ∙ rw (c .is))
 
-  module _ {nt : ℕ} {h₁ : List ℕ} (ct : Checks (Count nt) s h₁ letterT t typesFrom fs) where
+  module _ {nt a : ℕ} {h₁ : List ℕ} (ct : Checks (Count nt a) s h₁ letterT t typesFrom end (fields s) (behindT s)) where
     -- The T checked are those that were counted.
     types-same : nt ≡ t
     types-same = sym (length-held s h₁ typesFrom nt) ∙ ap length (ct .is .1) ∙ sym e
 
     -- A fault of a P.
-    pub read-preds : {n : ℕ} {h₂ : List ℕ} → Checks (Refused n) s h₂ letterP nt predsFrom fs → refused n ≡ readSignature s
+    pub read-preds : {n : ℕ} {h₂ : List ℕ} → Checks (Refused n) s h₂ letterP nt predsFrom end (behindT s) (behindP s) → refused n ≡ readSignature s
     read-preds c = drawn (faults ∙ rw (ct .is .0, ← types-same, c .is))
 
-    module _ {np : ℕ} {h₂ : List ℕ} (cp : Checks (Count np) s h₂ letterP nt predsFrom fs) where
+    module _ {np b : ℕ} {h₂ : List ℕ} (cp : Checks (Count np b) s h₂ letterP nt predsFrom end (behindT s) (behindP s)) where
       -- A fault of an F.
-      pub read-funcs : {n : ℕ} {h₃ : List ℕ} → Checks (Refused n) s h₃ letterF nt funcsFrom fs → refused n ≡ readSignature s
+      pub read-funcs : {n : ℕ} {h₃ : List ℕ} → Checks (Refused n) s h₃ letterF nt funcsFrom end (behindP s) [] → refused n ≡ readSignature s
       read-funcs c = drawn (faults ∙ rw (ct .is .0, ← types-same, cp .is .0, c .is))
 
-      module _ {nf : ℕ} {h₃ : List ℕ} (cf : Checks (Count nf) s h₃ letterF nt funcsFrom fs) where
-        faultless : signatureFault fs ≡ none
+      module _ {nf d : ℕ} {h₃ : List ℕ} (cf : Checks (Count nf d) s h₃ letterF nt funcsFrom end (behindP s) []) where
+        faultless : signatureFault (fields s) ≡ none
         faultless = faults ∙ rw (ct .is .0, ← types-same, cp .is .0, cf .is .0)
 
         -- No fault, and something is left: 2.
@@ -83,8 +82,8 @@ module _ {s : List ℕ} {end t : ℕ} {whole : Bool} (p : Parted s (signaturePar
         read-part w = rw (sym (p .same) ∙ w) at (read-is faultless)
 
         -- No fault, and nothing is left: the index holds the fields of each letter.
-        module _ {h₀ : List ℕ} (st : Stored (Count nt) s h₀ h₁ letterT t typesFrom) (sp : Stored (Count np) s h₁ h₂ letterP nt predsFrom)
-            (sf : Stored (Count nf) s h₂ h₃ letterF nt funcsFrom) where
+        module _ {h₀ : List ℕ} (st : Stored (Count nt a) s h₀ h₁ letterT t typesFrom) (sp : Stored (Count np b) s h₁ h₂ letterP nt predsFrom)
+            (sf : Stored (Count nf d) s h₂ h₃ letterF nt funcsFrom) where
           abbrev counts : Counts
           counts = record { types = nt; preds = np; funcs = nf }
 
@@ -93,9 +92,9 @@ module _ {s : List ℕ} {end t : ℕ} {whole : Bool} (p : Parted s (signaturePar
           read-sound w =
               let ft = st .held .few in
               let fp = sp .held .few in
-              let a : heldAt s h₃ typesFrom nt ≡ withLetter letterT fs = held-kept sf typesFrom nt (omega arith) ∙ held-kept sp typesFrom nt (omega arith) ∙ ct .is .1 in
-              let b : heldAt s h₃ predsFrom np ≡ withLetter letterP fs = held-kept sf predsFrom np (omega arith) ∙ cp .is .1 in
-              rw (a, b, cf .is .1) (rw (sym (p .same) ∙ w) at (read-is faultless))
+              let x : heldAt s h₃ typesFrom nt ≡ withLetter letterT (fields s) = held-kept sf typesFrom nt (omega arith) ∙ held-kept sp typesFrom nt (omega arith) ∙ ct .is .1 in
+              let y : heldAt s h₃ predsFrom np ≡ withLetter letterP (fields s) = held-kept sf predsFrom np (omega arith) ∙ cp .is .1 ∙ preds-same s in
+              rw (x, y, cf .is .1 ∙ funcs-same s) (rw (sym (p .same) ∙ w) at (read-is faultless))
 
           pub read-indexed : Indexed s h₃ counts
           read-indexed = record {

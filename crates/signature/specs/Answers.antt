@@ -1,5 +1,5 @@
 -- The reader's answers as the definition's.
-use mathlib.Core.List.{List}
+use mathlib.Core.List.{List, _++_}
 use mathlib.Core.Option.{none, some}
 use mathlib.Core.Path.{_≡_}
 use Prim.Native.Nat.{ℕ, _<_}
@@ -26,23 +26,25 @@ abbrev pub Usable : List ℕ → List ℕ → Reading → Type 0
 Usable s index (reading.Refused n) = Unit
 Usable s index (reading.Sound counts) = Indexed s index counts
 
--- The fields of a letter checked: the first fault, or none, and the index holds them.
-abbrev CheckedAs : Checked → List ℕ → List ℕ → ℕ → ℕ → ℕ → List Field → Type 0
-CheckedAs (checked.Refused n) s index letter types from fs = faultAmong letter (checkOf letter types) fs ≡ some n
-CheckedAs (checked.Count n) s index letter types from fs = (faultAmong letter (checkOf letter types) fs ≡ none) × (heldAt s index from n ≡ withLetter letter fs)
+-- The fields of a letter checked: the first fault, or none, and the index holds them, and the rest stands behind them.
+abbrev CheckedAs : Checked → List ℕ → List ℕ → ℕ → ℕ → ℕ → ℕ → List Field → List Field → Type 0
+CheckedAs (checked.Refused n) s index letter types from end fs rest = faultAmong letter (checkOf letter types) fs ≡ some n
+CheckedAs (checked.Count n next) s index letter types from end fs rest =
+    (faultAmong letter (checkOf letter types) fs ≡ none) × (heldAt s index from n ≡ withLetter letter fs) × Run s next end rest
 
 -- The same, in a form by which its arguments are found.
-pub record Checks (r : Checked) (s index : List ℕ) (letter types from : ℕ) (fs : List Field) : Type 0 where
-  pub is : CheckedAs r s index letter types from fs
+pub record Checks (r : Checked) (s index : List ℕ) (letter types from end : ℕ) (fs rest : List Field) : Type 0 where
+  pub is : CheckedAs r s index letter types from end fs rest
 
--- The same of all fields before a position.
-abbrev pub ChecksUpTo : Checked → List ℕ → List ℕ → ℕ → ℕ → ℕ → ℕ → Type 0
-ChecksUpTo r s index letter types from end = (fs : List Field) → Run s 0 end fs → Checks r s index letter types from fs
+-- The same of all fields from one position to another, where those of the letter stand in front of the rest.
+abbrev pub ChecksUpTo : Checked → List ℕ → List ℕ → ℕ → ℕ → ℕ → ℕ → ℕ → Type 0
+ChecksUpTo r s index letter types from begin end =
+    (fs rest : List Field) → Run s begin end fs → fs ≡ withLetter letter fs ++ rest → Checks r s index letter types from end fs rest
 
 -- The new entries after the check: where none was refused, they are sound.
 abbrev HeldBy : Checked → List ℕ → List ℕ → ℕ → ℕ → ℕ → Type 0
 HeldBy (checked.Refused n) s index letter types from = Unit
-HeldBy (checked.Count n) s index letter types from = Held s index letter types from n
+HeldBy (checked.Count n next) s index letter types from = Held s index letter types from n
 
 -- The index after the check: as it was in front of the new entries.
 pub record Stored (r : Checked) (s index₀ index : List ℕ) (letter types from : ℕ) : Type 0 where
@@ -53,4 +55,4 @@ pub record Stored (r : Checked) (s index₀ index : List ℕ) (letter types from
 -- The number of a refusal.
 abbrev pub numberOf : Checked → ℕ
 numberOf (checked.Refused n) = n
-numberOf (checked.Count n) = 0
+numberOf (checked.Count n next) = 0

@@ -37,9 +37,9 @@ struct Passed {
     types: usize,
 }
 
-// The fields of one letter: how many there are, or the first fault.
+// The fields of one letter: how many there are and where the next letter's begin, or the first fault.
 enum Checked {
-    Count(usize),
+    Count { count: usize, next: usize },
     Refused(u8),
 }
 
@@ -103,36 +103,37 @@ fn pass(s: &[u8]) -> Passed
 }
 
 // The faults of the fields of one letter, front to back; their positions go into the index, from an entry on.
-// T stand before P and P before F, so letter by letter is front to back in all. The pass has read every field, so none is bad.
+// The pass made sure that T stand before P and P before F, so the fields of a letter end at the first of another letter,
+// and letter by letter is front to back in all. The pass has read every field, so none is bad.
+// The index is lent as a slice, since that tells its length: then nothing asks that it be cleared first.
 fn check(
     s: &[u8],
+    begin: usize,
     end: usize,
     letter: u8,
     types: usize,
-    index: &mut [u16; INDEX],
+    index: &mut [u16],
     from: usize,
 ) -> Checked
     requires { ⌜ (end ≤ length (now s)) × (length (now s) ≤ signatureBytes) ⌝ }
     requires { ⌜ (from + symbolLimit ≤ indexSize) × (length (now index) ≡ indexSize) ⌝ }
-    ensures { λ r. ⌜ ChecksUpTo r (now (s .entry)) (now (index .exit)) letter types from end ⌝ }
+    ensures { λ r. ⌜ ChecksUpTo r (now (s .entry)) (now (index .exit)) letter types from begin end ⌝ }
     ensures { λ r. ⌜ Stored r (now (s .entry)) (now (index .entry)) (now (index .exit)) letter types from ⌝ }
 {
-    let mut at: usize = 0;
+    let mut at = begin;
     let mut count: usize = 0;
     while at < end {
-        let f = read_field(s, at);
         let Field::Got {
             letter: l,
             start,
             len,
             next,
-        } = f
+        } = read_field(s, at)
         else {
             return Checked::Refused(2);
         };
         if l != letter {
-            at = next;
-            continue;
+            return Checked::Count { count, next: at };
         }
         let fault = field_fault(s, letter, start, len, types, count);
         let Fault::Sound = fault else {
@@ -142,7 +143,7 @@ fn check(
         count += 1;
         at = next;
     }
-    Checked::Count(count)
+    Checked::Count { count, next: at }
 }
 
 // The number of a refusal.
@@ -151,12 +152,12 @@ fn number(c: Checked) -> u8
 {
     match c {
         Checked::Refused(n) => n,
-        Checked::Count(_) => 0,
+        Checked::Count { .. } => 0,
     }
 }
 
 // The signature's answer; where it is accepted, the index holds the positions of its fields.
-// A refused signature may leave the index cleared or partly filled. The bytes are only read.
+// A refused signature may leave the index partly filled. The bytes are only read.
 pub fn read_signature(s: &[u8], index: &mut [u16; INDEX]) -> Reading
     ensures { λ r. ⌜ signatureReading (now (s .entry)) (now (index .exit)) r ≡ readSignature (now (s .entry)) ⌝ }
     ensures { λ r. ⌜ Usable (now (s .entry)) (now (index .exit)) r ⌝ }
@@ -166,17 +167,16 @@ pub fn read_signature(s: &[u8], index: &mut [u16; INDEX]) -> Reading
     }
     let p = pass(s);
     let end = p.end;
-    *index = [0u16; INDEX];
-    let t = check(s, end, LETTER_T, p.types, index, TYPES_FROM);
-    let Checked::Count(types) = t else {
+    let t = check(s, 0, end, LETTER_T, p.types, index, TYPES_FROM);
+    let Checked::Count { count: types, next } = t else {
         return Reading::Refused(number(t));
     };
-    let q = check(s, end, LETTER_P, types, index, PREDS_FROM);
-    let Checked::Count(preds) = q else {
+    let q = check(s, next, end, LETTER_P, types, index, PREDS_FROM);
+    let Checked::Count { count: preds, next } = q else {
         return Reading::Refused(number(q));
     };
-    let f = check(s, end, LETTER_F, types, index, FUNCS_FROM);
-    let Checked::Count(funcs) = f else {
+    let f = check(s, next, end, LETTER_F, types, index, FUNCS_FROM);
+    let Checked::Count { count: funcs, .. } = f else {
         return Reading::Refused(number(f));
     };
     if !p.whole {

@@ -97,7 +97,7 @@ map-refuses sig rule state k pairs (some source) (some r) = refuses-here 24 (ome
 map-refuses sig rule state k pairs (some source) none =
     refuses-on _ _ (refuses-wide (step-refuses sig (state .variables) _ _ pairs (source .statements) (k .kind)) (omega arith) (omega arith)) (λ step. refuses-not _)
 
-walk-refuses : (sig : Signature) (rule : Rule) (ks : List Kind) (state : State) → Refuses (walkFrom sig rule state ks) 21 30
+pub walk-refuses : (sig : Signature) (rule : Rule) (ks : List Kind) (state : State) → Refuses (walkFrom sig rule state ks) 21 30
 unfolding walkFrom
 walk-refuses sig rule [] state = refuses-not state
 walk-refuses sig rule (k ∷ ks) state = refuses-on _ _ (map-refuses sig rule state k _ _ _) (λ next. walk-refuses sig rule ks next)

@@ -1,6 +1,7 @@
 use mathlib.Core.Path.{refl}
 use Rattle.signature.specs.Index.{signatureAt}
 use Rattle.flatten.specs.Tables.{tables}
+use Rattle.flatten.specs.Went.{GoingFrom}
 use Rattle.flatten.proofs.Grounds.{byte-types}
 use Rattle.flatten.proofs.Numbers.{count-small, fresh-room}
 use Rattle.flatten.proofs.Walkable.{Walkable, map-at}
@@ -24,15 +25,21 @@ abbrev S : tie.After-enum-told → tie.Start
 S c = c .before .before .before .before .before .before
 
 abbrev T : tie.After-type-variables-arg → tie.After-enum-told
-T c = c .before .before .before .before .before .before .before .before .before .before
+T c = c .before .before .before .before .before .before .before .before .before
 
 -- Behind `ends` the map can be walked.
-abbrev Can : tie.After-enum-told → Type 0
-Can c = let a = S c .args in Walkable (signatureAt (a .sig .now) (a .arities .now) (a .counts)) (a .s .now) (a .index .now)
-    (tables (a .sources .now) (a .masks .now) (a .vars .now)) (a .types .now) (a .next .now) (a .t) (a .u) (a .kind)
+abbrev From : tie.Start → Type 0
+From b = let a = b .args in GoingFrom (signatureAt (a .sig .now) (a .arities .now) (a .counts)) (a .s .now) (a .sources .now) (a .masks .now) (a .source) (a .types .now) (a .next .now) (a .t) (a .u)
 
-can : (c : tie.After-enum-told) → Can c
-can c = let w = S c .pre .1 in walkable (w .0 .1) (w .1 .0) (w .1 .1) _ (c .before .before .ends .ensures) (c .enum-told .given .1)
+abbrev Can : (c : tie.After-enum-told) → From (S c) → Type 0
+Can c g = let a = S c .args in Walkable (signatureAt (a .sig .now) (a .arities .now) (a .counts)) (a .s .now) (a .index .now)
+    (tables (a .sources .now) (a .masks .now) (g .vars)) (a .types .now) (a .next .now) (a .t) (a .u) (a .kind)
+
+can : (c : tie.After-enum-told) (g : From (S c)) → Can c g
+can c g = let w = S c .pre .1 in walkable (w .0 .1) (w .1 .0) (g .going) _ (c .before .before .ends .ensures) (c .enum-told .given .1)
+
+abbrev here : (c : tie.After-enum-told) → From (S c)
+here c = S c .pre .1 .1 .1
 
 ends-requires : tie.Need-ends-requires
 ends-requires c κs = c .before .before .before .pre .0
@@ -46,27 +53,21 @@ enum-told-2 c = search needs
 returns : tie.Need-returns
 returns c =
     let w = c .before .before .before .before .before .before .pre .1 in
-    ends-stop (w .0 .1) (w .1 .0) (w .1 .1) _ (c .before .before .ends .ensures) (c .enum-told2 .given .1)
+    λ g. ends-stop (w .0 .1) (w .1 .0) (g .going) _ (c .before .before .ends .ensures) (c .enum-told2 .given .1)
 
 map-between-requires : tie.Need-map-between-requires
-map-between-requires c κs = let o = can c in (o .ground .ready, o .ground .mapped _ _ _ (o .met .on))
-
-mul-source : tie.Need-mul-source
-mul-source c = let h = S (c .before .before) .pre .0 in search needs
-
-element-copy-out-source : tie.Need-element-copy-out-source
-element-copy-out-source c = let h = S (c .before .before) .pre .0 in search needs
+map-between-requires c κs = let o = can c (here c) in (o .ground .ready, o .ground .mapped _ _ _ (o .met .on))
 
 assign-el-vars-requires : tie.Need-assign-el-vars-requires
 assign-el-vars-requires c κs =
-    let o = can (c .before .before .before) in
-    ((source-laid o, target-laid o), (c .before .before .map-between .ensures .1, (given-read o, room o)))
+    let e = c .before .before in let o = can e (here e) in
+    ((source-laid o, target-laid o), (c .before .map-between .ensures .1, (given-read o (here e .row), room o)))
 
 flatten-map-requires : tie.Need-flatten-map-requires
 flatten-map-requires c κs =
-    let e = c .before .assign-el-vars .ensures in let m = c .before .before .before .before in
-    let o = can (m .before) in let p = map-at (m .map-between .ensures) in
-    (S (m .before) .pre .1 .0 .0, (reaches o p refl e, typed-read o p refl e))
+    let e = c .before .assign-el-vars .ensures in let m = c .before .before .before in let g = here (m .before) in
+    let o = can (m .before) g in let p = map-at (m .map-between .ensures) in
+    (S (m .before) .pre .1 .0 .0, (reaches o p (g .row) e, typed-read o p (g .row) e))
 
 enum-known-r : tie.Need-enum-known-r
 enum-known-r c = search needs
@@ -79,18 +80,12 @@ number-requires c κs = search needs
 
 returns-2 : tie.Need-returns-2
 returns-2 c =
-    let f = c .before .before .before in let a = f .before .before in let m = a .before .before .before in
-    went-refused (can (m .before)) (map-at (m .map-between .ensures)) refl (a .assign-el-vars .ensures)
+    let f = c .before .before .before in let a = f .before .before in let m = a .before .before in
+    λ g. went-refused (can (m .before) g) (map-at (m .map-between .ensures)) (g .row) (a .assign-el-vars .ensures)
       (f .flatten-map .ensures) (c .before .enum-told3 .given .1) (c .number .ensures)
 
 type-variables-requires : tie.Need-type-variables-requires
-type-variables-requires c κs = let o = can (T c) in (target-laid o, (byte-types (o .ground) _ (o .met .target-in), (room o, o .going .walking .types-long)))
-
-mul-target : tie.Need-mul-target
-mul-target c = let h = S (T (c .before)) .pre .0 in search needs
-
-element-set-from-target : tie.Need-element-set-from-target
-element-set-from-target c = let h = S (T (c .before)) .pre .0 in search needs
+type-variables-requires c κs = let o = can (T c) (here (T c)) in (target-laid o, (byte-types (o .ground) _ (o .met .target-in), (room o, o .going .walking .types-long)))
 
 cast-sources : tie.Need-cast-sources
 cast-sources c = let h = S (T (c .before)) .pre .0 in search needs
@@ -98,8 +93,8 @@ cast-sources c = let h = S (T (c .before)) .pre .0 in search needs
 element-write-sources : tie.Need-element-write-sources
 element-write-sources c = let h = S (T (c .before)) .pre .0 in search needs
 
-mul-t22 : tie.Need-mul-t22
-mul-t22 c = let h = S (T (c .before)) .pre .0 in search needs
+mul-t30 : tie.Need-mul-t30
+mul-t30 c = let h = S (T (c .before)) .pre .0 in search needs
 
 element-set-from-masks : tie.Need-element-set-from-masks
 element-set-from-masks c = let h = S (T (c .before)) .pre .0 in search needs
@@ -108,17 +103,17 @@ element-count-requires : tie.Need-element-count-requires
 element-count-requires c κs = let h = S (T (c .before)) .pre .0 in search needs
 
 fresh-requires : tie.Need-fresh-requires
-fresh-requires c κs = count-small (target-laid (can (T (c .before .before)))) (c .element-count .ensures)
+fresh-requires c κs = let e = T (c .before .before) in count-small (target-laid (can e (here e))) (c .element-count .ensures)
 
 add-next : tie.Need-add-next
 add-next c =
-    let o = can (T (c .before .before .before)) in
+    let e = T (c .before .before .before) in let o = can e (here e) in
     let h = fresh-room _ _ (c .fresh .ensures) (count-small (target-laid o) (c .before .element-count .ensures)) (room o) in search needs
 
 returns-3 : tie.Need-returns-3
 returns-3 c =
-    let r = c .before .before .before .before .before in let f = r .before .before in let a = f .before .before in let m = a .before .before .before in
-    went-on (can (m .before)) (map-at (m .map-between .ensures)) refl (a .assign-el-vars .ensures)
+    let r = c .before .before .before .before .before in let f = r .before .before in let a = f .before .before in let m = a .before .before in
+    λ g. went-on (can (m .before) g) (map-at (m .map-between .ensures)) (g .row) (a .assign-el-vars .ensures)
       (f .flatten-map .ensures) (r .r .given .1) (c .fresh .ensures) (c .before .element-count .ensures) (c .before .before .type-variables .ensures) refl refl refl refl
 
 pub walk-map-spec : {M : Type 1} → statement M
@@ -130,8 +125,6 @@ walk-map-spec =
     enum-told-2
     returns
     map-between-requires
-    mul-source
-    element-copy-out-source
     assign-el-vars-requires
     flatten-map-requires
     enum-known-r
@@ -139,11 +132,9 @@ walk-map-spec =
     number-requires
     returns-2
     type-variables-requires
-    mul-target
-    element-set-from-target
     cast-sources
     element-write-sources
-    mul-t22
+    mul-t30
     element-set-from-masks
     element-count-requires
     fresh-requires

@@ -1,71 +1,82 @@
--- Invariant: the entries stored so far are sound, and along any run of fields the rest gives the answer.
+-- Invariant: the entries stored so far are sound, and along any run with the fields of the letter in front what is left gives the answer.
 use Prim.Native.Nat.{_+_, _<_, _-_}
 use native.Mathlib.Omega.{arith}
 use mathlib.Core.Path.{_≡_, sym, _∙_}
 use mathlib.Core.Option.{Option, none}
-use mathlib.Core.List.{List}
+use mathlib.Core.List.{List, _++_}
 use lib.ListN.{length}
 use borrow.Author.Needs.{needs}
-use Rattle.definition.specs.Records.{Field}
+use Rattle.definition.specs.Records.{Field, withLetter}
 use Rattle.records.specs.declared.fields.Field.the-variants.{Got}
 use Rattle.records.specs.Places.{Run, fieldOf, fieldAt}
 use Rattle.signature.specs.declared.reader.Checked.the-variants.{Count}
 use Rattle.signature.specs.Faults.{checkOf}
 use Rattle.signature.specs.Answers.{Stored}
 use Rattle.records.proofs.Link.{got-letter}
-use Rattle.signature.proofs.Checking.{told-sound, told-drawn, few-before, stored-start, stored-refused, stored-next, Checking, check-start, check-end, check-bad, check-skip, check-fault, check-store}
+use Rattle.signature.proofs.Checking.{told-sound, told-drawn, few-before, stored-start, stored-refused, stored-next, Checking, check-start, check-end, check-bad, check-stop, check-fault, check-store}
 use Rattle.signature.proofs.reader.check.Statement.{statement}
 use Rattle.signature.proofs.reader.check.Tie as tie
 
 abbrev Inv-loop : tie.InvT-loop
-Inv-loop s end letter types index₀ from at₀ count₀ index at count = Stored (Count count) s index₀ index letter types from × ((fs : List Field) → Run s 0 end fs → Checking s index letter types from end fs at count)
+Inv-loop s begin end letter types index₀ from at₀ count₀ index at count = Stored (Count count at) s index₀ index letter types from
+    × ((fs rest : List Field) → Run s begin end fs → fs ≡ withLetter letter fs ++ rest → Checking s index letter types from end fs rest at count)
 
 abbrev μ-loop : tie.MeasureT-loop
-μ-loop s end letter types index₀ from at₀ count₀ index at count = end - at
+μ-loop s begin end letter types index₀ from at₀ count₀ index at count = end - at
 
 -- Where a field of the letter is read that has no fault: its reading, its check, and that the index has room for it.
 abbrev L : tie.After-enum-told2 Inv-loop μ-loop → tie.At-loop Inv-loop μ-loop
 L c = c .before .before .before .before .before .before .before .before .before
 
-abbrev G : tie.After-enum-told2 Inv-loop μ-loop → tie.After-f Inv-loop μ-loop
+abbrev G : tie.After-enum-told2 Inv-loop μ-loop → tie.After-l Inv-loop μ-loop
 G c = c .before .before .before .before .before
 
 abbrev A : tie.After-enum-told2 Inv-loop μ-loop → tie.Start Inv-loop μ-loop
-A c = L c .before .before
+A c = L c .before .before .before
 
-got : (c : tie.After-enum-told2 Inv-loop μ-loop) → fieldAt (A c .args .s .now) (L c .loop .at) ≡ Got (A c .args .letter) (G c .f .given .0 .1 .0) (G c .f .given .0 .1 .1 .0) (G c .f .given .0 .1 .1 .1 .0)
-got c = got-letter _ _ (sym (G c .before .before .read-field .ensures .0) ∙ G c .f .given .1) (c .before .before .before .if1 .left)
+got : (c : tie.After-enum-told2 Inv-loop μ-loop) → fieldAt (A c .args .s .now) (L c .loop .at) ≡ Got (A c .args .letter) (G c .l .given .0 .1 .0) (G c .l .given .0 .1 .1 .0) (G c .l .given .0 .1 .1 .1 .0)
+got c = got-letter _ _ (sym (G c .before .before .read-field .ensures .0) ∙ G c .l .given .1) (c .before .before .before .if1 .left)
 
 fine : (c : tie.After-enum-told2 Inv-loop μ-loop) (last : Option Field)
-    → none ≡ checkOf (A c .args .letter) (A c .args .types) (L c .loop .count) last (fieldOf (A c .args .s .now) (A c .args .letter) (G c .f .given .0 .1 .0) (G c .f .given .0 .1 .1 .0))
+    → none ≡ checkOf (A c .args .letter) (A c .args .types) (L c .loop .count) last (fieldOf (A c .args .s .now) (A c .args .letter) (G c .l .given .0 .1 .0) (G c .l .given .0 .1 .1 .0))
 fine c last = told-sound (c .before .before .field-fault .ensures last) (c .enum-told2 .given .1)
 
 room : (c : tie.After-enum-told2 Inv-loop μ-loop) → A c .args .from + L c .loop .count < length (L c .loop .index)
 room c = let few = few-before _ _ _ none _ (sym (fine c none)) in let l = L c .loop .inv .0 .long in omega arith
 
 loop-holds : tie.Need-loop-holds Inv-loop μ-loop
-loop-holds c = (stored-start (c .before .pre .1 .1), λ fs r. check-start r)
+loop-holds c = (stored-start (c .before .before .pre .1 .1), λ fs rest r f. check-start r f)
 
 read-field-requires : tie.Need-read-field-requires Inv-loop μ-loop
 read-field-requires c κs = search needs
 
-enum-known-f : tie.Need-enum-known-f Inv-loop μ-loop
-enum-known-f c = search needs
+enum-known-l : tie.Need-enum-known-l Inv-loop μ-loop
+enum-known-l c = search needs
 
 enum-told : tie.Need-enum-told Inv-loop μ-loop
 enum-told c = search needs
 
+same-length : tie.Need-same-length Inv-loop μ-loop
+same-length c = search needs
+
 returns : tie.Need-returns Inv-loop μ-loop
-returns c = (λ fs r. check-bad (c .before .before .before .before .loop .inv .1 fs r) (c .before .before .before .loop-test .taken) (sym (c .before .before .read-field .ensures .0) ∙ c .enum-told .given .1), stored-refused (c .before .before .before .before .loop .inv .0) 2)
+returns c = (
+  λ fs rest r f. check-bad (c .before .before .before .before .loop .inv .1 fs rest r f) (c .before .before .before .loop-test .taken) (sym (c .before .before .read-field .ensures .0) ∙ c .enum-told .given .1),
+  stored-refused (c .before .before .before .before .loop .inv .0) 2,
+)
 
-loop-less : tie.Need-loop-less Inv-loop μ-loop
-loop-less c = let a = rw (c .before .before .f .given .1) at (c .before .before .before .before .read-field .ensures .1) in omega arith
+same-length-2 : tie.Need-same-length-2 Inv-loop μ-loop
+same-length-2 c = search needs
 
-loop-again : tie.Need-loop-again Inv-loop μ-loop
-loop-again c = (c .before .before .before .before .before .before .loop .inv .0, λ fs r. check-skip (c .before .before .before .before .before .before .loop .inv .1 fs r) (c .before .before .before .before .before .loop-test .taken) (sym (c .before .before .before .before .read-field .ensures .0) ∙ c .before .before .f .given .1) (c .if1 .taken))
+returns-2 : tie.Need-returns-2 Inv-loop μ-loop
+returns-2 c = (
+  λ fs rest r f. check-stop (c .before .before .before .before .before .before .loop .inv .1 fs rest r f) (c .before .before .before .before .before .loop-test .taken)
+      (sym (c .before .before .before .before .read-field .ensures .0) ∙ c .before .before .l .given .1) (c .if1 .taken),
+  c .before .before .before .before .before .before .loop .inv .0,
+)
 
 field-fault-requires : tie.Need-field-fault-requires Inv-loop μ-loop
-field-fault-requires c κs = let a = rw (c .before .before .f .given .1) at (c .before .before .before .before .read-field .ensures .1) in omega arith
+field-fault-requires c κs = let a = rw (c .before .before .l .given .1) at (c .before .before .before .before .read-field .ensures .1) in omega arith
 
 enum-told-2 : tie.Need-enum-told-2 Inv-loop μ-loop
 enum-told-2 c = search needs
@@ -76,8 +87,16 @@ enum-told-3 c = search needs
 drawn-requires : tie.Need-drawn-requires Inv-loop μ-loop
 drawn-requires c κs = search needs
 
-returns-2 : tie.Need-returns-2 Inv-loop μ-loop
-returns-2 c = (λ fs r. check-fault (c .before .before .before .before .before .before .before .before .before .before .loop .inv .1 fs r) (c .before .before .before .before .before .before .before .before .before .loop-test .taken) (got-letter _ _ (sym (c .before .before .before .before .before .before .before .before .read-field .ensures .0) ∙ c .before .before .before .before .before .before .f .given .1) (c .before .before .before .before .if1 .left)) (λ last. told-drawn (c .before .before .before .field-fault .ensures last) (c .before .enum-told3 .given .1) (c .drawn .ensures)), stored-refused (c .before .before .before .before .before .before .before .before .before .before .loop .inv .0) _)
+same-length-3 : tie.Need-same-length-3 Inv-loop μ-loop
+same-length-3 c = search needs
+
+returns-3 : tie.Need-returns-3 Inv-loop μ-loop
+returns-3 c = (
+  λ fs rest r f. check-fault (c .before .before .before .before .before .before .before .before .before .before .loop .inv .1 fs rest r f) (c .before .before .before .before .before .before .before .before .before .loop-test .taken)
+      (got-letter _ _ (sym (c .before .before .before .before .before .before .before .before .read-field .ensures .0) ∙ c .before .before .before .before .before .before .l .given .1) (c .before .before .before .before .if1 .left))
+      (λ last. told-drawn (c .before .before .before .field-fault .ensures last) (c .before .enum-told3 .given .1) (c .drawn .ensures)),
+  stored-refused (c .before .before .before .before .before .before .before .before .before .before .loop .inv .0) _,
+)
 
 cast-index : tie.Need-cast-index Inv-loop μ-loop
 cast-index c = search needs
@@ -88,20 +107,26 @@ add-index c = search needs
 mul-index : tie.Need-mul-index Inv-loop μ-loop
 mul-index c = search needs
 
-element-write-index : tie.Need-element-write-index Inv-loop μ-loop
-element-write-index c = omega (arith, few-before _ _ _ none _ (sym (told-sound (c .before .before .field-fault .ensures none) (c .enum-told2 .given .1))))
+slice-write-index : tie.Need-slice-write-index Inv-loop μ-loop
+slice-write-index c = room c
 
 add-count : tie.Need-add-count Inv-loop μ-loop
 add-count c = search needs
 
-loop-less-2 : tie.Need-loop-less-2 Inv-loop μ-loop
-loop-less-2 c = let a = rw (c .before .before .before .before .before .f .given .1) at (c .before .before .before .before .before .before .before .read-field .ensures .1) in omega arith
+loop-less : tie.Need-loop-less Inv-loop μ-loop
+loop-less c = let a = rw (c .before .before .before .before .before .l .given .1) at (c .before .before .before .before .before .before .before .read-field .ensures .1) in omega arith
 
-loop-again-2 : tie.Need-loop-again-2 Inv-loop μ-loop
-loop-again-2 c = (stored-next (c .before .before .before .before .before .before .before .before .before .loop .inv .0) _ (c .before .before .before .before .before .before .before .before .before .before .before .pre .1 .0) (got c) (sym (fine c none)), λ fs r. check-store (c .before .before .before .before .before .before .before .before .before .loop .inv .1 fs r) (c .before .before .before .before .before .before .before .before .loop-test .taken) (got c) (room c) (fine c))
+loop-again : tie.Need-loop-again Inv-loop μ-loop
+loop-again c = (
+  stored-next (L c .loop .inv .0) (A c .pre .1 .0) (got c) (sym (fine c none)),
+  λ fs rest r f. check-store (L c .loop .inv .1 fs rest r f) (c .before .before .before .before .before .before .before .before .loop-test .taken) (got c) (room c) (fine c),
+)
 
-returns-3 : tie.Need-returns-3 Inv-loop μ-loop
-returns-3 c = (λ fs r. check-end (c .before .loop .inv .1 fs r) (c .loop-test .left), c .before .loop .inv .0)
+same-length-4 : tie.Need-same-length-4 Inv-loop μ-loop
+same-length-4 c = search needs
+
+returns-4 : tie.Need-returns-4 Inv-loop μ-loop
+returns-4 c = (λ fs rest r f. check-end (c .before .loop .inv .1 fs rest r f) (c .loop-test .left), c .before .loop .inv .0)
 
 pub check-spec : {M : Type 1} → statement M
 check-spec =
@@ -111,21 +136,24 @@ check-spec =
     μ-loop
     loop-holds
     read-field-requires
-    enum-known-f
+    enum-known-l
     enum-told
+    same-length
     returns
-    loop-less
-    loop-again
+    same-length-2
+    returns-2
     field-fault-requires
     enum-told-2
     enum-told-3
     drawn-requires
-    returns-2
+    same-length-3
+    returns-3
     cast-index
     add-index
     mul-index
-    element-write-index
+    slice-write-index
     add-count
-    loop-less-2
-    loop-again-2
-    returns-3)
+    loop-less
+    loop-again
+    same-length-4
+    returns-4)
