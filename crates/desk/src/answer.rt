@@ -8,23 +8,18 @@ ghost use Rattle.records.specs.Buffer.{Put};
 use flatten::entry::ANSWER;
 use flatten::entry::Flattened;
 use flatten::entry::flatten;
+use records::fields::short;
 use records::fields::two;
 use records::write::put_byte;
 use records::write::put_bytes;
 use records::write::put_decimal;
-
-fn number(n: u8) -> u16
-    ensures { λ r. ⌜ r ≡ n ⌝ }
-{
-    n as u16
-}
 
 // The line of a refusal.
 fn put_refused(out: &mut [u8], n: u8) -> usize
     ensures { λ r. ⌜ Put (now (out .entry)) (now (out .exit)) (printed (refused n)) 0 r ⌝ }
 {
     let word = put_bytes(out, 0, b"refused ", 0, 8);
-    let at = put_decimal(out, word, number(n));
+    let at = put_decimal(out, word, short(n));
     put_byte(out, at, b'\n')
 }
 

@@ -8,7 +8,7 @@ use mathlib.Core.Option.{Option, none, some}
 use lib.ListN.{length, getD, set}
 use lib.Seq.{sets}
 use Rattle.definition.specs.Base.{refused}
-use Rattle.definition.specs.Limits.{structureLimit, fieldLimit, variableLimit}
+use Rattle.definition.specs.Limits.{fieldLimit, variableLimit}
 use Rattle.definition.specs.Rule.{MorphismKind}
 use Rattle.definition.specs.Group.{Variable}
 use Rattle.definition.specs.Signature.{Signature}

@@ -21,6 +21,7 @@ use Rattle.signature.specs.declared.ids.Counts.{Counts}
 use Rattle.rule.specs.Lookup.{Ready, ruleAt}
 use Rattle.rule.proofs.Saying.{structures-are}
 use Rattle.records.specs.Places.{Run}
+use Rattle.records.proofs.Runs.{run-same}
 use Rattle.rows.proofs.Accepted.{small-arities}
 use Rattle.naming.specs.Structures.{structureIn, Laid, ByteTypes}
 use Rattle.naming.proofs.Opening.{headed}
@@ -28,7 +29,6 @@ use Rattle.statements.specs.Structures.{SoundAt}
 use Rattle.statements.proofs.Structures.{sound-at}
 use Rattle.kinds.proofs.SoundParts.{between, sound-map, structures-few, kinds-once}
 use Rattle.kinds.proofs.Walked.{kind-mapped}
-use Rattle.steps.proofs.New.{run-same}
 use Rattle.flatten.specs.Tables.{Keyed, kindOn, pairsOn}
 use Rattle.flatten.specs.Ended.{Ground}
 use Rattle.flatten.specs.Answers.{Readable}

@@ -9,7 +9,7 @@ ghost use Rattle.rule.specs.Lookup.{ruleAt};
 ghost use Rattle.signature.specs.Index.{signatureAt};
 ghost use Rattle.flatten.specs.Tables.{tables};
 ghost use Rattle.flatten.specs.Ended.{Ended};
-ghost use Rattle.flatten.specs.Answers.{answeredIn, Readable, Writes, outcomeOf, sizeOf, Demanded, ruleOutcome, numberIn, stopIn};
+ghost use Rattle.flatten.specs.Answers.{answeredIn, Readable, Writes, outcomeOf, sizeOf, Demanded, ruleOutcome, numberIn};
 use crate::output::put_group;
 use crate::tables::SORTS;
 use crate::tables::UNREACHED;

@@ -2,7 +2,7 @@
 ghost use mathlib.Core.List.{List};
 ghost use mathlib.Core.Option.{some};
 ghost use mathlib.Core.Path.{_≡_};
-ghost use Prim.Native.Nat.{_<_, _≤_};
+ghost use Prim.Native.Nat.{_<_};
 ghost use lib.ListN.{length, set};
 ghost use lib.Seq.{sets};
 ghost use Rattle.definition.specs.Base.{each};
@@ -18,7 +18,7 @@ ghost use Rattle.naming.specs.Structures.{structureIn, Laid, ByteTypes};
 ghost use Rattle.naming.specs.Variables.{rowOf, GivenOut, newIn};
 ghost use Rattle.kinds.specs.Table.{kindIn, Tabled};
 ghost use Rattle.steps.specs.Steps.{Reaches};
-ghost use Rattle.flatten.specs.Tables.{tables, kindOn};
+ghost use Rattle.flatten.specs.Tables.{tables};
 ghost use Rattle.flatten.specs.Ended.{Ground};
 ghost use Rattle.flatten.specs.Answers.{stopIn};
 ghost use Rattle.flatten.specs.Went.{Ends, Does, Met, numberOf, GoingFrom, Went, toWalk, Begun, Walks};

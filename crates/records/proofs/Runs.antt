@@ -2,7 +2,7 @@
 use Prim.Native.Nat.{ℕ, _+_, _≤_, _<_}
 use native.Mathlib.Omega.{arith}
 use mathlib.Core.List.{List, [], _∷_, _++_}
-use mathlib.Core.Path.{_≡_, refl}
+use mathlib.Core.Path.{_≡_, refl, sym}
 use lib.ListN.{length}
 use Rattle.definition.specs.Records.{Field}
 use Rattle.records.specs.Places.{fieldAt, fieldOf, Run, none, more}
@@ -51,3 +51,11 @@ module _ {s : List ℕ} where
       let x-is : x ≡ next = cc in
       let same : fieldOf s l b n ∷ gs ≡ fieldOf s letter start len ∷ gs = cc in
       record { rest = gs; same = same; run = rw x-is at r }
+
+  -- Between two positions stand the same fields.
+  pub run-same : {at end : ℕ} {fs gs : List Field} → Run s at end fs → Run s at end gs → fs ≡ gs
+  run-same none q = sym (run-end q (omega arith))
+  run-same (more {at} e r) q =
+      let g = got-is s at e in let l = run-le r in
+      let b = run-got q (omega arith) e in
+      rw (run-same r (b .run)) (sym (b .same))

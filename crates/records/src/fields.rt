@@ -30,7 +30,7 @@ pub fn place(x: u16) -> usize
 }
 
 // A byte as a number.
-fn short(x: u8) -> u16
+pub fn short(x: u8) -> u16
     ensures { λ r. ⌜ (r ≡ x) × (r < 256) ⌝ }
 {
     x as u16

@@ -4,7 +4,7 @@ use native.Mathlib.Omega.{arith}
 use native.Mathlib.Decide.{ℕ-discrete}
 use mathlib.Core.Bool.{true, false}
 use mathlib.Core.List.{List, [], _∷_, _++_, List·Memᴰ·head, List·Memᴰ·tail, Memᴰ·append-left}
-use mathlib.Core.Path.{_≡_, refl, sym, _∙_, ap}
+use mathlib.Core.Path.{_≡_, refl, _∙_, ap}
 use lib.ListN.{length, getD, take, drop, take-append-drop}
 use borrow.Author.Tests.{eq-eqb, ne-eqb}
 use Rattle.definition.specs.Base.{each, joined, _∈_}
@@ -15,11 +15,11 @@ use Rattle.definition.specs.Rule.{Structure, Row, rowOf}
 use Rattle.definition.specs.Writer.{statementField, fieldBytes, recordBytes}
 use Rattle.theory.proofs.ByteForm.{statementBytes}
 use Rattle.theory.proofs.Lists.{each-mem}
-use Rattle.records.specs.Places.{twoAt, stretch, fieldAt, fieldOf, Run, none, more}
+use Rattle.records.specs.Places.{twoAt, stretch, fieldAt, fieldOf, Run}
 use Rattle.records.specs.declared.fields.Field.the-variants.{Got}
 use Rattle.records.proofs.Link.{got-is}
 use Rattle.records.proofs.Numbers.{length-stretch, take-stretch, take-numbers}
-use Rattle.records.proofs.Runs.{Behind, run-le, run-end, run-got}
+use Rattle.records.proofs.Runs.{Behind, run-end, run-got, run-same}
 use Rattle.rows.specs.Table.{RowSized, RowsFrom, rowIn}
 use Rattle.rows.proofs.Parts.{apart, count-in}
 use Rattle.rows.proofs.Sections.{RowHere, row-is}
@@ -30,15 +30,6 @@ use Rattle.statements.specs.Structures.{Stands}
 use Rattle.statements.specs.Parts.{variableBy, NamedIn, placeR, placeA, rowsAt, partStatement, chosenStatements, Chooses}
 use Rattle.statements.specs.declared.sections.Chosen.{Chosen}
 use Rattle.statements.proofs.Elements.{statements-cons, flagged-on, flagged-pass}
-
--- The fields from one position to another are told by the bytes.
-run-same : {s : List ℕ} {at end : ℕ} {fs gs : List Field} → Run s at end fs → Run s at end gs → fs ≡ gs
-run-same none q = sym (run-end q (omega arith))
-run-same {s} (more {at} {letter} {start} {len} e r) q =
-    let g = got-is s at e in
-    let l = run-le r in
-    let b = run-got q (omega arith) e in
-    sym (b .same ∙ ap (λ (fs : List Field). fieldOf s letter start len ∷ fs) (sym (run-same r (b .run))))
 
 -- A loop along a section stands at a field, behind the first i rows.
 pub record Rowing (s : List ℕ) (st : Structure) (rows : List Row) (omitted field end i : ℕ) : Type 0 where

@@ -23,6 +23,7 @@ use crate::statement::Statement;
 use crate::statement::counted;
 use crate::statement::put_statement;
 use records::fields::place;
+use records::fields::short;
 use rows::kernel::has_kernel_pairs;
 use rows::kernel::key_vars;
 use rows::maps::Map;
@@ -37,13 +38,6 @@ use signature::ids::EQUALITY;
 // How many variables an Equality has.
 const EQUALITY_VARS: usize = 2;
 
-// A type as a number.
-fn number(ty: u8) -> u16
-    ensures { λ r. ⌜ r ≡ ty ⌝ }
-{
-    ty as u16
-}
-
 // The Equality of two variables, typed as the first one is.
 fn put_equality(out: &mut [u8], from: usize, letter: u8, types: &[u8], v: u16, w: u16) -> usize
     requires { ⌜ (from ≤ countLimit) × (v < length (now types)) ⌝ }
@@ -53,7 +47,7 @@ fn put_equality(out: &mut [u8], from: usize, letter: u8, types: &[u8], v: u16, w
     if out.len() <= from {
         return counted(from, EQUALITY_VARS);
     }
-    let symbol = number(types[place(v)]);
+    let symbol = short(types[place(v)]);
     let vars = [v, w, 0, 0, 0, 0, 0, 0];
     put_statement(
         out,

@@ -20,6 +20,7 @@ use Rattle.theory.proofs.Lists.{each-mem}
 use Rattle.theory.proofs.StepForm.{rowFault, newFault, stepFault, rowFor, own, conclusions}
 use Rattle.records.specs.Places.{twoAt, stretch, Run}
 use Rattle.records.proofs.Numbers.{length-numbers, take-numbers, take-stretch}
+use Rattle.records.proofs.Runs.{run-same}
 use Rattle.rule.specs.Elements.{countAt, elementAt, elementNumbers}
 use Rattle.rule.proofs.Finding.{numbers-get}
 use Rattle.rows.specs.Maps.{pairsIn}
@@ -40,7 +41,7 @@ use Rattle.steps.specs.declared.elements.New.the-variants as new
 use Rattle.steps.specs.declared.yielding.Yielding.{Yielding}
 use Rattle.steps.specs.declared.yielding.Yielding.the-variants as yielding
 use Rattle.steps.proofs.Masks.{no-flag, none-flagged, one-flagged, power-some}
-use Rattle.steps.proofs.New.{run-same, func-run, func-rows}
+use Rattle.steps.proofs.New.{func-run, func-rows}
 
 -- A structure's A rows, which have a result each.
 module _ {sig : Signature} {s index : List ℕ} {k : ℕ} (w : SoundAt sig s index k) where

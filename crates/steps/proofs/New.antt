@@ -13,9 +13,8 @@ use Rattle.definition.specs.Rule.{Row, Pair, rowOf}
 use Rattle.definition.specs.Rows.{memberRow}
 use Rattle.definition.specs.Signature.{Signature, predOf, funcOf, typeParents, columnCount}
 use Rattle.theory.proofs.Lists.{length-each}
-use Rattle.records.specs.Places.{Run, none, more}
-use Rattle.records.proofs.Link.{got-is}
-use Rattle.records.proofs.Runs.{run-le, run-got, run-end}
+use Rattle.records.specs.Places.{Run}
+use Rattle.records.proofs.Runs.{run-end}
 use Rattle.rule.specs.Elements.{countAt}
 use Rattle.rows.specs.Elements.{elementIn, elementsIn}
 use Rattle.rows.specs.Maps.{pairsIn}
@@ -35,14 +34,6 @@ use Rattle.steps.specs.declared.added.Flagged.{Flagged}
 use Rattle.steps.specs.declared.added.Flagged.the-variants as flagged-as
 use Rattle.steps.specs.declared.step.Step.the-variants.{Adds, Refused}
 use Rattle.steps.proofs.Masks.{packed-keep, no-flag, none-flagged}
-
--- The same fields stand between two positions, however they were told.
-pub run-same : {s : List ℕ} {at end : ℕ} {fs gs : List Field} → Run s at end fs → Run s at end gs → fs ≡ gs
-run-same none q = sym (run-end q (omega arith))
-run-same {s} (more {at} e r) q =
-    let g = got-is s at e in let l = run-le r in
-    let b = run-got q (omega arith) e in
-    rw (run-same r (b .run)) (sym (b .same))
 
 keep-few : {A : Type 0} (p : A → Bool) (xs : List A) → length (keep p xs) ≤ length xs
 unfolding keep

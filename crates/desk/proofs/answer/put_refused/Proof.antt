@@ -11,8 +11,8 @@ slice-aggregate-put-bytes c = search needs
 put-bytes-requires : tie.Need-put-bytes-requires
 put-bytes-requires c κs = search needs
 
-number-requires : tie.Need-number-requires
-number-requires c κs = search needs
+short-requires : tie.Need-short-requires
+short-requires c κs = search needs
 
 put-decimal-requires : tie.Need-put-decimal-requires
 put-decimal-requires c κs = search needs
@@ -25,7 +25,7 @@ same-length c = search needs
 
 returns : tie.Need-returns
 unfolding stretch printed
-returns c = rw (← (c .before .before .before .before .before .before .before .number .ensures)) (then (then (c .before .before .before .before .before .before .before .before .before .before .before .put-bytes .ensures) (c .before .before .before .before .before .before .put-decimal .ensures)) (c .before .before .put-byte .ensures))
+returns c = rw (← (c .before .before .before .before .before .before .before .short .ensures .0)) (then (then (c .before .before .before .before .before .before .before .before .before .before .before .put-bytes .ensures) (c .before .before .before .before .before .before .put-decimal .ensures)) (c .before .before .put-byte .ensures))
 
 pub put-refused-spec : {M : Type 1} → statement M
 put-refused-spec =
@@ -33,7 +33,7 @@ put-refused-spec =
     (tie.spec
     slice-aggregate-put-bytes
     put-bytes-requires
-    number-requires
+    short-requires
     put-decimal-requires
     put-byte-requires
     same-length

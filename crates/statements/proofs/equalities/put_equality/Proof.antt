@@ -15,11 +15,11 @@ returns c = beyond _ _ (c .counted .ensures _ _ refl) (c .before .if1 .taken)
 place-requires : tie.Need-place-requires
 place-requires c κs = search needs
 
-shared-slice-read-number : tie.Need-shared-slice-read-number
-shared-slice-read-number c = search needs
+shared-slice-read-short : tie.Need-shared-slice-read-short
+shared-slice-read-short c = search needs
 
-number-requires : tie.Need-number-requires
-number-requires c κs = search needs
+short-requires : tie.Need-short-requires
+short-requires c κs = search needs
 
 put-statement-requires : tie.Need-put-statement-requires
 put-statement-requires c κs = search needs
@@ -31,7 +31,7 @@ returns-2 : tie.Need-returns-2
 unfolding equalityOf
 returns-2 c =
     let n = c .before .before .before .before in
-    rw (n .number .ensures, n .before .before .place .ensures .0) at (c .before .before .put-statement .ensures)
+    rw (n .short .ensures .0, n .before .before .place .ensures .0) at (c .before .before .put-statement .ensures)
 
 pub put-equality-spec : {M : Type 1} → statement M
 put-equality-spec =
@@ -40,8 +40,8 @@ put-equality-spec =
     counted-requires
     returns
     place-requires
-    shared-slice-read-number
-    number-requires
+    shared-slice-read-short
+    short-requires
     put-statement-requires
     same-length
     returns-2)
