@@ -5,10 +5,10 @@ use Rattle.flatten.proofs.entry.answered.Reads as reads
 use Rattle.flatten.proofs.entry.answered.Lts as lts
 
 returns : tie.Need-returns
-returns c = rw (lt-ltb _ _ (c .if1 .taken))
+returns c = let a = c .before .args in rw (lt-ltb (a .most) (a .size) (c .if1 .taken))
 
 returns-2 : tie.Need-returns-2
-returns-2 c = rw (le-ltb _ _ (c .if1 .left))
+returns-2 c = let a = c .before .args in rw (le-ltb (a .most) (a .size) (c .if1 .left))
 
 pub answered-spec : {M : Type 1} → statement M
 answered-spec = tie.close (tie.spec returns returns-2)
