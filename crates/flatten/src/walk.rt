@@ -113,9 +113,9 @@ fn number(r: Step) -> u8
 }
 
 // What a map's step hands back: the variables of the target's elements, and whether the walk goes on.
-pub struct MapWalked {
-    pub vars: [u16; FIELDS],
-    pub end: Walked,
+struct MapWalked {
+    vars: [u16; FIELDS],
+    end: Walked,
 }
 
 // A map walked, from the row of its source: the target gets its variables, its source and its masks.
