@@ -1,16 +1,19 @@
 -- The loop over all pairs: kinds as the table has them, and the walk's end.
-use Prim.Native.Nat.{ℕ, zero, suc, _+_, _-_, _*_, _≤_, _<_}
+use Prim.Native.Nat.{ℕ, zero, suc, _+_, _-_, _*_, _<_}
 use native.Mathlib.Omega.{arith}
 use native.Mathlib.Nat.{suc-mul}
 use mathlib.Core.Bool.{Bool, true, false}
-use mathlib.Core.Path.{_≡_, ap, sym, _∙_}
+use mathlib.Core.Path.{_≡_, refl, ap, sym, _∙_}
 use mathlib.Core.List.{List}
+use mathlib.Core.Option.{Option, none, some}
+use lib.Dec.{ltb}
 use lib.ListN.{length, set, replicate, length-replicate}
 use lib.Seq.{sets}
 use borrow.Author.Tests.{ltb-true, ltb-false}
 use Rattle.definition.specs.Base.{refused}
 use Rattle.definition.specs.Limits.{variableLimit}
 use Rattle.definition.specs.Names.{numbered}
+use Rattle.definition.specs.Rule.{MorphismKind}
 use Rattle.definition.specs.Signature.{Signature}
 use Rattle.definition.specs.Walk.{walkFrom, initialState, walkedKinds, nothingTaken, namedRules, groupName, completed}
 use Rattle.theory.proofs.Refusals.{walk-refuses}
@@ -64,26 +67,42 @@ module _ {sig : Signature} {s index : List ℕ} {kinds : List (List ℕ)} {n t u
   unfolding kindOn
   entry-is = at .tabled .same u t (within .0) (within .1)
 
-  pub met : entryAt kinds u t < 4 → Met s u t (entryAt kinds u t)
-  met b = let k = kind-some (entryAt kinds u t) b in record { kind = k .0; said = k .1; on = sym entry-is ∙ k .1; source-in = source-inside; target-in = target-inside }
+  pub met : (k : MorphismKind) × (kindIn (entryAt kinds u t) ≡ some k) → Met s u t (entryAt kinds u t)
+  met k = record { kind = k .0; said = k .1; on = sym entry-is ∙ k .1; source-in = source-inside; target-in = target-inside }
 
   -- A pair without a kind, or behind a refusal, is passed by.
-  pub skip : {tb : Tables} {types : List ℕ} {next : ℕ} {b : Bool} (end : Walked) → b ≡ toWalk (entryAt kinds u t) end → b ≡ false → Under end sig s tb types next t u
+  pub skip : {tb : Tables} {types : List ℕ} {next : ℕ} {b : Bool} (end : Walked) → b ≡ toWalk (kindIn (entryAt kinds u t)) end → b ≡ false → Under end sig s tb types next t u
       → Under end sig s tb types next t (u + 1)
-  skip {b = b} On e f w =
-      let q : u + 1 ≡ suc u = omega arith in let h : 4 ≤ entryAt kinds u t = ltb-false (entryAt kinds u t) 4 (sym e ∙ f) in
-      record { is = rw q (pass-on (w .is) target-inside source-inside (sym entry-is ∙ kind-none (entryAt kinds u t) h)) }
-  skip (Refused n) e f w = record { is = w .is }
+  skip {tb} {types} {next} {b} end e f w = go (kindIn (entryAt kinds u t)) refl end e w
+    where
+      go : (o : Option MorphismKind) → kindIn (entryAt kinds u t) ≡ o → (end : Walked) → b ≡ toWalk o end → Under end sig s tb types next t u → Under end sig s tb types next t (u + 1)
+      go none q On e w = let n : u + 1 ≡ suc u = omega arith in record { is = rw n (pass-on (w .is) target-inside source-inside (sym entry-is ∙ q)) }
+      go none q (Refused n) e w = record { is = w .is }
+      go (some k) q On e w = let z : _≡_ {A = ℕ} 0 1 = cc in absurd (omega arith)
+      go (some k) q (Refused n) e w = record { is = w .is }
+
+-- What `to_walk` answers.
+pub walked-on : (n : ℕ) → ltb n 4 ≡ toWalk (kindIn n) On
+walked-on n = go (ltb n 4) refl
+  where
+    go : (b : Bool) → ltb n 4 ≡ b → ltb n 4 ≡ toWalk (kindIn n) On
+    go true e = rw (e, kind-some n (ltb-true n 4 e) .1)
+    go false e = rw (e, kind-none n (ltb-false n 4 e))
+
+pub walked-not : (o : Option MorphismKind) {end : Walked} {n : ℕ} → end ≡ Refused n → false ≡ toWalk o end
+walked-not none e = refl
+walked-not (some k) e = rw e
 
 -- A map is walked where there is a kind, and where the walk was not refused.
-pub walked-kind : {b : Bool} (kind : ℕ) (end : Walked) → b ≡ toWalk kind end → b ≡ true → kind < 4
-walked-kind kind On e h = ltb-true kind 4 (sym e ∙ h)
-walked-kind kind (Refused n) e h = let z : _≡_ {A = ℕ} 0 1 = cc in absurd (omega arith)
+pub walked-kind : {b : Bool} (o : Option MorphismKind) (end : Walked) → b ≡ toWalk o end → b ≡ true → (k : MorphismKind) × (o ≡ some k)
+walked-kind none end e h = let z : _≡_ {A = ℕ} 0 1 = cc in absurd (omega arith)
+walked-kind (some k) end e h = (k, refl)
 
-pub walked-going : {b : Bool} (kind : ℕ) {sig : Signature} {s types : List ℕ} {tb : Tables} {next t u : ℕ} (end : Walked) → b ≡ toWalk kind end → b ≡ true
+pub walked-going : {b : Bool} (o : Option MorphismKind) {sig : Signature} {s types : List ℕ} {tb : Tables} {next t u : ℕ} (end : Walked) → b ≡ toWalk o end → b ≡ true
     → Under end sig s tb types next t u → Going sig s tb types next t u
-walked-going kind On e h w = w .is
-walked-going kind (Refused n) e h w = let z : _≡_ {A = ℕ} 0 1 = cc in absurd (omega arith)
+walked-going o On e h w = w .is
+walked-going none (Refused n) e h w = let z : _≡_ {A = ℕ} 0 1 = cc in absurd (omega arith)
+walked-going (some k) (Refused n) e h w = let z : _≡_ {A = ℕ} 0 1 = cc in absurd (omega arith)
 
 -- What `walk_map` answered.
 pub went-under : {sig : Signature} {s types : List ℕ} {tb : Tables} {next t u : ℕ} (end : Walked) → Went end sig s tb types next t u → Under end sig s tb types next t (u + 1)

@@ -75,10 +75,13 @@ pub refused-at-once : (out : List ℕ) {k : ℕ} {x : Outcome (List ℕ)} → x 
 refused-at-once out e = record { answer = sym e; fits = omega arith; rest = refl }
 
 -- The walk's end.
-pub ended : {sig : Signature} {s index types : List ℕ} {kinds : List (List ℕ)} {tb : Tables} {n : ℕ} (gr : Ground sig s index)
-    (td : Tabled kinds (completed (ruleAt s .maps) (ruleAt s .kinds) (ruleAt s .auxiliaries))) → Walks n sig s tb types → n ≡ 0 → Ended s index types kinds tb
-ended {sig} {s} {types = types} {tb = tb} gr td w e =
-    let v : Walks 0 sig s tb types = rw e at w in record { sig = sig; state = v .is .0; ground = gr; tabled = td; finished = v .is .2 }
+abbrev ending : {sig : Signature} {s index types : List ℕ} {kinds : List (List ℕ)} {tb : Tables} → Ground sig s index
+    → Tabled kinds (completed (ruleAt s .maps) (ruleAt s .kinds) (ruleAt s .auxiliaries)) → Walks 0 sig s tb types → Ended s index types kinds tb
+ending {sig} gr td w = record { sig = sig; state = w .is .0; ground = gr; tabled = td; finished = w .is .2 }
+
+pub ended : {sig : Signature} {s index types : List ℕ} {kinds : List (List ℕ)} {tb : Tables} {n : ℕ} → Ground sig s index
+    → Tabled kinds (completed (ruleAt s .maps) (ruleAt s .kinds) (ruleAt s .auxiliaries)) → Walks n sig s tb types → n ≡ 0 → Ended s index types kinds tb
+ended {sig} {s} {types = types} {tb = tb} gr td w e = let v : Walks 0 sig s tb types = rw e at w in ending gr td v
 
 -- 21, 22, and a refused walk.
 module _ (sig : Signature) (s : List ℕ) (room : ℕ) where
@@ -108,8 +111,7 @@ module _ (sig : Signature) (s : List ℕ) (room : ℕ) where
         → Ground sig s index → Tabled kinds (completed (ruleAt s .maps) (ruleAt s .kinds) (ruleAt s .auxiliaries)) → Walks n sig s tb types → n ≡ 0
         → ((e : Ended s index types kinds tb) → Writes q out₀ out (fitted room (groupBytesOf (groupLeft (ruleAt s) (e .state))))) → Writes q out₀ out (ruleOutcome sig s room)
     ended-writes {types = types} {tb = tb} gr td w e v =
-        let w′ : Walks 0 sig s tb types = rw e at w in
-        rw (walk-accepted (w′ .is .1)) (v (record { sig = sig; state = w′ .is .0; ground = gr; tabled = td; finished = w′ .is .2 }))
+        let w′ : Walks 0 sig s tb types = rw e at w in rw (walk-accepted (w′ .is .1)) (v (ending gr td w′))
 
 -- The reading.
 pub unread : (sig s : List ℕ) {k n : ℕ} (room : ℕ) (r : RuleReading) → ruleAnswer s r ≡ ruleRead sig s → r ≡ reading.Refused n → k ≡ numberIn r → flattenOf sig s room ≡ refused k

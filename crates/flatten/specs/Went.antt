@@ -1,11 +1,10 @@
 -- What the walk's functions answer.
-use mathlib.Core.Bool.{Bool, false}
+use mathlib.Core.Bool.{Bool, true, false}
 use mathlib.Core.List.{List, []}
 use mathlib.Core.Logic.{_⊎_}
-use mathlib.Core.Option.{some}
+use mathlib.Core.Option.{Option, none, some}
 use mathlib.Core.Path.{_≡_}
 use Prim.Native.Nat.{ℕ, zero, suc, _≤_, _<_}
-use lib.Dec.{ltb}
 use lib.ListN.{length, getD, set, replicate}
 use Rattle.definition.specs.Limits.{structureLimit, variableLimit}
 use Rattle.definition.specs.Base.{Outcome, refused, accepted}
@@ -88,10 +87,11 @@ WentAs (Refused n) sig s tb types next t u = wholeWalk sig s ≡ refused n
 pub record Went (r : Walked) (sig : Signature) (s : List ℕ) (tb : Tables) (types : List ℕ) (next t u : ℕ) : Type 0 where
   pub is : WentAs r sig s tb types next t u
 
--- A map is walked where there is a kind, and none behind a refusal.
-abbrev pub toWalk : ℕ → Walked → Bool
-toWalk kind On = ltb kind 4
-toWalk kind (Refused n) = false
+-- A map is walked where two structures have a kind, and none behind a refusal.
+abbrev pub toWalk : Option MorphismKind → Walked → Bool
+toWalk none end = false
+toWalk (some kind) On = true
+toWalk (some kind) (Refused n) = false
 
 -- The tables before the first map: of the structures only 0 is reached, and no variable is given out yet.
 pub record Begun (sources : List ℕ) (masks vars : List (List ℕ)) (types : List ℕ) : Type 0 where

@@ -169,7 +169,7 @@ fn first_row(types: &mut [u8; VARIABLES], s: &[u8], index: &[u16; RULE_INDEX]) -
 
 // Is there a map to be walked? Not where two structures have no kind, and none behind a refusal.
 fn to_walk(kind: u8, end: Walked) -> bool
-    ensures { λ r. ⌜ r ≡ toWalk kind end ⌝ }
+    ensures { λ r. ⌜ r ≡ toWalk (kindIn kind) end ⌝ }
 {
     match end {
         Walked::On => kind < NO_KIND,

@@ -12,6 +12,7 @@ use lib.Seq.{drop-cons, drop-drop}
 use borrow.Author.Tests.{ltb-false, ltb-true, le-leb, lt-leb}
 use Rattle.definition.specs.Base.{pick}
 use Rattle.definition.specs.Records.{end, bad, _▸_, cut, fieldsOf}
+use Rattle.theory.proofs.Numbers.{cut-same}
 use Rattle.records.specs.Places.{twoAt, stretch, fieldAt, fieldsAt, fieldOf}
 use Rattle.records.specs.declared.fields.Field as read
 use Rattle.records.specs.declared.fields.Field.the-variants.{Got, Bad}
@@ -77,22 +78,6 @@ fit : (k l h m : ℕ) (s : List ℕ) → h * 256 + m ≤ length s
 unfolding cut
 fit k l h m s p = rw (le-leb _ _ p)
 
--- Fuel as long as the bytes is enough, and more alters nothing.
-enough : (k j : ℕ) (t : List ℕ) → length t ≤ k → length t ≤ j → cut k t ≡ cut j t
-unfolding cut
-enough zero zero t a b = refl
-enough zero (suc j) [] a b = refl
-enough zero (suc j) (l ∷ t) a b = absurd (omega arith)
-enough (suc k) zero [] a b = refl
-enough (suc k) zero (l ∷ t) a b = absurd (omega arith)
-enough (suc k) (suc j) [] a b = refl
-enough (suc k) (suc j) (l ∷ []) a b = refl
-enough (suc k) (suc j) (l ∷ h ∷ []) a b = refl
-enough (suc k) (suc j) (l ∷ h ∷ m ∷ s) a b =
-    let n : ℕ = h * 256 + m in
-    let x : length (drop n s) ≤ length s = rw length-drop (omega arith) in
-    simp (enough k j (drop n s) (omega arith) (omega arith))
-
 -- The three laws by which every loop over fields goes; no fuel is seen from here on.
 module _ (s : List ℕ) (at : ℕ) where
   left : length (drop at s) ≡ length s - at
@@ -101,7 +86,7 @@ module _ (s : List ℕ) (at : ℕ) where
   -- One turn of the cutting, with fuel to spare.
   turn : fieldsAt s at ≡ cut (suc (length s)) (drop at s)
   unfolding fieldsAt
-  turn = enough (length s) (suc (length s)) (drop at s) (omega (arith, left)) (omega (arith, left))
+  turn = cut-same (length s) (suc (length s)) (drop at s) (omega (arith, left)) (omega (arith, left))
 
   pub fields-bad : at < length s → fieldAt s at ≡ Bad → fieldsAt s at ≡ bad
   fields-bad lt e = turn ∙ ⊎-elim few cut-off (bad-is s at e)

@@ -61,7 +61,7 @@ length-numbers (h ∷ []) = omega arith
 length-numbers (h ∷ l ∷ s) = let i : 2 * length (numbers s) ≤ length s = length-numbers s in omega arith
 
 -- Fuel as long as the bytes is enough, and more alters nothing.
-cut-same : (k j : ℕ) (s : List ℕ) → length s ≤ k → length s ≤ j → cut k s ≡ cut j s
+pub cut-same : (k j : ℕ) (s : List ℕ) → length s ≤ k → length s ≤ j → cut k s ≡ cut j s
 unfolding cut
 cut-same zero zero s a b = refl
 cut-same zero (suc j) [] a b = refl

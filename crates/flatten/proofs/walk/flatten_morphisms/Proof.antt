@@ -5,7 +5,7 @@ use mathlib.Core.Path.{_≡_, refl}
 use lib.ListN.{getD}
 use Prim.Native.Nat.{_+_, _-_, _*_, _<_}
 use Rattle.signature.specs.Index.{signatureAt}
-use Rattle.kinds.specs.Table.{entryAt}
+use Rattle.kinds.specs.Table.{kindIn, entryAt}
 use Rattle.flatten.specs.Tables.{tables}
 use Rattle.flatten.specs.Went.{GoingFrom}
 use Rattle.flatten.proofs.Grounds.{first-laid, byte-types}
@@ -48,7 +48,7 @@ From c = let l = c .before .before in let a = S l .args in
 
 abbrev from : (c : tie.After-to-walk Inv-loop μ-loop) → c .to-walk .result ≡ true → From c
 from c h = let l = c .before .before in
-    record { vars = l .loop .vars; row = refl; going = walked-going (entryAt (S l .args .kinds .now) (l .loop .u) (l .loop .t)) (l .loop .end) (c .to-walk .ensures) h (l .loop .inv .2) }
+    record { vars = l .loop .vars; row = refl; going = walked-going (kindIn (entryAt (S l .args .kinds .now) (l .loop .u) (l .loop .t))) (l .loop .end) (c .to-walk .ensures) h (l .loop .inv .2) }
 
 -- Behind the pair, walked or passed by.
 abbrev Behind : tie.Joined1 Inv-loop μ-loop → Type 0

@@ -1,3 +1,5 @@
+use Rattle.kinds.specs.Table.{kindIn}
+use Rattle.flatten.proofs.Ending.{walked-on, walked-not}
 use borrow.Author.Needs.{needs}
 use Rattle.flatten.proofs.walk.to_walk.Statement.{statement}
 use Rattle.flatten.proofs.walk.to_walk.Tie as tie
@@ -11,10 +13,10 @@ enum-told-2 : tie.Need-enum-told-2
 enum-told-2 c = search needs
 
 returns : tie.Need-returns
-returns c = rw (c .enum-told .given .1)
+returns c = rw (c .enum-told .given .1) (walked-on (c .before .before .args .kind))
 
 returns-2 : tie.Need-returns-2
-returns-2 c = rw (c .enum-told2 .given .1)
+returns-2 c = walked-not (kindIn (c .before .before .args .kind)) (c .enum-told2 .given .1)
 
 pub to-walk-spec : {M : Type 1} → statement M
 to-walk-spec = tie.close (tie.spec enum-told enum-told-2 returns returns-2)
