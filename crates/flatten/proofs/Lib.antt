@@ -14,3 +14,5 @@ pub mod Rules
 pub mod Groups
 pub mod Grounds
 pub mod Writing
+pub mod Lengths
+pub mod Merging

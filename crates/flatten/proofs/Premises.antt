@@ -134,7 +134,7 @@ module _ {s index types : List ℕ} {kinds : List (List ℕ)} {tb : Tables} {t :
   pub kind-is : {kind : ℕ} → ReachedBy kind kinds (tb .sources) t → kindIn kind ≡ reachedBy s tb t
   kind-is b = b .is s tb refl (e .tabled) (e .finished .ties .sources-long) (h .reached) place-small
 
-  mapped : {kind : ℕ} → ReachedBy kind kinds (tb .sources) t → kind < 4 → found (pairsBetween (ruleAt s .maps) (getD (tb .sources) t 0) t) ≡ true
+  pub mapped : {kind : ℕ} → ReachedBy kind kinds (tb .sources) t → kind < 4 → found (pairsBetween (ruleAt s .maps) (getD (tb .sources) t 0) t) ≡ true
   mapped {kind} b l = let k = kind-some kind l in rw source-is (e .ground .mapped (sourceAt tb t) t (k .0) (reached-kind s tb t (k .0) (sym (k .1) ∙ kind-is b)))
 
   pub surj-mapped : {kind : ℕ} → ReachedBy kind kinds (tb .sources) t → kind ≡ 1 → found (pairsBetween (ruleAt s .maps) (getD (tb .sources) t 0) t) ≡ true
@@ -189,7 +189,7 @@ module _ {s index types : List ℕ} {kinds : List (List ℕ)} {tb : Tables} {t :
       rw (own-said kind (reachedBy s tb t) eqs (saidAt s tb t) i j k (kind-is b)) (said-put letterB x y p)
 
   -- Its statements are those of its source and its own.
-  statements-are : statementsAt (e .state .slots) t ≡ before (e .state .slots) tb t ++ own
+  pub statements-are : statementsAt (e .state .slots) t ≡ before (e .state .slots) tb t ++ own
   unfolding statementsAt
   statements-are = ap statementsOf (at-slot .1) ∙ at-slot .2 .statements
 

@@ -162,11 +162,11 @@ module _ {s index types : List ℕ} {kinds : List (List ℕ)} {tb : Tables} (e :
       go true = refl
       go false = refl
 
-  rules-pass : (t : ℕ) → unreached ≤ sourceAt tb t → rulesTo e (t + 1) ≡ rulesTo e t
+  pub rules-pass : (t : ℕ) → unreached ≤ sourceAt tb t → rulesTo e (t + 1) ≡ rulesTo e t
   unfolding rulesTo emittedTo
   rules-pass t h = let q : t + 1 ≡ suc t = omega arith in rw (q, le-ltb (sourceAt tb t) unreached h, append-nil)
 
-  rules-more : (t : ℕ) → sourceAt tb t < unreached
+  pub rules-more : (t : ℕ) → sourceAt tb t < unreached
       → rulesTo e (t + 1) ≡ rulesTo e t ++ each (emitted (before (e .state .slots) tb t)) (concludedOf e t)
   unfolding rulesTo emittedTo
   rules-more t h = let q : t + 1 ≡ suc t = omega arith in rw (q, lt-ltb (sourceAt tb t) unreached h)

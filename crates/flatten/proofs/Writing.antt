@@ -1,13 +1,15 @@
 -- The entry: what was measured and written, and what it means.
 use Prim.Native.Nat.{ℕ, zero, suc, _≤_, _<_, min}
 use native.Mathlib.Omega.{arith}
+use native.Mathlib.Decide.{decLt}
 use native.Mathlib.Nat.{zero-add}
-use mathlib.Core.Bool.{true, false}
+use mathlib.Core.Bool.{Bool, true, false, not}
 use mathlib.Core.Path.{_≡_, refl, sym, _∙_}
 use mathlib.Core.List.{List, _++_}
+use lib.Dec.{leb}
 use lib.ListN.{length, take, drop, length-append, length-drop}
 use lib.Seq.{take-at, drop-at}
-use borrow.Author.Tests.{lt-ltb, le-ltb}
+use borrow.Author.Tests.{lt-ltb, le-ltb, lt-leb, le-leb, leb-true, leb-false, not-true, not-false}
 use Rattle.definition.specs.Base.{Outcome, refused, accepted, onAccepted}
 use Rattle.definition.specs.Flatten.{groupLeft, fitted, flattenOf}
 use Rattle.definition.specs.Writer.{groupBytesOf}
@@ -16,7 +18,6 @@ use Rattle.definition.specs.Signature.{Signature, readSignature}
 use Rattle.definition.specs.Walk.{State, walkOf, unmappedAuxiliary, unmappedKind, completed}
 use Rattle.theory.proofs.Theorems.{demand-3}
 use Rattle.records.specs.Buffer.{Put}
-use Rattle.records.specs.Places.{stretch}
 use Rattle.signature.specs.Index.{signatureAt}
 use Rattle.signature.specs.declared.ids.Counts.{Counts}
 use Rattle.rule.specs.Lookup.{ruleAt}
@@ -25,50 +26,52 @@ use Rattle.reading.specs.Verdicts.{ruleRead}
 use Rattle.reading.specs.declared.RuleReading.{RuleReading}
 use Rattle.reading.specs.declared.RuleReading.the-variants as reading
 use Rattle.kinds.specs.Table.{Tabled}
-use Rattle.flatten.specs.Tables.{Tables}
+use Rattle.flatten.specs.Tables.{Tables, tables}
 use Rattle.flatten.specs.Ended.{Ground, Ended}
 use Rattle.flatten.specs.Went.{wholeWalk, Walks}
-use Rattle.flatten.specs.Answers.{outcomeOf, answeredIn, sizeOf, Demanded, Writes, Readable, ruleOutcome, numberIn}
+use Rattle.flatten.specs.Room.{groupMost, Unmerged}
+use Rattle.flatten.specs.Answers.{outcomeOf, sizeOf, Demanded, Writes, Readable, ruleOutcome, numberIn}
 use Rattle.flatten.proofs.Grounds.{AllMapped}
+use Rattle.flatten.proofs.Lengths.{group-few}
 use Rattle.flatten.specs.declared.entry.Flattened.{Flattened}
 use Rattle.flatten.specs.declared.entry.Flattened.the-variants.{Written, Refused}
 
--- The bytes were measured in another buffer, and the answer settled.
-exact : {none o p : List ℕ} {m : ℕ} → Put none o p 0 m → m ≤ 65535 → length p ≡ m
-exact h l = omega (arith, h .size)
+-- There is room: the group can't be longer, or it was measured.
+pub surely : {s index types sources : List ℕ} {kinds masks vars : List (List ℕ)} {n room : ℕ} (e : Ended s index types kinds (tables sources masks vars)) → n ≡ length (ruleAt s .structures)
+    → (groupMost (length s) n ≤ room) × Unmerged s sources n → true ≡ leb (length (groupBytesOf (groupLeft (ruleAt s) (e .state)))) room
+surely {s} {room = room} e m u =
+    let q = rw m at u in let f = group-few e (q .1) in let g = q .0 in
+    sym (le-leb (length (groupBytesOf (groupLeft (ruleAt s) (e .state)))) room (omega arith))
 
-module _ {none o p : List ℕ} (out : List ℕ) {m room : ℕ} {r : Flattened} (h : Put none o p 0 m) (u : room ≡ min (length out) 65535) (a : r ≡ answeredIn m room) where
-  pub no-room : room < m → Writes r out out (fitted (length out) p)
+pub measured : {none o p : List ℕ} {m room : ℕ} → Put none o p 0 m → room ≤ 65535 → leb m room ≡ leb (length p) room
+measured {p = p} {m} {room} h l = go (decLt room (length p))
+  where
+    go : Dec (room < length p) → leb m room ≡ leb (length p) room
+    go (yes x) = let y : room < m = omega (arith, h .size) in rw (lt-leb (length p) room x) (lt-leb m room y)
+    go (no x) = let y : m ≤ room = omega (arith, h .size) in rw (le-leb (length p) room (omega arith)) (le-leb m room y)
+
+-- What is answered, by whether it fits.
+module _ (p out : List ℕ) {room : ℕ} {b : Bool} (u : room ≡ min (length out) 65535) (a : b ≡ leb (length p) room) where
+  pub no-room : not b ≡ true → Writes (Refused 31) out out (fitted (length out) p)
   unfolding fitted
-  no-room l =
-      let q : min (length out) 65535 < length p = omega (arith, h .size) in
-      let e : r ≡ Refused 31 = a ∙ rw (lt-ltb room m l) in
-      rw (e, lt-ltb _ _ q) (record { answer = refl; fits = omega arith; rest = refl })
+  no-room n =
+      let q : room < length p = leb-false (length p) room (sym a ∙ not-true b n) in
+      let r : min (length out) 65535 < length p = omega arith in
+      rw (lt-ltb _ _ r) (record { answer = refl; fits = omega arith; rest = refl })
 
-  module _ (l : m ≤ room) where
-    pub wrote-all : {fin : List ℕ} {k : ℕ} → Put out fin p 0 k → Writes r out fin (fitted (length out) p)
-    unfolding fitted
-    wrote-all {fin} {k} w =
-        let x : length p ≡ m = exact h (omega arith) in
-        let f : fin ≡ p ++ drop m out = w .same (omega arith) (omega arith) ∙ rw (zero-add, x) in
-        let q : length p ≤ min (length out) 65535 = omega arith in
-        let t : take m fin ≡ p = rw f (take-at p (drop m out) m x) in
-        let e : r ≡ Written m = a ∙ rw (le-ltb room m l) in
-        rw (e, le-ltb _ _ q) (record {
-          answer = rw t;
-          fits = rw f (rw (length-append, length-drop) (omega arith));
-          rest = rw f (drop-at p (drop m out) m x);
-        })
-
-    -- They all fitted there, and were copied.
-    pub copied-all : {fin : List ℕ} {k : ℕ} → m ≤ length none → Put out fin (stretch o 0 m) 0 k → Writes r out fin (fitted (length out) p)
-    unfolding stretch
-    copied-all {fin} {k} i w =
-        let x : length p ≡ m = exact h (omega arith) in
-        let f : o ≡ p ++ drop m none = h .same (omega arith) (omega arith) ∙ rw (zero-add, x) in
-        let t : take m o ≡ p = rw f (take-at p (drop m none) m x) in
-        let v : Put out fin p 0 k = rw t at w in
-        wrote-all v
+  pub wrote-all : {fin : List ℕ} {k : ℕ} → not b ≡ false → Put out fin p 0 k → Writes (Written k) out fin (fitted (length out) p)
+  unfolding fitted
+  wrote-all {fin} {k} n w =
+      let l : length p ≤ room = leb-true (length p) room (sym a ∙ not-false b n) in
+      let x : length p ≡ k = omega (arith, w .size) in
+      let f : fin ≡ p ++ drop k out = w .same (omega arith) (omega arith) ∙ rw (zero-add, x) in
+      let q : length p ≤ min (length out) 65535 = omega arith in
+      let t : take k fin ≡ p = rw f (take-at p (drop k out) k x) in
+      rw (le-ltb _ _ q) (record {
+        answer = rw t;
+        fits = rw f (rw (length-append, length-drop) (omega arith));
+        rest = rw f (drop-at p (drop k out) k x);
+      })
 
 -- A refusal before anything is written.
 pub refused-at-once : (out : List ℕ) {k : ℕ} {x : Outcome (List ℕ)} → x ≡ refused k → Writes (Refused k) out out x

@@ -27,10 +27,6 @@ abbrev pub outcomeOf : Flattened → List ℕ → Outcome (List ℕ)
 outcomeOf (Written n) out = accepted (take n out)
 outcomeOf (Refused n) out = refused n
 
--- The answer of a group of so many bytes, of which at most so many fit.
-abbrev pub answeredIn : ℕ → ℕ → Flattened
-answeredIn size most = pick (ltb most size) (Refused 31) (Written size)
-
 -- How many bytes of the buffer are the answer.
 abbrev pub sizeOf : Flattened → ℕ
 sizeOf (Written n) = n

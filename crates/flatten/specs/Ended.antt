@@ -6,7 +6,7 @@ use mathlib.Core.Path.{_≡_}
 use Prim.Native.Nat.{ℕ, _≤_, _<_}
 use lib.ListN.{length}
 use Rattle.definition.specs.Base.{pick}
-use Rattle.definition.specs.Limits.{structureLimit, variableLimit, symbolLimit}
+use Rattle.definition.specs.Limits.{ruleBytes, structureLimit, variableLimit, symbolLimit}
 use Rattle.definition.specs.Rule.{MorphismKind}
 use Rattle.definition.specs.Group.{Variable}
 use Rattle.definition.specs.Signature.{Signature}
@@ -31,6 +31,7 @@ pub record Ground (sig : Signature) (s index : List ℕ) : Type 0 where
   pub once : Once (ruleAt s .kinds)
   pub headed : Headed s
   pub types-few : length (sig .types) ≤ symbolLimit
+  pub short : length s ≤ ruleBytes
 
 -- What the new variables ask: the structures' elements, a source for each, and a row where one was reached.
 pub record Numbered (s index : List ℕ) (tb : Tables) : Type 0 where

@@ -5,3 +5,4 @@ pub mod Left
 pub mod Ended
 pub mod Went
 pub mod Answers
+pub mod Room

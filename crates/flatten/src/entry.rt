@@ -9,8 +9,9 @@ ghost use Rattle.rule.specs.Lookup.{ruleAt};
 ghost use Rattle.signature.specs.Index.{signatureAt};
 ghost use Rattle.flatten.specs.Tables.{tables};
 ghost use Rattle.flatten.specs.Ended.{Ended};
-ghost use Rattle.flatten.specs.Answers.{answeredIn, Readable, Writes, outcomeOf, sizeOf, Demanded, ruleOutcome, numberIn};
+ghost use Rattle.flatten.specs.Answers.{Readable, Writes, outcomeOf, sizeOf, Demanded, ruleOutcome, numberIn};
 use crate::output::put_group;
+use crate::room::fits;
 use crate::tables::SORTS;
 use crate::tables::UNREACHED;
 use crate::tables::initial_matching_stmts;
@@ -23,7 +24,6 @@ use kinds::table::kind_table;
 use naming::variables::VARIABLES;
 use reading::RuleReading;
 use reading::read_rule_into;
-use records::write::put_bytes;
 use rule::ids::FIELDS;
 use rule::ids::RULE_INDEX;
 use rule::ids::STRUCTURES;
@@ -39,10 +39,6 @@ pub enum Flattened {
     Refused(u8),
 }
 
-// A group of at most so many bytes is put together in a buffer of flatten's own, which measures it as well, and copied from there:
-// most groups are small, and are gone along only once.
-const SMALL_GROUP: usize = 512;
-
 // How many bytes of a buffer are used.
 fn usable(len: usize) -> usize
     ensures { λ r. ⌜ r ≡ min len answerBytes ⌝ }
@@ -51,16 +47,6 @@ fn usable(len: usize) -> usize
         return ANSWER;
     }
     len
-}
-
-// The answer of a group of so many bytes, of which at most so many fit.
-fn answered(size: usize, most: usize) -> Flattened
-    ensures { λ r. ⌜ r ≡ answeredIn size most ⌝ }
-{
-    if most < size {
-        return Flattened::Refused(31);
-    }
-    Flattened::Written(size)
 }
 
 // The group, measured first, then written where it fits. The walk is over: its variables are handed over for good.
@@ -81,19 +67,11 @@ fn write_group(
         → Writes r (now (out .entry)) (now (out .exit)) (fitted (length (now (out .entry))) (groupBytesOf (groupLeft (ruleAt (now (s .entry))) (e .state))))) ⌝ }
 {
     let room = usable(out.len());
-    let mut own = [0u8; SMALL_GROUP];
-    let size = put_group(&mut own, s, index, n, kinds, sources, masks, &vars, types);
-    let answer = answered(size, room);
     // A refusal leaves the buffer as it was, so it comes before the first byte.
-    if room < size {
-        return answer;
+    if !fits(s, index, n, kinds, sources, masks, &vars, types, room) {
+        return Flattened::Refused(31);
     }
-    if size <= SMALL_GROUP {
-        put_bytes(out, 0, &own, 0, size);
-        return answer;
-    }
-    put_group(out, s, index, n, kinds, sources, masks, &vars, types);
-    answer
+    Flattened::Written(put_group(out, s, index, n, kinds, sources, masks, &vars, types))
 }
 
 // An accepted rule, with its index and that of its signature.

@@ -2,6 +2,7 @@
 pub mod entry;
 pub mod output;
 pub mod premise;
+pub mod room;
 pub mod tables;
 pub mod variables;
 pub mod walk;

@@ -1,0 +1,182 @@
+-- How many bytes a group has at most, where no map merges elements.
+use Prim.Native.Nat.{ℕ, zero, suc, _+_, _*_, _≤_, _<_}
+use native.Mathlib.Omega.{arith}
+use native.Mathlib.Decide.{decLt}
+use native.Mathlib.Nat.{mul-le-mul, suc-mul}
+use mathlib.Core.Bool.{Bool, true, false}
+use mathlib.Core.Option.{Option, none, some}
+use mathlib.Core.List.{List, [], _∷_, _++_, append-nil}
+use mathlib.Core.Path.{_≡_, refl, ap, sym, _∙_}
+use lib.Dec.{eqb, ltb}
+use lib.ListN.{length, getD, length-append}
+use borrow.Author.Tests.{ltb-true, ne-eqb}
+use Rattle.definition.specs.Base.{pick, each, joined}
+use Rattle.definition.specs.Flatten.{groupLeft}
+use Rattle.definition.specs.Group.{Variable, Statement, FlatRule}
+use Rattle.definition.specs.Kinds.{Emitted, equalities, kernelVariables}
+use Rattle.definition.specs.Letters.{letterG, letterU, letterB, letterH, underscore}
+use Rattle.definition.specs.Limits as limits
+use Rattle.definition.specs.Limits.{structureLimit}
+use Rattle.definition.specs.Names.{decimal}
+use Rattle.definition.specs.Rows.{kernelPairs}
+use Rattle.definition.specs.Rule.{MorphismKind, If, SurjThen, NonSurjThen, Noop}
+use Rattle.definition.specs.Walk.{groupName, namedRules}
+use Rattle.definition.specs.Writer.{fieldBytes, recordBytes, variableField, flatRuleFields, groupBytesOf}
+use Rattle.theory.proofs.Lists.{each-append, joined-append}
+use Rattle.theory.proofs.StepForm.{emitted}
+use Rattle.theory.proofs.ByteForm.{statementBytes, statements-append, record-append, rule-bytes, group-bytes, named-append}
+use Rattle.rule.specs.Lookup.{ruleAt}
+use Rattle.naming.specs.Structures.{structureIn}
+use Rattle.naming.specs.Variables.{newIn}
+use Rattle.naming.proofs.Lengths.{news-short, rule-name-short}
+use Rattle.naming.proofs.Printing.{group-short}
+use Rattle.statements.proofs.Elements.{statements-none}
+use Rattle.statements.proofs.Lengths.{said-short, domains-short}
+use Rattle.flatten.specs.Tables.{Tables, unreached, sourceAt, rowAt, pairsOn, ownBy, concludedBy, reachedBy, equalitiesAt, saidAt, domainsAt, masksAt, ownAt, concludedAt, statementsAt, before, newsTo, emittedTo}
+use Rattle.flatten.specs.Ended.{Ended, Reaching}
+use Rattle.flatten.specs.Room.{nameMost, newsMost, saidMost, ruleMost, groupMost, Unmerged}
+use Rattle.flatten.proofs.Premises.{source-is, source-reaching, source-below, stands-at, statements-are}
+use Rattle.flatten.proofs.Rules.{ruleBytes, rulesTo, rules-pass, rules-more}
+
+-- No sum passes the largest number.
+module _ {len n : ℕ} (l : len ≤ limits.ruleBytes) (m : n ≤ structureLimit) where
+  pub said-small : n * saidMost len ≤ 4243456
+  said-small = mul-le-mul m (said-few l)
+    where
+      said-few : len ≤ limits.ruleBytes → saidMost len ≤ 132608
+      said-few l = omega arith
+
+  pub rules-small : n * ruleMost len n ≤ 140035104
+  rules-small = mul-le-mul m (rule-few said-small)
+    where
+      rule-few : n * saidMost len ≤ 4243456 → ruleMost len n ≤ 4376097
+      rule-few b = omega arith
+
+field-length : (letter : ℕ) (name : List ℕ) → length (fieldBytes (record { letter = letter; content = name })) ≡ 3 + length name
+unfolding fieldBytes
+field-length letter name = omega arith
+
+-- At the end of a walk in which no map merged elements.
+module _ {s index types : List ℕ} {kinds : List (List ℕ)} {tb : Tables} (e : Ended s index types kinds tb)
+    (w : Unmerged s (tb .sources) (length (ruleAt s .structures))) where
+  abbrev all : ℕ
+  all = length (ruleAt s .structures)
+
+  abbrev most : ℕ
+  most = saidMost (length s)
+
+  -- What a structure says that was reached.
+  module _ {t : ℕ} (x : Reaching s tb t) where
+    abbrev eqs : List Statement
+    eqs = equalitiesAt (e .sig) (e .state .variables) s tb t
+
+    said-few : (letter : ℕ) → length (statementBytes letter (saidAt s tb t)) ≤ most
+    unfolding saidAt
+    said-few letter = said-short (stands-at e x) letter _ _
+
+    domains-few : length (statementBytes letterH (domainsAt s tb t)) ≤ most
+    unfolding domainsAt
+    domains-few = domains-short (stands-at e x) letterH _ _
+
+    eqs-none : {k : MorphismKind} → reachedBy s tb t ≡ some k → eqs ≡ []
+    unfolding equalitiesAt equalities kernelVariables each
+    eqs-none {k} q = rw (w .none tb refl t k (x .inside) (x .reached) q)
+
+    both-few : {k : MorphismKind} (letter : ℕ) → reachedBy s tb t ≡ some k → length (statementBytes letter (eqs ++ saidAt s tb t)) ≤ most
+    both-few letter q = rw (eqs-none q) (said-few letter)
+
+    own-few : length (statementBytes letterB (ownAt (e .sig) (e .state .variables) s tb t)) ≤ most
+    unfolding ownAt ownBy
+    own-few = go (reachedBy s tb t) refl
+      where
+        go : (o : Option MorphismKind) → reachedBy s tb t ≡ o → length (statementBytes letterB (ownBy o eqs (saidAt s tb t))) ≤ most
+        go none q = said-few letterB
+        go (some If) q = both-few letterB q
+        go (some Noop) q = both-few letterB q
+        go (some SurjThen) q = rw statements-none (omega arith)
+        go (some NonSurjThen) q = said-few letterB
+
+  later : (t : ℕ) → (t ≡ 0 → ⊥) → before (e .state .slots) tb t ≡ statementsAt (e .state .slots) (sourceAt tb t)
+  unfolding before
+  later t d = rw (ne-eqb t 0 d)
+
+  -- A premise: what structures say from the first to one of the first m.
+  premise-few : (m t : ℕ) → Reaching s tb t → t < m → length (statementBytes letterB (statementsAt (e .state .slots) t)) ≤ m * most
+  unfolding before
+  premise-few zero t x h = absurd (omega arith)
+  premise-few (suc m) zero x h = rw (statements-are e x, suc-mul m most) (omega (arith, own-few x))
+  premise-few (suc m) (suc t) x h =
+      let q : sourceAt tb (suc t) ≡ getD (tb .sources) (suc t) 0 = sym (source-is e x) in
+      let b = source-below e x q (λ z. omega arith) in
+      let r = premise-few m (sourceAt tb (suc t)) (source-reaching e x q) (omega arith) in
+      rw (statements-are e x, statements-append, length-append, later (suc t) (λ z. omega arith), suc-mul m most) (omega (arith, r, own-few x))
+
+  before-few : (t : ℕ) → Reaching s tb t → length (statementBytes letterB (before (e .state .slots) tb t)) ≤ all * most
+  unfolding before
+  before-few zero x = rw statements-none (omega arith)
+  before-few (suc t) x =
+      let q = source-reaching e x (sym (source-is e x)) in
+      rw (later (suc t) (λ z. omega arith)) (premise-few all (sourceAt tb (suc t)) q (q .inside))
+
+  -- A rule.
+  one-rule : (count : ℕ) (premise conclusion : List Statement) → length (statementBytes letterB premise) ≤ all * most → length (statementBytes letterH conclusion) ≤ most
+      → length (ruleBytes (namedRules (groupName (ruleAt s)) count (emitted premise conclusion ∷ []))) ≤ ruleMost (length s) all
+  unfolding namedRules joined
+  one-rule count premise conclusion p c =
+      rw (append-nil, rule-bytes, length-append, length-append, field-length) (omega (arith, rule-name-short (e .ground .headed) count))
+
+  emitted-few : (count t : ℕ) → Reaching s tb t
+      → length (ruleBytes (namedRules (groupName (ruleAt s)) count (each (emitted (before (e .state .slots) tb t)) (concludedAt (e .sig) (e .state .variables) s tb t)))) ≤ ruleMost (length s) all
+  unfolding concludedAt concludedBy namedRules joined each
+  emitted-few count t x = go (reachedBy s tb t) refl
+    where
+      by-funcs : (b : Bool) → length (ruleBytes (namedRules (groupName (ruleAt s)) count (each (emitted (before (e .state .slots) tb t)) (pick b [] (domainsAt s tb t ∷ []))))) ≤ ruleMost (length s) all
+      by-funcs true = omega arith
+      by-funcs false = one-rule count (before (e .state .slots) tb t) (domainsAt s tb t) (before-few t x) (domains-few x)
+      go : (o : Option MorphismKind) → reachedBy s tb t ≡ o
+          → length (ruleBytes (namedRules (groupName (ruleAt s)) count (each (emitted (before (e .state .slots) tb t)) (concludedBy o (masksAt tb t .funcs) (eqs x) (saidAt s tb t) (domainsAt s tb t))))) ≤ ruleMost (length s) all
+      go none q = omega arith
+      go (some If) q = omega arith
+      go (some Noop) q = omega arith
+      go (some SurjThen) q = one-rule count (before (e .state .slots) tb t) (eqs x ++ saidAt s tb t) (before-few t x) (both-few x letterH q)
+      go (some NonSurjThen) q = by-funcs (eqb (masksAt tb t .funcs) 0)
+
+  -- The rules of the first structures, and their new variables.
+  one-more : (t : ℕ) → t < all
+      → length (ruleBytes (namedRules (groupName (ruleAt s)) 0 (rulesTo e (t + 1)))) ≤ length (ruleBytes (namedRules (groupName (ruleAt s)) 0 (rulesTo e t))) + ruleMost (length s) all
+  one-more t h = go (decLt (sourceAt tb t) unreached)
+    where
+      go : Dec (sourceAt tb t < unreached)
+          → length (ruleBytes (namedRules (groupName (ruleAt s)) 0 (rulesTo e (t + 1)))) ≤ length (ruleBytes (namedRules (groupName (ruleAt s)) 0 (rulesTo e t))) + ruleMost (length s) all
+      go (yes l) =
+          let r = emitted-few (0 + length (rulesTo e t)) t (record { inside = h; reached = l }) in
+          rw (rules-more e t l, named-append, joined-append, length-append) (omega arith)
+      go (no l) = rw (rules-pass e t (omega arith)) (omega arith)
+
+  no-rules : length (ruleBytes (namedRules (groupName (ruleAt s)) 0 (rulesTo e 0))) ≡ 0
+  unfolding rulesTo emittedTo namedRules joined
+  no-rules = refl
+
+  rules-few : (t : ℕ) → t ≤ all → length (ruleBytes (namedRules (groupName (ruleAt s)) 0 (rulesTo e t))) ≤ t * ruleMost (length s) all
+  rules-few zero h = rw no-rules (omega arith)
+  rules-few (suc t) h =
+      let q : t + 1 ≡ suc t = omega arith in
+      let m = rw q at (one-more t (omega arith)) in
+      rw (suc-mul t (ruleMost (length s) all)) (omega (arith, rules-few t (omega arith), m))
+
+  news-few : (t : ℕ) → t ≤ all → length (recordBytes (each variableField (newsTo s tb t))) ≤ t * newsMost
+  unfolding newsTo recordBytes joined each
+  news-few zero h = omega arith
+  news-few (suc t) h =
+      let r = news-few t (omega arith) in
+      rw (each-append, record-append, length-append) (omega (arith, r, go (ltb (sourceAt tb t) unreached)))
+    where
+      go : (b : Bool) → length (recordBytes (each variableField (pick b (newIn (structureIn s t) (length (newsTo s tb t)) (rowAt tb t)) []))) ≤ newsMost
+      go true = news-short (e .ground .sounds t (omega arith) .laid) _ _
+      go false = omega arith
+
+  -- The group.
+  pub group-few : length (groupBytesOf (groupLeft (ruleAt s) (e .state))) ≤ groupMost (length s) all
+  unfolding groupLeft groupMost rulesTo
+  group-few = rw (group-bytes, length-append, length-append, field-length, e .finished .variables, e .finished .rules)
+      (omega (arith, group-short (e .ground .headed), news-few all (omega arith), rules-few all (omega arith)))

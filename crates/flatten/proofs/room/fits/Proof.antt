@@ -1,0 +1,29 @@
+use Rattle.flatten.proofs.Writing.{surely, measured}
+use borrow.Author.Needs.{needs}
+use native.Mathlib.Omega.{arith}
+use Rattle.flatten.proofs.room.fits.Statement.{statement}
+use Rattle.flatten.proofs.room.fits.Tie as tie
+use Rattle.flatten.proofs.room.fits.Reads as reads
+use Rattle.flatten.proofs.room.fits.Lts as lts
+use Rattle.flatten.proofs.output.put_group.Reads as put-group-reads
+use Rattle.flatten.proofs.room.surely_fits.Reads as surely-fits-reads
+
+surely-fits-requires : tie.Need-surely-fits-requires
+surely-fits-requires c κs = search needs
+
+returns : tie.Need-returns
+returns c = λ e. surely e (c .before .before .before .pre .0 .0) (c .before .surely-fits .ensures (c .if1 .taken))
+
+slice-aggregate-put-group : tie.Need-slice-aggregate-put-group
+slice-aggregate-put-group c = search needs
+
+put-group-requires : tie.Need-put-group-requires
+put-group-requires c κs = search needs
+
+returns-2 : tie.Need-returns-2
+returns-2 c = λ e. measured (c .before .put-group .ensures .0 e) (c .before .before .before .before .before .before .pre .0 .1)
+
+pub fits-spec : {M : Type 1} → statement M
+fits-spec =
+    tie.close
+    (tie.spec surely-fits-requires returns slice-aggregate-put-group put-group-requires returns-2)

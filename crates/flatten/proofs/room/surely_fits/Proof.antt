@@ -1,0 +1,26 @@
+use Prim.Native.Nat.{ℕ}
+use mathlib.Core.Path.{_≡_}
+use borrow.Author.Tests.{not-true}
+use borrow.Author.Needs.{needs}
+use native.Mathlib.Omega.{arith}
+use Rattle.flatten.proofs.room.surely_fits.Statement.{statement}
+use Rattle.flatten.proofs.room.surely_fits.Tie as tie
+use Rattle.flatten.proofs.room.surely_fits.Reads as reads
+use Rattle.flatten.proofs.room.surely_fits.Lts as lts
+use Rattle.flatten.proofs.room.group_most.Reads as group-most-reads
+use Rattle.flatten.proofs.room.merges.Reads as merges-reads
+
+group-most-requires : tie.Need-group-most-requires
+group-most-requires c κs = let g = c .before .pre .1 .ended .ground in let f = g .few in let l = g .short in search needs
+
+returns : tie.Need-returns
+returns c = λ z. let y : _≡_ {A = ℕ} 0 1 = cc in absurd (omega arith)
+
+merges-requires : tie.Need-merges-requires
+merges-requires c κs = search needs
+
+returns-2 : tie.Need-returns-2
+returns-2 c = λ z. let l = c .before .if1 .left in (omega (arith, c .before .before .group-most .ensures), c .merges .ensures (not-true _ z))
+
+pub surely-fits-spec : {M : Type 1} → statement M
+surely-fits-spec = tie.close (tie.spec group-most-requires returns merges-requires returns-2)

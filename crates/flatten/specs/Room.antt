@@ -1,0 +1,37 @@
+-- How many bytes a group has at most, where no map merges elements.
+use mathlib.Core.List.{List, []}
+use mathlib.Core.Option.{some}
+use mathlib.Core.Path.{_≡_}
+use Prim.Native.Nat.{ℕ, _+_, _*_, _<_}
+use Rattle.definition.specs.Limits.{fieldLimit}
+use Rattle.definition.specs.Rule.{MorphismKind}
+use Rattle.definition.specs.Rows.{kernelPairs}
+use Rattle.naming.specs.Structures.{structureIn}
+use Rattle.flatten.specs.Tables.{Tables, tables, unreached, sourceAt, pairsOn, reachedBy}
+use Rattle.flatten.specs.Ended.{Ended}
+
+-- The field of a name, the W fields of a structure, what a structure says in a rule of such a length.
+abbrev pub nameMost : ℕ
+nameMost = 33
+abbrev pub newsMost : ℕ
+newsMost = 34 * fieldLimit
+abbrev pub saidMost : ℕ → ℕ
+saidMost len = 4 * len + 24 * fieldLimit
+
+-- A rule, whose premise is what its source and those before it say; a group of so many structures.
+abbrev pub ruleMost : ℕ → ℕ → ℕ
+ruleMost len n = nameMost + n * saidMost len + saidMost len
+unfoldable pub groupMost : ℕ → ℕ → ℕ
+groupMost len n = nameMost + n * newsMost + n * ruleMost len n
+
+-- Of the first structures, none was reached by a map that sends two elements to one.
+pub record Unmerged (s sources : List ℕ) (n : ℕ) : Type 0 where
+  pub none : (tb : Tables) → tb .sources ≡ sources → (t : ℕ) (k : MorphismKind) → t < n → sourceAt tb t < unreached → reachedBy s tb t ≡ some k
+      → kernelPairs (pairsOn s (sourceAt tb t) t) (structureIn s t) ≡ []
+
+-- The structures that a walk reached, whatever they say.
+pub record Reached (s index : List ℕ) (kinds : List (List ℕ)) (sources : List ℕ) : Type 0 where
+  pub types : List ℕ
+  pub masks : List (List ℕ)
+  pub vars : List (List ℕ)
+  pub ended : Ended s index types kinds (tables sources masks vars)

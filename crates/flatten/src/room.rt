@@ -1,0 +1,112 @@
+// Is there room for the group? That is settled before a byte of the lent buffer is written: by a bound where that is enough, else by
+// measuring.
+ghost use mathlib.Core.Bool.{true, false};
+ghost use mathlib.Core.Path.{_≡_};
+ghost use Prim.Native.Nat.{_≤_};
+ghost use lib.Dec.{leb};
+ghost use lib.ListN.{length};
+ghost use Rattle.definition.specs.Flatten.{groupLeft};
+ghost use Rattle.definition.specs.Limits.{answerBytes, ruleBytes, structureLimit};
+ghost use Rattle.definition.specs.Writer.{groupBytesOf};
+ghost use Rattle.rule.specs.Lookup.{ruleAt};
+ghost use Rattle.flatten.specs.Tables.{tables};
+ghost use Rattle.flatten.specs.Ended.{Ended};
+ghost use Rattle.flatten.specs.Room.{groupMost, Unmerged, Reached};
+use crate::output::put_group;
+use crate::premise::reached_by;
+use crate::tables::SORTS;
+use crate::tables::UNREACHED;
+use crate::tables::place;
+use kinds::maps::map_between;
+use kinds::table::NO_KIND;
+use naming::variables::VARIABLES;
+use rows::kernel::has_kernel_pairs;
+use rule::ids::FIELDS;
+use rule::ids::RULE_INDEX;
+use rule::ids::STRUCTURES;
+
+// A name's field has at most so many bytes: its head, and the name of a rule.
+const NAME_MOST: usize = 33;
+
+// A W field has at most so many, and a structure one for each element at most.
+const NEWS_MOST: usize = 34 * FIELDS;
+
+// Where no map merges elements, a group has at most so many bytes: the names, the variables, and in each rule what structures say. A
+// row's statement is shorter than two of its fields; an element's statements have at most 24 bytes.
+fn group_most(len: usize, n: usize) -> usize
+    requires { ⌜ (len ≤ ruleBytes) × (n ≤ structureLimit) ⌝ }
+    ensures { λ r. ⌜ r ≡ groupMost len n ⌝ }
+{
+    let said = 4 * len + 24 * FIELDS;
+    NAME_MOST + n * NEWS_MOST + n * (NAME_MOST + n * said + said)
+}
+
+// Does a map merge elements, one by which a structure was reached?
+fn merges(
+    s: &[u8],
+    index: &[u16; RULE_INDEX],
+    n: usize,
+    kinds: &[[u8; STRUCTURES]; STRUCTURES],
+    sources: &[u8; STRUCTURES],
+) -> bool
+    requires { ⌜ n ≡ length (ruleAt (now s) .structures) ⌝ }
+    requires { ⌜ Reached (now s) (now index) (now kinds) (now sources) ⌝ }
+    ensures { λ r. ⌜ (r ≡ false → Unmerged (now (s .entry)) (now (sources .entry)) n) ⌝ }
+{
+    let mut t: usize = 1;
+    while t < n {
+        if sources[t] < UNREACHED {
+            if reached_by(kinds, sources, t) < NO_KIND {
+                let m = map_between(s, index, place(sources[t]), t);
+                if has_kernel_pairs(s, index, t, m) {
+                    return true;
+                }
+            }
+        }
+        t += 1;
+    }
+    false
+}
+
+// Does every group fit that a rule of such a length can give? Small rules need not be measured.
+fn surely_fits(
+    s: &[u8],
+    index: &[u16; RULE_INDEX],
+    n: usize,
+    kinds: &[[u8; STRUCTURES]; STRUCTURES],
+    sources: &[u8; STRUCTURES],
+    room: usize,
+) -> bool
+    requires { ⌜ n ≡ length (ruleAt (now s) .structures) ⌝ }
+    requires { ⌜ Reached (now s) (now index) (now kinds) (now sources) ⌝ }
+    ensures { λ r. ⌜ (r ≡ true → (groupMost (length (now (s .entry))) n ≤ room) × Unmerged (now (s .entry)) (now (sources .entry)) n) ⌝ }
+{
+    if room < group_most(s.len(), n) {
+        return false;
+    }
+    !merges(s, index, n, kinds, sources)
+}
+
+// Does the group fit? It is measured where it must be, in a buffer without a byte.
+pub fn fits(
+    s: &[u8],
+    index: &[u16; RULE_INDEX],
+    n: usize,
+    kinds: &[[u8; STRUCTURES]; STRUCTURES],
+    sources: &[u8; STRUCTURES],
+    masks: &[[u64; SORTS]; STRUCTURES],
+    vars: &[[u16; FIELDS]; STRUCTURES],
+    types: &[u8; VARIABLES],
+    room: usize,
+) -> bool
+    requires { ⌜ (n ≡ length (ruleAt (now s) .structures)) × (room ≤ answerBytes) ⌝ }
+    requires { ⌜ Ended (now s) (now index) (now types) (now kinds) (tables (now sources) (now masks) (now vars)) ⌝ }
+    ensures { λ r. ⌜ ((e : Ended (now (s .entry)) (now (index .entry)) (now (types .entry)) (now (kinds .entry)) (tables (now (sources .entry)) (now (masks .entry)) (now (vars .entry))))
+        → r ≡ leb (length (groupBytesOf (groupLeft (ruleAt (now (s .entry))) (e .state)))) room) ⌝ }
+{
+    if surely_fits(s, index, n, kinds, sources, room) {
+        return true;
+    }
+    let mut nothing = [0u8; 0];
+    put_group(&mut nothing, s, index, n, kinds, sources, masks, vars, types) <= room
+}
