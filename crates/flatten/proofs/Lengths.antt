@@ -40,17 +40,17 @@ use Rattle.flatten.proofs.Rules.{ruleBytes, rulesTo, rules-pass, rules-
 
 -- No sum passes the largest number.
 module _ {len n : ℕ} (l : len ≤ limits.ruleBytes) (m : n ≤ structureLimit) where
-  pub said-small : n * saidMost len ≤ 4243456
-  said-small = mul-le-mul m (said-few l)
+  pub said-small : n * saidMost len ≤ structureLimit * saidMost limits.ruleBytes
+  said-small = mul-le-mul m said-few
     where
-      said-few : len ≤ limits.ruleBytes → saidMost len ≤ 132608
-      said-few l = omega arith
+      said-few : saidMost len ≤ saidMost limits.ruleBytes
+      said-few = omega arith
 
-  pub rules-small : n * ruleMost len n ≤ 140035104
-  rules-small = mul-le-mul m (rule-few said-small)
+  pub rules-small : n * ruleMost len n ≤ structureLimit * ruleMost limits.ruleBytes structureLimit
+  rules-small = mul-le-mul m rule-few
     where
-      rule-few : n * saidMost len ≤ 4243456 → ruleMost len n ≤ 4376097
-      rule-few b = omega arith
+      rule-few : ruleMost len n ≤ ruleMost limits.ruleBytes structureLimit
+      rule-few = omega (arith, said-small)
 
 field-length : (letter : ℕ) (name : List ℕ) → length (fieldBytes (record { letter = letter; content = name })) ≡ 3 + length name
 unfolding fieldBytes

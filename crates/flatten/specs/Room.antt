@@ -3,20 +3,21 @@ use mathlib.Core.List.{List, []}
 use mathlib.Core.Option.{some}
 use mathlib.Core.Path.{_≡_}
 use Prim.Native.Nat.{ℕ, _+_, _*_, _<_}
-use Rattle.definition.specs.Limits.{fieldLimit}
+use Rattle.definition.specs.Limits.{parentLimit, fieldLimit, nameBytes, numberDigits}
 use Rattle.definition.specs.Rule.{MorphismKind}
 use Rattle.definition.specs.Rows.{kernelPairs}
 use Rattle.naming.specs.Structures.{structureIn}
 use Rattle.flatten.specs.Tables.{Tables, tables, unreached, sourceAt, pairsOn, reachedBy}
 use Rattle.flatten.specs.Ended.{Ended}
 
--- The field of a name, the W fields of a structure, what a structure says in a rule of such a length.
+-- The field of a rule's name; the W fields of a structure, one for each element at most; what a structure says in a rule of such a
+-- length: of its R and of its A rows, whose statements are no longer than two fields, and of each element, a member row and a TypeSet.
 abbrev pub nameMost : ℕ
-nameMost = 33
+nameMost = 3 + nameBytes + 1 + numberDigits
 abbrev pub newsMost : ℕ
-newsMost = 34 * fieldLimit
+newsMost = (5 + nameBytes + numberDigits) * fieldLimit
 abbrev pub saidMost : ℕ → ℕ
-saidMost len = 4 * len + 24 * fieldLimit
+saidMost len = 4 * len + (16 + 2 * parentLimit) * fieldLimit
 
 -- A rule, whose premise is what its source and those before it say; a group of so many structures.
 abbrev pub ruleMost : ℕ → ℕ → ℕ

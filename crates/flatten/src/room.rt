@@ -22,22 +22,30 @@ use kinds::table::NO_KIND;
 use naming::variables::VARIABLES;
 use rows::kernel::has_kernel_pairs;
 use rule::ids::FIELDS;
+use rule::ids::NAME_BYTES;
 use rule::ids::RULE_INDEX;
 use rule::ids::STRUCTURES;
+use signature::ids::PARENTS;
 
-// A name's field has at most so many bytes: its head, and the name of a rule.
-const NAME_MOST: usize = 33;
+// A number in decimal has at most so many bytes.
+const DIGITS: usize = 5;
 
-// A W field has at most so many, and a structure one for each element at most.
-const NEWS_MOST: usize = 34 * FIELDS;
+// The field of a rule's name has at most so many: its head, the group's name, `_`, a count.
+const NAME_MOST: usize = 3 + NAME_BYTES + 1 + DIGITS;
 
-// Where no map merges elements, a group has at most so many bytes: the names, the variables, and in each rule what structures say. A
-// row's statement is shorter than two of its fields; an element's statements have at most 24 bytes.
+// The W fields of a structure: at most one for each element, with its head, a type, a base and a number.
+const NEWS_MOST: usize = (5 + NAME_BYTES + DIGITS) * FIELDS;
+
+// What a structure says of its elements: of each at most a TypeSet and a member row with its parents.
+const ELEMENTS_MOST: usize = (16 + 2 * PARENTS) * FIELDS;
+
+// Where no map merges elements, a group has at most so many bytes: the names, the variables, and in each rule what structures say. The
+// statement of a row is no longer than two of its fields, and R and A rows together may be all of the record.
 fn group_most(len: usize, n: usize) -> usize
     requires { ⌜ (len ≤ ruleBytes) × (n ≤ structureLimit) ⌝ }
     ensures { λ r. ⌜ r ≡ groupMost len n ⌝ }
 {
-    let said = 4 * len + 24 * FIELDS;
+    let said = 4 * len + ELEMENTS_MOST;
     NAME_MOST + n * NEWS_MOST + n * (NAME_MOST + n * said + said)
 }
 

@@ -51,13 +51,13 @@ base-short st v i e = go (firstOf (nameFor e) (st .variableNames)) refl (firstOf
     go none p none q = omega arith
 
 -- The W field of a new variable: 3 bytes of head, 2 of the type, the base, the number.
-field-short : (st : Structure) → ((e : ℕ) → length (baseName st e) ≤ nameBytes) → (number : ℕ) (e : Element) → length (fieldBytes (variableField (newVariable st number e))) ≤ 34
+field-short : (st : Structure) → ((e : ℕ) → length (baseName st e) ≤ nameBytes) → (number : ℕ) (e : Element) → length (fieldBytes (variableField (newVariable st number e))) ≤ 5 + nameBytes + numberDigits
 unfolding fieldBytes variableField newVariable
 field-short st short number e = omega (arith, length-append (baseName st (e .number)) (decimal number), short (e .number), digits-few numberDigits number)
 
 -- There are no more new variables than elements.
 fields-short : (st : Structure) → ((e : ℕ) → length (baseName st e) ≤ nameBytes) → (next : ℕ) (es : List Element) (cs : List (Option ℕ))
-    → length (recordBytes (each variableField (newVariables st next es cs))) ≤ 34 * length es
+    → length (recordBytes (each variableField (newVariables st next es cs))) ≤ (5 + nameBytes + numberDigits) * length es
 unfolding recordBytes joined each newVariables
 fields-short st short next [] cs = omega arith
 fields-short st short next (e ∷ es) [] = omega arith
@@ -65,7 +65,7 @@ fields-short st short next (e ∷ es) (some v ∷ cs) = let r = fields-short st 
 fields-short st short next (e ∷ es) (none ∷ cs) = let r = fields-short st short (next + 1) es cs in rw length-append (omega (arith, field-short st short next e))
 
 -- The W fields of a structure's new variables.
-pub news-short : {s index : List ℕ} {k : ℕ} → Laid s index k → (first : ℕ) (row : List ℕ) → length (recordBytes (each variableField (newIn (structureIn s k) first row))) ≤ 34 * fieldLimit
+pub news-short : {s index : List ℕ} {k : ℕ} → Laid s index k → (first : ℕ) (row : List ℕ) → length (recordBytes (each variableField (newIn (structureIn s k) first row))) ≤ (5 + nameBytes + numberDigits) * fieldLimit
 unfolding newIn
 news-short {s} {index} {k} l first row =
     let st = structureIn s k in
@@ -74,5 +74,5 @@ news-short {s} {index} {k} l first row =
     omega (arith, element-few l)
 
 -- The name of a rule of the group.
-pub rule-name-short : {s : List ℕ} → Headed s → (count : ℕ) → length (groupName (ruleAt s) ++ (underscore ∷ decimal count)) ≤ 30
+pub rule-name-short : {s : List ℕ} → Headed s → (count : ℕ) → length (groupName (ruleAt s) ++ (underscore ∷ decimal count)) ≤ nameBytes + 1 + numberDigits
 rule-name-short h count = rw length-append (omega (arith, group-short h, digits-few numberDigits count))

@@ -2,6 +2,7 @@
 pub mod MapLaws
 pub mod KernelLaws
 pub mod KernelFree
+pub mod Ascending
 pub mod Parts
 pub mod Sections
 pub mod TableLaws

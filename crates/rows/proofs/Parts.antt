@@ -4,7 +4,8 @@ use native.Mathlib.Omega.{arith}
 use native.Mathlib.Nat.{zero-add}
 use native.Mathlib.Numerals.{add-one}
 use mathlib.Core.Bool.{Bool, true, false, _&&_, _||_}
-use mathlib.Core.List.{List, [], _∷_, _++_, append-nil, List·Memᴰ·head, List·Memᴰ·tail}
+use mathlib.Core.List.{List, [], _∷_, _++_, append-nil, List·Memᴰ·head, List·Memᴰ·tail, List·Memᴰ·not-nil, List·Memᴰ·cases-cons}
+use mathlib.Core.Logic.{⊎-elim}
 use mathlib.Core.Path.{_≡_, refl, sym, _∙_, ap}
 use lib.Dec.{eqb}
 use lib.ListN.{length, getD, set, take, drop, length-drop, drop-of-length-le, take-append-drop}
@@ -29,6 +30,21 @@ pub get-mem : {A : Type 0} (xs : List A) (i : ℕ) (d : A) → i < length xs →
 get-mem [] i d h = absurd (omega arith)
 get-mem (x ∷ xs) zero d h = List·Memᴰ·head refl
 get-mem (x ∷ xs) (suc i) d h = List·Memᴰ·tail (get-mem xs i d (omega arith))
+
+-- A member stands at some place.
+pub mem-place : {A : Type 0} (xs : List A) (d : A) {x : A} → x ∈ xs → (i : ℕ) × (i < length xs) × (getD xs i d ≡ x)
+mem-place [] d m = absurd (List·Memᴰ·not-nil m)
+mem-place (y ∷ xs) d m = ⊎-elim (λ q. (0, omega arith, sym q)) (λ t. let r = mem-place xs d t in (suc (r .0), omega (arith, r .1), r .2)) (List·Memᴰ·cases-cons m)
+
+-- Of a list no more is kept than it has.
+pub cons-few : {A : Type 0} (b : Bool) (x : A) (ys xs : List A) → length ys ≤ length xs → length (consIf b x ys) ≤ length (x ∷ xs)
+cons-few true x ys xs h = omega arith
+cons-few false x ys xs h = omega arith
+
+pub keep-few : {A : Type 0} (p : A → Bool) (xs : List A) → length (keep p xs) ≤ length xs
+unfolding keep
+keep-few p [] = omega arith
+keep-few p (x ∷ xs) = cons-few (p x) x (keep p xs) xs (keep-few p xs)
 
 -- A list taken apart at a place.
 pub record Apart {A : Type 0} (xs : List A) (i : ℕ) (x : A) (rest : List A) : Type 0 where

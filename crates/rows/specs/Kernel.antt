@@ -1,9 +1,9 @@
 -- Keys of one image, their variables and the variables' types.
 use Prim.Native.Nat.{ℕ, _<_}
-use mathlib.Core.Bool.{Bool, not, _&&_}
-use mathlib.Core.List.{List}
+use mathlib.Core.Bool.{Bool, true, not, _&&_}
+use mathlib.Core.List.{List, [], _∷_}
 use mathlib.Core.Path.{_≡_}
-use lib.Dec.{eqb}
+use lib.Dec.{eqb, ltb}
 use lib.ListN.{length, getD, take}
 use Rattle.definition.specs.Base.{each, _∈_}
 use Rattle.definition.specs.Group.{Variable}
@@ -45,3 +45,13 @@ pub record ImagesIn (target : Structure) (pairs : List Pair) : Type 0 where
 -- Two keys of one image that differ in type.
 abbrev pub clash : (Pair → ℕ) → Pair → Pair → Bool
 clash type a b = eqb (a .image) (b .image) && not (eqb (type a) (type b))
+
+-- Whether each image stands above the one before it, and the first above a number.
+unfoldable pub imagesAbove : ℕ → List Pair → Bool
+imagesAbove e [] = true
+imagesAbove e (p ∷ ps) = ltb e (p .image) && imagesAbove (p .image) ps
+
+-- Whether each image stands above the one before it.
+unfoldable pub imagesAscend : List Pair → Bool
+imagesAscend [] = true
+imagesAscend (p ∷ ps) = imagesAbove (p .image) ps

@@ -14,7 +14,7 @@ ghost use Rattle.definition.specs.Rule.{Structure, Pair};
 ghost use Rattle.definition.specs.Signature.{Signature};
 ghost use Rattle.rule.specs.Elements.{elementNumbers, Elements};
 ghost use Rattle.rows.specs.Maps.{pairAt, pairsIn, MapIn};
-ghost use Rattle.rows.specs.Kernel.{clash, KeyVars, KeyTypes, TypesOf, KeysIn, ImagesIn, SideAt, Typed};
+ghost use Rattle.rows.specs.Kernel.{clash, imagesAscend, KeyVars, KeyTypes, TypesOf, KeysIn, ImagesIn, SideAt, Typed};
 use crate::maps::Map;
 use crate::maps::pair_image;
 use crate::maps::pair_key;
@@ -51,7 +51,28 @@ pub fn key_vars(s: &[u8], index: &[u16; RULE_INDEX], k: usize, row: &[u16; FIELD
     vars
 }
 
-// Has a map kernel pairs: two keys of one image? Each image's place is marked once, so this is one pass over the pairs.
+// Does each image stand above the one before it? Then no two keys have one image.
+fn images_ascend(s: &[u8], m: Map) -> bool
+    requires { ⌜ MapIn (now s) m ⌝ }
+    ensures { λ r. ⌜ r ≡ imagesAscend (pairsIn (now (s .entry)) m) ⌝ }
+{
+    if m.pairs == 0 {
+        return true;
+    }
+    let mut last = pair_image(s, m, 0);
+    let mut p: usize = 1;
+    while p < m.pairs {
+        let e = pair_image(s, m, p);
+        if e.0 <= last.0 {
+            return false;
+        }
+        last = e;
+        p += 1;
+    }
+    true
+}
+
+// Has a map kernel pairs: two keys of one image? In most maps images ascend; else each image's place is marked once, so this is one pass over the pairs.
 pub fn has_kernel_pairs(s: &[u8], index: &[u16; RULE_INDEX], tgt: usize, m: Map) -> bool
     requires { ⌜ MapIn (now s) m ⌝ }
     requires { ⌜ tgt < structureLimit ⌝ }
@@ -59,6 +80,9 @@ pub fn has_kernel_pairs(s: &[u8], index: &[u16; RULE_INDEX], tgt: usize, m: Map)
     ensures { λ r. ⌜ ((target : Structure) → numbersOf target ≡ elementNumbers (now (s .entry)) (now (index .entry)) tgt → ImagesIn target (pairsIn (now (s .entry)) m)
         → r ≡ not (empty (kernelPairs (pairsIn (now (s .entry)) m) target))) ⌝ }
 {
+    if images_ascend(s, m) {
+        return false;
+    }
     let mut seen = [false; FIELDS];
     let mut p: usize = 0;
     while p < m.pairs {

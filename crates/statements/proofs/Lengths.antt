@@ -3,8 +3,7 @@ use Prim.Native.Nat.{ℕ, suc, _+_, _-_, _*_, _≤_, _<_}
 use native.Mathlib.Omega.{arith}
 use native.Mathlib.Nat.{mul-suc}
 use mathlib.Core.Bool.{Bool, true, false}
-use mathlib.Core.List.{List, [], _∷_, List·Memᴰ·head, List·Memᴰ·tail, List·Memᴰ·not-nil, List·Memᴰ·cases-cons}
-use mathlib.Core.Logic.{⊎-elim}
+use mathlib.Core.List.{List, [], _∷_, List·Memᴰ·head, List·Memᴰ·tail}
 use mathlib.Core.Path.{_≡_, refl, sym, _∙_, ap}
 use lib.ListN.{length, getD, drop, length-append, length-drop}
 use Rattle.definition.specs.Base.{pick, consIf, keep, each, butLast, empty, _∈_}
@@ -27,6 +26,7 @@ use Rattle.records.proofs.Runs.{run-within}
 use Rattle.rows.specs.Elements.{elementIn}
 use Rattle.rows.specs.Members.{hasParents}
 use Rattle.rows.proofs.ElementLaws.{noElement}
+use Rattle.rows.proofs.Parts.{mem-place, cons-few, keep-few}
 use Rattle.rule.specs.Elements.{countAt}
 use Rattle.naming.specs.Structures.{structureIn, Laid}
 use Rattle.naming.proofs.Placed.{elements-are, element-few, element-get}
@@ -86,17 +86,8 @@ each-short letter most say (x ∷ xs) h =
     let d : (6 + 2 * most) * length (x ∷ xs) ≡ (6 + 2 * most) * length xs + (6 + 2 * most) = mul-suc (6 + 2 * most) (length xs) in
     rw (statements-cons, length-append) (omega arith)
 
--- Those of a list that are kept, and those that are flagged, are no more than the list.
-cons-few : {A : Type 0} (b : Bool) (x : A) (ys xs : List A) → length ys ≤ length xs → length (consIf b x ys) ≤ length (x ∷ xs)
-cons-few true x ys xs h = omega arith
-cons-few false x ys xs h = omega arith
-
-pub keep-few : {A : Type 0} (p : A → Bool) (xs : List A) → length (keep p xs) ≤ length xs
-unfolding keep
-keep-few p [] = omega arith
-keep-few p (x ∷ xs) = cons-few (p x) x (keep p xs) xs (keep-few p xs)
-
-pub flagged-few : {A : Type 0} (mask i : ℕ) (xs : List A) → length (flaggedFrom mask i xs) ≤ length xs
+-- Those of a list that are flagged are no more than the list.
+flagged-few : {A : Type 0} (mask i : ℕ) (xs : List A) → length (flaggedFrom mask i xs) ≤ length xs
 unfolding flaggedFrom
 flagged-few mask i [] = omega arith
 flagged-few mask i (x ∷ xs) = cons-few (flagAt mask i) x (flaggedFrom mask (i + 1) xs) xs (flagged-few mask (i + 1) xs)
@@ -124,11 +115,6 @@ members-few st =
     let b = length-each memberRow (keep hasParents (st .elements)) in
     let c = keep-few hasParents (st .elements) in
     omega arith
-
--- A member's place.
-pub mem-place : {A : Type 0} (xs : List A) (d : A) {x : A} → x ∈ xs → (i : ℕ) × (i < length xs) × (getD xs i d ≡ x)
-mem-place [] d m = absurd (List·Memᴰ·not-nil m)
-mem-place (y ∷ xs) d m = ⊎-elim (λ q. (0, omega arith, sym q)) (λ t. let r = mem-place xs d t in (suc (r .0), omega (arith, r .1), r .2)) (List·Memᴰ·cases-cons m)
 
 -- The statements of a structure.
 module _ {s index : List ℕ} {k : ℕ} (w : Stands s index k) (letter : ℕ) where
@@ -161,8 +147,8 @@ module _ {s index : List ℕ} {k : ℕ} (w : Stands s index k) (letter : ℕ) wh
     unfolding rowStatement
     row-narrow r = let n = length-each variable (r .elements) in omega arith
 
-    -- The member rows that are kept: five variables, 16 bytes each.
-    members-short : (p : Row → Bool) → length (statementBytes letter (each (rowStatement variable) (keep p (members st)))) ≤ 16 * fieldLimit
+    -- The member rows that are kept: the parents and the element, six bytes before them.
+    members-short : (p : Row → Bool) → length (statementBytes letter (each (rowStatement variable) (keep p (members st)))) ≤ (8 + 2 * parentLimit) * fieldLimit
     members-short p =
         let a = each-short letter (parentLimit + 1) (rowStatement variable) (keep p (members st)) (λ r m. omega (arith, row-narrow r, member-narrow r (mem-keep p (members st) m .0))) in
         let b = keep-few p (members st) in
@@ -181,7 +167,7 @@ module _ {s index : List ℕ} {k : ℕ} (w : Stands s index k) (letter : ℕ) wh
         omega arith
 
   -- What a structure says by flags has at most so many bytes.
-  pub said-short : (variables : List ℕ) (masks : Masks) → length (statementBytes letter (saidBy st variables masks)) ≤ 4 * length s + 24 * fieldLimit
+  pub said-short : (variables : List ℕ) (masks : Masks) → length (statementBytes letter (saidBy st variables masks)) ≤ 4 * length s + (16 + 2 * parentLimit) * fieldLimit
   said-short variables masks =
       let p = rows-short s letter predicate (masks .preds) (rowStatement (variableAt st variables)) (row-narrow (variableAt st variables)) (w .at .preds-run) (w .at .preds-are) in
       let f = rows-short s letter function (masks .funcs) (rowStatement (variableAt st variables)) (row-narrow (variableAt st variables)) (w .at .funcs-run) (w .at .funcs-are) in
@@ -190,7 +176,7 @@ module _ {s index : List ℕ} {k : ℕ} (w : Stands s index k) (letter : ℕ) wh
       rw (said-parts, each-append, each-append, statements-append, statements-append, length-append, length-append, length-append) (omega arith)
 
   -- So have the domains of its flagged A rows.
-  pub domains-short : (variables : List ℕ) (mask : ℕ) → length (statementBytes letter (domainsBy st variables mask)) ≤ 4 * length s + 24 * fieldLimit
+  pub domains-short : (variables : List ℕ) (mask : ℕ) → length (statementBytes letter (domainsBy st variables mask)) ≤ 4 * length s + (16 + 2 * parentLimit) * fieldLimit
   unfolding domainsBy
   domains-short variables mask = let x = rows-short s letter function mask domain narrow (w .at .funcs-run) (w .at .funcs-are) in omega arith
     where

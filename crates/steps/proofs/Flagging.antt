@@ -1,9 +1,7 @@
 -- Member rows by the flags of their elements.
-use Prim.Native.Nat.{ℕ, suc, _<_}
-use native.Mathlib.Omega.{arith}
+use Prim.Native.Nat.{ℕ, _<_}
 use mathlib.Core.Bool.{Bool, true, false, not, _&&_}
-use mathlib.Core.List.{List, [], _∷_, List·Memᴰ·not-nil, List·Memᴰ·cases-cons}
-use mathlib.Core.Logic.{⊎-elim}
+use mathlib.Core.List.{List}
 use mathlib.Core.Path.{_≡_, sym, _∙_, ap}
 use lib.ListN.{length, getD, take}
 use Rattle.definition.specs.Base.{keep, each, placeFrom, empty, _∈_}
@@ -19,18 +17,13 @@ use Rattle.rows.specs.Members.{hasParents, newMember}
 use Rattle.rows.specs.Table.{isNew}
 use Rattle.rows.proofs.ElementLaws.{noElement, element-is}
 use Rattle.rows.proofs.Kept.{constrained-at, member-last}
-use Rattle.rows.proofs.Parts.{and-one}
+use Rattle.rows.proofs.Parts.{and-one, mem-place}
 use Rattle.rows.proofs.Whole.{keep-same, keep-keep}
 use Rattle.flags.specs.Flags.{flagAt}
 use Rattle.naming.specs.Structures.{structureIn, Laid}
 use Rattle.naming.proofs.Placed.{numbers-are, elements-are, element-get}
 use Rattle.statements.specs.Said.{memberFlag}
 use Rattle.steps.specs.Added.{Unmarked}
-
--- A member's place.
-mem-place : {A : Type 0} (xs : List A) (d : A) {x : A} → x ∈ xs → (i : ℕ) × (i < length xs) × (getD xs i d ≡ x)
-mem-place [] d m = absurd (List·Memᴰ·not-nil m)
-mem-place (y ∷ xs) d m = ⊎-elim (λ q. (0, omega arith, sym q)) (λ t. let r = mem-place xs d t in (suc (r .0), omega (arith, r .1), r .2)) (List·Memᴰ·cases-cons m)
 
 module _ {s index : List ℕ} {k : ℕ} (w : Laid s index k) where
   -- An element's number is found at its place.

@@ -5,7 +5,7 @@ use mathlib.Core.Bool.{Bool, true, false, not, _&&_}
 use mathlib.Core.List.{List, [], _∷_}
 use mathlib.Core.Path.{_≡_, refl, sym, _∙_, ap}
 use lib.ListN.{length, getD, take}
-use Rattle.definition.specs.Base.{consIf, keep, each, any}
+use Rattle.definition.specs.Base.{keep, each, any}
 use Rattle.definition.specs.Letters.{predicate, function, member}
 use Rattle.definition.specs.Limits.{structureLimit, fieldLimit}
 use Rattle.definition.specs.Records.{Field}
@@ -26,6 +26,7 @@ use Rattle.rows.specs.declared.table.Images.the-variants as images
 use Rattle.rows.proofs.ElementLaws.{noElement, elements-many, elements-get}
 use Rattle.rows.proofs.Kept.{flag-at}
 use Rattle.rows.proofs.MemberLaws.{no-member-rows, no-new-member}
+use Rattle.rows.proofs.Parts.{keep-few}
 use Rattle.flags.specs.Flags.{Packed, PackedLess}
 use Rattle.naming.specs.Structures.{structureIn}
 use Rattle.statements.specs.Structures.{SoundAt}
@@ -34,15 +35,6 @@ use Rattle.steps.specs.declared.added.Flagged.{Flagged}
 use Rattle.steps.specs.declared.added.Flagged.the-variants as flagged-as
 use Rattle.steps.specs.declared.step.Step.the-variants.{Adds, Refused}
 use Rattle.steps.proofs.Masks.{packed-keep, no-flag, none-flagged}
-
-keep-few : {A : Type 0} (p : A → Bool) (xs : List A) → length (keep p xs) ≤ length xs
-unfolding keep
-keep-few p [] = omega arith
-keep-few p (x ∷ xs) = go (p x) (keep-few p xs)
-  where
-    go : (b : Bool) → length (keep p xs) ≤ length xs → length (consIf b x (keep p xs)) ≤ length (x ∷ xs)
-    go true h = omega arith
-    go false h = omega arith
 
 -- Images, or that there are none.
 lacking : {pairs : List Pair} {rows : List Row} {symbols els : List ℕ} {r : Images} → Imaged r pairs rows symbols els → r ≡ images.Unmapped → any (rowLacks pairs) rows ≡ true

@@ -10,9 +10,6 @@ use Rattle.flatten.proofs.room.group_most.Lts as lts
 mul-said : tie.Need-mul-said
 mul-said c = search needs
 
-mul-said-2 : tie.Need-mul-said-2
-mul-said-2 c = search needs
-
 add-said : tie.Need-add-said
 add-said c = search needs
 
@@ -46,7 +43,6 @@ group-most-spec =
     tie.close
     (tie.spec
     mul-said
-    mul-said-2
     add-said
     mul-result
     add-result
