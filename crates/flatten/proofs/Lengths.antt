@@ -133,6 +133,7 @@ module _ {s index types : List ℕ} {kinds : List (List ℕ)} {tb : Tables} (e :
       by-funcs : (b : Bool) → length (ruleBytes (namedRules (groupName (ruleAt s)) count (each (emitted (before (e .state .slots) tb t)) (pick b [] (domainsAt s tb t ∷ []))))) ≤ ruleMost (length s) all
       by-funcs true = omega arith
       by-funcs false = one-rule count (before (e .state .slots) tb t) (domainsAt s tb t) (before-few t x) (domains-few x)
+
       go : (o : Option MorphismKind) → reachedBy s tb t ≡ o
           → length (ruleBytes (namedRules (groupName (ruleAt s)) count (each (emitted (before (e .state .slots) tb t)) (concludedBy o (masksAt tb t .funcs) (eqs x) (saidAt s tb t) (domainsAt s tb t))))) ≤ ruleMost (length s) all
       go none q = omega arith

@@ -14,14 +14,17 @@ use Rattle.flatten.specs.Ended.{Ended}
 -- length: of its R and of its A rows, whose statements are no longer than two fields, and of each element, a member row and a TypeSet.
 abbrev pub nameMost : ℕ
 nameMost = 3 + nameBytes + 1 + numberDigits
+
 abbrev pub newsMost : ℕ
 newsMost = (5 + nameBytes + numberDigits) * fieldLimit
+
 abbrev pub saidMost : ℕ → ℕ
 saidMost len = 4 * len + (16 + 2 * parentLimit) * fieldLimit
 
 -- A rule, whose premise is what its source and those before it say; a group of so many structures.
 abbrev pub ruleMost : ℕ → ℕ → ℕ
 ruleMost len n = nameMost + n * saidMost len + saidMost len
+
 unfoldable pub groupMost : ℕ → ℕ → ℕ
 groupMost len n = nameMost + n * newsMost + n * ruleMost len n
 
