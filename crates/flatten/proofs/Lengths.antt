@@ -16,7 +16,7 @@ use Rattle.definition.specs.Group.{Variable, Statement, FlatRule}
 use Rattle.definition.specs.Kinds.{Emitted, equalities, kernelVariables}
 use Rattle.definition.specs.Letters.{letterG, letterU, letterB, letterH, underscore}
 use Rattle.definition.specs.Limits as limits
-use Rattle.definition.specs.Limits.{structureLimit}
+use Rattle.definition.specs.Limits.{structureLimit, fieldLimit}
 use Rattle.definition.specs.Names.{decimal}
 use Rattle.definition.specs.Rows.{kernelPairs}
 use Rattle.definition.specs.Rule.{MorphismKind, If, SurjThen, NonSurjThen, Noop}
@@ -25,32 +25,53 @@ use Rattle.definition.specs.Writer.{fieldBytes, recordBytes, variableField, fla
 use Rattle.theory.proofs.Lists.{each-append, joined-append}
 use Rattle.theory.proofs.StepForm.{emitted}
 use Rattle.theory.proofs.ByteForm.{statementBytes, statements-append, record-append, rule-bytes, group-bytes, named-append}
+use Rattle.rule.specs.Elements.{countAt}
 use Rattle.rule.specs.Lookup.{ruleAt}
 use Rattle.naming.specs.Structures.{structureIn}
-use Rattle.naming.specs.Variables.{newIn}
+use Rattle.naming.specs.Variables.{variablesIn, newIn}
 use Rattle.naming.proofs.Lengths.{news-short, rule-name-short}
 use Rattle.naming.proofs.Printing.{group-short}
 use Rattle.statements.proofs.Elements.{statements-none}
 use Rattle.statements.proofs.Lengths.{said-short, domains-short}
 use Rattle.flatten.specs.Tables.{Tables, unreached, sourceAt, rowAt, pairsOn, ownBy, concludedBy, reachedBy, equalitiesAt, saidAt, domainsAt, masksAt, ownAt, concludedAt, statementsAt, before, newsTo, emittedTo}
 use Rattle.flatten.specs.Ended.{Ended, Reaching}
-use Rattle.flatten.specs.Room.{nameMost, newsMost, saidMost, ruleMost, groupMost, Unmerged}
+use Rattle.flatten.specs.Room.{nameMost, newsMost, saidMost, ruleMost, groupMost, Most, Unmerged}
 use Rattle.flatten.proofs.Premises.{source-is, source-reaching, source-below, stands-at, statements-are}
 use Rattle.flatten.proofs.Rules.{ruleBytes, rulesTo, rules-pass, rules-more}
 
 -- No sum passes the largest number.
-module _ {len n : ℕ} (l : len ≤ limits.ruleBytes) (m : n ≤ structureLimit) where
-  pub said-small : n * saidMost len ≤ structureLimit * saidMost limits.ruleBytes
+module _ {len els n : ℕ} (l : len ≤ limits.ruleBytes) (f : els ≤ fieldLimit) (m : n ≤ structureLimit) where
+  pub news-small : n * newsMost els ≤ structureLimit * newsMost fieldLimit
+  news-small = mul-le-mul m news-few
+    where
+      news-few : newsMost els ≤ newsMost fieldLimit
+      news-few = omega arith
+
+  pub said-small : n * saidMost len els ≤ structureLimit * saidMost limits.ruleBytes fieldLimit
   said-small = mul-le-mul m said-few
     where
-      said-few : saidMost len ≤ saidMost limits.ruleBytes
+      said-few : saidMost len els ≤ saidMost limits.ruleBytes fieldLimit
       said-few = omega arith
 
-  pub rules-small : n * ruleMost len n ≤ structureLimit * ruleMost limits.ruleBytes structureLimit
+  pub rules-small : n * ruleMost len els n ≤ structureLimit * ruleMost limits.ruleBytes fieldLimit structureLimit
   rules-small = mul-le-mul m rule-few
     where
-      rule-few : ruleMost len n ≤ ruleMost limits.ruleBytes structureLimit
+      rule-few : ruleMost len els n ≤ ruleMost limits.ruleBytes fieldLimit structureLimit
       rule-few = omega (arith, said-small)
+
+-- The most elements of the first structures, and of one more.
+pub most-none : (index : List ℕ) → Most index 0 0
+most-none index = record { few = omega arith; each-one = λ k h. absurd (omega arith) }
+
+pub most-more : {index : List ℕ} {k most more : ℕ} → Most index k most → countAt index k ≤ more → most ≤ more → more ≤ fieldLimit → Most index (k + 1) more
+most-more {index} {k} {most} {more} w c m f = record { few = f; each-one = λ i h. go i h (decLt i k) }
+  where
+    go : (i : ℕ) → i < k + 1 → Dec (i < k) → countAt index i ≤ more
+    go i h (yes l) = omega (arith, w .each-one i l)
+    go i h (no l) = let q : i ≡ k = omega arith in rw q c
+
+pub most-fewer : {index : List ℕ} {n k most : ℕ} → Most index k most → n ≤ k → Most index n most
+most-fewer w h = record { few = w .few; each-one = λ i l. w .each-one i (omega arith) }
 
 field-length : (letter : ℕ) (name : List ℕ) → length (fieldBytes (record { letter = letter; content = name })) ≡ 3 + length name
 unfolding fieldBytes
@@ -58,12 +79,12 @@ field-length letter name = omega arith
 
 -- At the end of a walk in which no map merged elements.
 module _ {s index types : List ℕ} {kinds : List (List ℕ)} {tb : Tables} (e : Ended s index types kinds tb)
-    (w : Unmerged s (tb .sources) (length (ruleAt s .structures))) where
+    (w : Unmerged s (tb .sources) (length (ruleAt s .structures))) {els : ℕ} (f : Most index (length (ruleAt s .structures)) els) where
   abbrev all : ℕ
   all = length (ruleAt s .structures)
 
   abbrev most : ℕ
-  most = saidMost (length s)
+  most = saidMost (length s) els
 
   -- What a structure says that was reached.
   module _ {t : ℕ} (x : Reaching s tb t) where
@@ -72,11 +93,11 @@ module _ {s index types : List ℕ} {kinds : List (List ℕ)} {tb : Tables} (e :
 
     said-few : (letter : ℕ) → length (statementBytes letter (saidAt s tb t)) ≤ most
     unfolding saidAt
-    said-few letter = said-short (stands-at e x) letter _ _
+    said-few letter = let c = f .each-one t (x .inside) in omega (arith, said-short (stands-at e x) letter (variablesIn (structureIn s t) (rowAt tb t)) (masksAt tb t))
 
     domains-few : length (statementBytes letterH (domainsAt s tb t)) ≤ most
     unfolding domainsAt
-    domains-few = domains-short (stands-at e x) letterH _ _
+    domains-few = let c = f .each-one t (x .inside) in omega (arith, domains-short (stands-at e x) letterH (variablesIn (structureIn s t) (rowAt tb t)) (masksAt tb t .funcs))
 
     eqs-none : {k : MorphismKind} → reachedBy s tb t ≡ some k → eqs ≡ []
     unfolding equalitiesAt equalities kernelVariables each
@@ -120,22 +141,22 @@ module _ {s index types : List ℕ} {kinds : List (List ℕ)} {tb : Tables} (e :
 
   -- A rule.
   one-rule : (count : ℕ) (premise conclusion : List Statement) → length (statementBytes letterB premise) ≤ all * most → length (statementBytes letterH conclusion) ≤ most
-      → length (ruleBytes (namedRules (groupName (ruleAt s)) count (emitted premise conclusion ∷ []))) ≤ ruleMost (length s) all
+      → length (ruleBytes (namedRules (groupName (ruleAt s)) count (emitted premise conclusion ∷ []))) ≤ ruleMost (length s) els all
   unfolding namedRules joined
   one-rule count premise conclusion p c =
       rw (append-nil, rule-bytes, length-append, length-append, field-length) (omega (arith, rule-name-short (e .ground .headed) count))
 
   emitted-few : (count t : ℕ) → Reaching s tb t
-      → length (ruleBytes (namedRules (groupName (ruleAt s)) count (each (emitted (before (e .state .slots) tb t)) (concludedAt (e .sig) (e .state .variables) s tb t)))) ≤ ruleMost (length s) all
+      → length (ruleBytes (namedRules (groupName (ruleAt s)) count (each (emitted (before (e .state .slots) tb t)) (concludedAt (e .sig) (e .state .variables) s tb t)))) ≤ ruleMost (length s) els all
   unfolding concludedAt concludedBy namedRules joined each
   emitted-few count t x = go (reachedBy s tb t) refl
     where
-      by-funcs : (b : Bool) → length (ruleBytes (namedRules (groupName (ruleAt s)) count (each (emitted (before (e .state .slots) tb t)) (pick b [] (domainsAt s tb t ∷ []))))) ≤ ruleMost (length s) all
+      by-funcs : (b : Bool) → length (ruleBytes (namedRules (groupName (ruleAt s)) count (each (emitted (before (e .state .slots) tb t)) (pick b [] (domainsAt s tb t ∷ []))))) ≤ ruleMost (length s) els all
       by-funcs true = omega arith
       by-funcs false = one-rule count (before (e .state .slots) tb t) (domainsAt s tb t) (before-few t x) (domains-few x)
 
       go : (o : Option MorphismKind) → reachedBy s tb t ≡ o
-          → length (ruleBytes (namedRules (groupName (ruleAt s)) count (each (emitted (before (e .state .slots) tb t)) (concludedBy o (masksAt tb t .funcs) (eqs x) (saidAt s tb t) (domainsAt s tb t))))) ≤ ruleMost (length s) all
+          → length (ruleBytes (namedRules (groupName (ruleAt s)) count (each (emitted (before (e .state .slots) tb t)) (concludedBy o (masksAt tb t .funcs) (eqs x) (saidAt s tb t) (domainsAt s tb t))))) ≤ ruleMost (length s) els all
       go none q = omega arith
       go (some If) q = omega arith
       go (some Noop) q = omega arith
@@ -144,11 +165,11 @@ module _ {s index types : List ℕ} {kinds : List (List ℕ)} {tb : Tables} (e :
 
   -- The rules of the first structures, and their new variables.
   one-more : (t : ℕ) → t < all
-      → length (ruleBytes (namedRules (groupName (ruleAt s)) 0 (rulesTo e (t + 1)))) ≤ length (ruleBytes (namedRules (groupName (ruleAt s)) 0 (rulesTo e t))) + ruleMost (length s) all
+      → length (ruleBytes (namedRules (groupName (ruleAt s)) 0 (rulesTo e (t + 1)))) ≤ length (ruleBytes (namedRules (groupName (ruleAt s)) 0 (rulesTo e t))) + ruleMost (length s) els all
   one-more t h = go (decLt (sourceAt tb t) unreached)
     where
       go : Dec (sourceAt tb t < unreached)
-          → length (ruleBytes (namedRules (groupName (ruleAt s)) 0 (rulesTo e (t + 1)))) ≤ length (ruleBytes (namedRules (groupName (ruleAt s)) 0 (rulesTo e t))) + ruleMost (length s) all
+          → length (ruleBytes (namedRules (groupName (ruleAt s)) 0 (rulesTo e (t + 1)))) ≤ length (ruleBytes (namedRules (groupName (ruleAt s)) 0 (rulesTo e t))) + ruleMost (length s) els all
       go (yes l) =
           let r = emitted-few (0 + length (rulesTo e t)) t (record { inside = h; reached = l }) in
           rw (rules-more e t l, named-append, joined-append, length-append) (omega arith)
@@ -158,26 +179,26 @@ module _ {s index types : List ℕ} {kinds : List (List ℕ)} {tb : Tables} (e :
   unfolding rulesTo emittedTo namedRules joined
   no-rules = refl
 
-  rules-few : (t : ℕ) → t ≤ all → length (ruleBytes (namedRules (groupName (ruleAt s)) 0 (rulesTo e t))) ≤ t * ruleMost (length s) all
+  rules-few : (t : ℕ) → t ≤ all → length (ruleBytes (namedRules (groupName (ruleAt s)) 0 (rulesTo e t))) ≤ t * ruleMost (length s) els all
   rules-few zero h = rw no-rules (omega arith)
   rules-few (suc t) h =
       let q : t + 1 ≡ suc t = omega arith in
       let m = rw q at (one-more t (omega arith)) in
-      rw (suc-mul t (ruleMost (length s) all)) (omega (arith, rules-few t (omega arith), m))
+      rw (suc-mul t (ruleMost (length s) els all)) (omega (arith, rules-few t (omega arith), m))
 
-  news-few : (t : ℕ) → t ≤ all → length (recordBytes (each variableField (newsTo s tb t))) ≤ t * newsMost
+  news-few : (t : ℕ) → t ≤ all → length (recordBytes (each variableField (newsTo s tb t))) ≤ t * newsMost els
   unfolding newsTo recordBytes joined each
   news-few zero h = omega arith
   news-few (suc t) h =
       let r = news-few t (omega arith) in
-      rw (each-append, record-append, length-append) (omega (arith, r, go (ltb (sourceAt tb t) unreached)))
+      rw (each-append, record-append, length-append, suc-mul t (newsMost els)) (omega (arith, r, go (ltb (sourceAt tb t) unreached)))
     where
-      go : (b : Bool) → length (recordBytes (each variableField (pick b (newIn (structureIn s t) (length (newsTo s tb t)) (rowAt tb t)) []))) ≤ newsMost
-      go true = news-short (e .ground .sounds t (omega arith) .laid) _ _
+      go : (b : Bool) → length (recordBytes (each variableField (pick b (newIn (structureIn s t) (length (newsTo s tb t)) (rowAt tb t)) []))) ≤ newsMost els
+      go true = let c = f .each-one t (omega arith) in omega (arith, news-short (e .ground .sounds t (omega arith) .laid) (length (newsTo s tb t)) (rowAt tb t))
       go false = omega arith
 
   -- The group.
-  pub group-few : length (groupBytesOf (groupLeft (ruleAt s) (e .state))) ≤ groupMost (length s) all
+  pub group-few : length (groupBytesOf (groupLeft (ruleAt s) (e .state))) ≤ groupMost (length s) els all
   unfolding groupLeft groupMost rulesTo
   group-few = rw (group-bytes, length-append, length-append, field-length, e .finished .variables, e .finished .rules)
       (omega (arith, group-short (e .ground .headed), news-few all (omega arith), rules-few all (omega arith)))

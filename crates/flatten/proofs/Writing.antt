@@ -29,7 +29,7 @@ use Rattle.kinds.specs.Table.{Tabled}
 use Rattle.flatten.specs.Tables.{Tables, tables}
 use Rattle.flatten.specs.Ended.{Ground, Ended}
 use Rattle.flatten.specs.Went.{wholeWalk, Walks}
-use Rattle.flatten.specs.Room.{groupMost, Unmerged}
+use Rattle.flatten.specs.Room.{Sure}
 use Rattle.flatten.specs.Answers.{outcomeOf, sizeOf, Demanded, Writes, Readable, ruleOutcome, numberIn}
 use Rattle.flatten.proofs.Grounds.{AllMapped}
 use Rattle.flatten.proofs.Lengths.{group-few}
@@ -38,9 +38,9 @@ use Rattle.flatten.specs.declared.entry.Flattened.the-variants.{Written,
 
 -- There is room: the group can't be longer, or it was measured.
 pub surely : {s index types sources : List ℕ} {kinds masks vars : List (List ℕ)} {n room : ℕ} (e : Ended s index types kinds (tables sources masks vars)) → n ≡ length (ruleAt s .structures)
-    → (groupMost (length s) n ≤ room) × Unmerged s sources n → true ≡ leb (length (groupBytesOf (groupLeft (ruleAt s) (e .state)))) room
+    → Sure s index sources n room → true ≡ leb (length (groupBytesOf (groupLeft (ruleAt s) (e .state)))) room
 surely {s} {room = room} e m u =
-    let q = rw m at u in let f = group-few e (q .1) in let g = q .0 in
+    let q = rw m at u in let f = group-few e (q .unmerged) (q .most) in let g = q .enough in
     sym (le-leb (length (groupBytesOf (groupLeft (ruleAt s) (e .state)))) room (omega arith))
 
 pub measured : {none o p : List ℕ} {m room : ℕ} → Put none o p 0 m → room ≤ 65535 → leb m room ≡ leb (length p) room

@@ -6,12 +6,12 @@ ghost use Prim.Native.Nat.{_≤_};
 ghost use lib.Dec.{leb};
 ghost use lib.ListN.{length};
 ghost use Rattle.definition.specs.Flatten.{groupLeft};
-ghost use Rattle.definition.specs.Limits.{answerBytes, ruleBytes, structureLimit};
+ghost use Rattle.definition.specs.Limits.{answerBytes, ruleBytes, structureLimit, fieldLimit};
 ghost use Rattle.definition.specs.Writer.{groupBytesOf};
 ghost use Rattle.rule.specs.Lookup.{ruleAt};
 ghost use Rattle.flatten.specs.Tables.{tables};
 ghost use Rattle.flatten.specs.Ended.{Ended};
-ghost use Rattle.flatten.specs.Room.{groupMost, Unmerged, Reached};
+ghost use Rattle.flatten.specs.Room.{groupMost, Most, Unmerged, Reached, Sure};
 use crate::output::put_group;
 use crate::premise::reached_by;
 use crate::tables::SORTS;
@@ -21,6 +21,7 @@ use kinds::maps::map_between;
 use kinds::table::NO_KIND;
 use naming::variables::VARIABLES;
 use rows::kernel::has_kernel_pairs;
+use rule::elements::element_count;
 use rule::ids::FIELDS;
 use rule::ids::NAME_BYTES;
 use rule::ids::RULE_INDEX;
@@ -33,20 +34,37 @@ const DIGITS: usize = 5;
 // The field of a rule's name has at most so many: its head, the group's name, `_`, a count.
 const NAME_MOST: usize = 3 + NAME_BYTES + 1 + DIGITS;
 
-// The W fields of a structure: at most one for each element, with its head, a type, a base and a number.
-const NEWS_MOST: usize = (5 + NAME_BYTES + DIGITS) * FIELDS;
+// A W field has at most so many: its head, a type, a base and a number. There is at most one for each element.
+const NEW_MOST: usize = 5 + NAME_BYTES + DIGITS;
 
-// What a structure says of its elements: of each at most a TypeSet and a member row with its parents.
-const ELEMENTS_MOST: usize = (16 + 2 * PARENTS) * FIELDS;
+// What a structure says of an element has at most so many: a TypeSet, and a member row with its parents.
+const ELEMENT_MOST: usize = 16 + 2 * PARENTS;
+
+// The most elements that one of so many structures has.
+fn most_elements(index: &[u16; RULE_INDEX], n: usize) -> usize
+    requires { ⌜ (n ≤ structureLimit) × Most (now index) n fieldLimit ⌝ }
+    ensures { λ r. ⌜ Most (now (index .entry)) n r ⌝ }
+{
+    let mut most: usize = 0;
+    let mut k: usize = 0;
+    while k < n {
+        let count = element_count(index, k);
+        if most < count {
+            most = count;
+        }
+        k += 1;
+    }
+    most
+}
 
 // Where no map merges elements, a group has at most so many bytes: the names, the variables, and in each rule what structures say. The
-// statement of a row is no longer than two of its fields, and R and A rows together may be all of the record.
-fn group_most(len: usize, n: usize) -> usize
-    requires { ⌜ (len ≤ ruleBytes) × (n ≤ structureLimit) ⌝ }
-    ensures { λ r. ⌜ r ≡ groupMost len n ⌝ }
+// statement of a row is no longer than two of its fields.
+fn group_most(len: usize, els: usize, n: usize) -> usize
+    requires { ⌜ (len ≤ ruleBytes) × (els ≤ fieldLimit) × (n ≤ structureLimit) ⌝ }
+    ensures { λ r. ⌜ r ≡ groupMost len els n ⌝ }
 {
-    let said = 4 * len + ELEMENTS_MOST;
-    NAME_MOST + n * NEWS_MOST + n * (NAME_MOST + n * said + said)
+    let said = 2 * len + ELEMENT_MOST * els;
+    NAME_MOST + n * (NEW_MOST * els) + n * (NAME_MOST + n * said + said)
 }
 
 // Does a map merge elements, one by which a structure was reached?
@@ -87,9 +105,10 @@ fn surely_fits(
 ) -> bool
     requires { ⌜ n ≡ length (ruleAt (now s) .structures) ⌝ }
     requires { ⌜ Reached (now s) (now index) (now kinds) (now sources) ⌝ }
-    ensures { λ r. ⌜ (r ≡ true → (groupMost (length (now (s .entry))) n ≤ room) × Unmerged (now (s .entry)) (now (sources .entry)) n) ⌝ }
+    ensures { λ r. ⌜ (r ≡ true → Sure (now (s .entry)) (now (index .entry)) (now (sources .entry)) n room) ⌝ }
 {
-    if room < group_most(s.len(), n) {
+    let els = most_elements(index, n);
+    if room < group_most(s.len(), els, n) {
         return false;
     }
     !merges(s, index, n, kinds, sources)

@@ -8,17 +8,18 @@ use lib.Dec.{eqb}
 use lib.ListN.{length, drop, length-append, length-drop}
 use Rattle.definition.specs.Base.{orElse, orDefault, each, joined, firstOf, _∈_}
 use Rattle.definition.specs.Letters.{underscore}
-use Rattle.definition.specs.Limits.{fieldLimit, nameBytes, numberDigits}
+use Rattle.definition.specs.Limits.{nameBytes, numberDigits}
 use Rattle.definition.specs.Rule.{Structure, Element, Name, nameOf}
 use Rattle.definition.specs.Names.{nameFor, el, decimal, baseName, newVariable, newVariables}
 use Rattle.definition.specs.Walk.{groupName}
 use Rattle.definition.specs.Writer.{variableField, fieldBytes, recordBytes}
 use Rattle.theory.proofs.Lists.{mem-each, first-mem, picked}
 use Rattle.theory.proofs.NameLaws.{digits-few}
+use Rattle.rule.specs.Elements.{countAt}
 use Rattle.rule.specs.Lookup.{ruleAt}
 use Rattle.naming.specs.Structures.{structureIn, NamesAt, Laid, Headed}
 use Rattle.naming.specs.Variables.{keptIn, newIn}
-use Rattle.naming.proofs.Placed.{element-few}
+use Rattle.naming.proofs.Placed.{elements-are}
 use Rattle.naming.proofs.Printing.{group-short}
 
 -- The names of a list have a permitted length.
@@ -65,13 +66,13 @@ fields-short st short next (e ∷ es) (some v ∷ cs) = let r = fields-short st 
 fields-short st short next (e ∷ es) (none ∷ cs) = let r = fields-short st short (next + 1) es cs in rw length-append (omega (arith, field-short st short next e))
 
 -- The W fields of a structure's new variables.
-pub news-short : {s index : List ℕ} {k : ℕ} → Laid s index k → (first : ℕ) (row : List ℕ) → length (recordBytes (each variableField (newIn (structureIn s k) first row))) ≤ (5 + nameBytes + numberDigits) * fieldLimit
+pub news-short : {s index : List ℕ} {k : ℕ} → Laid s index k → (first : ℕ) (row : List ℕ) → length (recordBytes (each variableField (newIn (structureIn s k) first row))) ≤ (5 + nameBytes + numberDigits) * countAt index k
 unfolding newIn
 news-short {s} {index} {k} l first row =
     let st = structureIn s k in
     let base = base-short st (names-short (l .names 1 (omega arith) (omega arith))) (names-short (l .names 2 (omega arith) (omega arith))) in
     let f = fields-short st base first (st .elements) (keptIn first (length (st .elements)) row) in
-    omega (arith, element-few l)
+    omega (arith, elements-are l)
 
 -- The name of a rule of the group.
 pub rule-name-short : {s : List ℕ} → Headed s → (count : ℕ) → length (groupName (ruleAt s) ++ (underscore ∷ decimal count)) ≤ nameBytes + 1 + numberDigits

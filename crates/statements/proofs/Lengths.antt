@@ -9,7 +9,7 @@ use lib.ListN.{length, getD, drop, length-append, length-drop}
 use Rattle.definition.specs.Base.{pick, consIf, keep, each, butLast, empty, _∈_}
 use Rattle.definition.specs.Group.{Statement}
 use Rattle.definition.specs.Letters.{predicate, function, funcDomain}
-use Rattle.definition.specs.Limits.{fieldLimit, parentLimit}
+use Rattle.definition.specs.Limits.{parentLimit}
 use Rattle.definition.specs.Names.{variableAt}
 use Rattle.definition.specs.Records.{Field, numbers}
 use Rattle.definition.specs.Rows.{memberRow, rowBefore, insertRow, sortRows, members, rowStatement, typeSets}
@@ -29,7 +29,7 @@ use Rattle.rows.proofs.ElementLaws.{noElement}
 use Rattle.rows.proofs.Parts.{mem-place, cons-few, keep-few}
 use Rattle.rule.specs.Elements.{countAt}
 use Rattle.naming.specs.Structures.{structureIn, Laid}
-use Rattle.naming.proofs.Placed.{elements-are, element-few, element-get}
+use Rattle.naming.proofs.Placed.{elements-are, element-get}
 use Rattle.flags.specs.Flags.{flagAt}
 use Rattle.statements.specs.Said.{flaggedFrom, flagged, memberFlag, saidBy, domainsBy}
 use Rattle.statements.specs.Structures.{Stands}
@@ -73,6 +73,19 @@ module _ (s : List ℕ) (letter kind mask : ℕ) (say : Row → Statement) (narr
       go : {at end : ℕ} {fs : List Field} → Run s at end fs → length (statementBytes letter (each say (flagged mask (each (rowOf kind) fs)))) ≤ 2 * length s
       go none = let x = section-short 0 {at = 0} none in omega arith
       go (more {at} e r) = let x = section-short 0 (more e r) in let y = run-within r (got-is s at e .within) in omega arith
+
+-- The rows of two sections behind each other.
+both-short : (s : List ℕ) (letter kind kind′ mask mask′ : ℕ) (say : Row → Statement) → ((r : Row) → length (say r .variables) ≤ length (r .elements))
+    → {at mid end : ℕ} {fs gs : List Field} {rows rows′ : List Row} → Run s at mid fs → rows ≡ each (rowOf kind) fs → Run s mid end gs → rows′ ≡ each (rowOf kind′) gs
+    → length (statementBytes letter (each say (flagged mask rows))) + length (statementBytes letter (each say (flagged mask′ rows′))) ≤ 2 * length s
+both-short s letter kind kind′ mask mask′ say narrow r q r′ q′ = rw (q, q′) (go r r′)
+  where
+    go : {at mid end : ℕ} {fs gs : List Field} → Run s at mid fs → Run s mid end gs
+        → length (statementBytes letter (each say (flagged mask (each (rowOf kind) fs)))) + length (statementBytes letter (each say (flagged mask′ (each (rowOf kind′) gs)))) ≤ 2 * length s
+    go r none = let x = rows-short s letter kind mask say narrow r refl in let y = section-short s letter kind′ mask′ say narrow 0 {at = 0} none in omega arith
+    go r (more {at = mid} e t) =
+        let x = section-short s letter kind mask say narrow 0 r in let y = section-short s letter kind′ mask′ say narrow 0 (more e t) in
+        let z = run-within t (got-is s mid e .within) in omega arith
 
 -- Statements of at most so many variables each have at most so many bytes each.
 each-short : {A : Type 0} (letter most : ℕ) (say : A → Statement) (xs : List A) → ((a : A) → a ∈ xs → length (say a .variables) ≤ most)
@@ -148,35 +161,35 @@ module _ {s index : List ℕ} {k : ℕ} (w : Stands s index k) (letter : ℕ) wh
     row-narrow r = let n = length-each variable (r .elements) in omega arith
 
     -- The member rows that are kept: the parents and the element, six bytes before them.
-    members-short : (p : Row → Bool) → length (statementBytes letter (each (rowStatement variable) (keep p (members st)))) ≤ (8 + 2 * parentLimit) * fieldLimit
+    members-short : (p : Row → Bool) → length (statementBytes letter (each (rowStatement variable) (keep p (members st)))) ≤ (8 + 2 * parentLimit) * countAt index k
     members-short p =
         let a = each-short letter (parentLimit + 1) (rowStatement variable) (keep p (members st)) (λ r m. omega (arith, row-narrow r, member-narrow r (mem-keep p (members st) m .0))) in
         let b = keep-few p (members st) in
         let c = members-few st in
-        let d = element-few l in
+        let d = elements-are l in
         omega arith
 
     -- The TypeSets of the flagged elements: one variable, 8 bytes each.
-    types-short : (mask : ℕ) → length (statementBytes letter (typeSets variable (flagged mask (st .elements)))) ≤ 8 * fieldLimit
+    types-short : (mask : ℕ) → length (statementBytes letter (typeSets variable (flagged mask (st .elements)))) ≤ 8 * countAt index k
     unfolding typeSets typeSetOf
     types-short mask =
         let a = each-short letter 1 (λ (e : Element). typeSetOf (e .type) (variable (e .number))) (keep (λ (e : Element). empty (e .parents)) (flagged mask (st .elements))) (λ e m. omega arith) in
         let b = keep-few (λ (e : Element). empty (e .parents)) (flagged mask (st .elements)) in
         let c = flagged-few mask 0 (st .elements) in
-        let d = element-few l in
+        let d = elements-are l in
         omega arith
 
   -- What a structure says by flags has at most so many bytes.
-  pub said-short : (variables : List ℕ) (masks : Masks) → length (statementBytes letter (saidBy st variables masks)) ≤ 4 * length s + (16 + 2 * parentLimit) * fieldLimit
+  pub said-short : (variables : List ℕ) (masks : Masks) → length (statementBytes letter (saidBy st variables masks)) ≤ 2 * length s + (16 + 2 * parentLimit) * countAt index k
   said-short variables masks =
-      let p = rows-short s letter predicate (masks .preds) (rowStatement (variableAt st variables)) (row-narrow (variableAt st variables)) (w .at .preds-run) (w .at .preds-are) in
-      let f = rows-short s letter function (masks .funcs) (rowStatement (variableAt st variables)) (row-narrow (variableAt st variables)) (w .at .funcs-run) (w .at .funcs-are) in
+      let r = both-short s letter predicate function (masks .preds) (masks .funcs) (rowStatement (variableAt st variables)) (row-narrow (variableAt st variables))
+            (w .at .preds-run) (w .at .preds-are) (w .at .funcs-run) (w .at .funcs-are) in
       let m = members-short (variableAt st variables) (memberFlag st (masks .members)) in
       let t = types-short (variableAt st variables) (masks .free) in
       rw (said-parts, each-append, each-append, statements-append, statements-append, length-append, length-append, length-append) (omega arith)
 
   -- So have the domains of its flagged A rows.
-  pub domains-short : (variables : List ℕ) (mask : ℕ) → length (statementBytes letter (domainsBy st variables mask)) ≤ 4 * length s + (16 + 2 * parentLimit) * fieldLimit
+  pub domains-short : (variables : List ℕ) (mask : ℕ) → length (statementBytes letter (domainsBy st variables mask)) ≤ 2 * length s + (16 + 2 * parentLimit) * countAt index k
   unfolding domainsBy
   domains-short variables mask = let x = rows-short s letter function mask domain narrow (w .at .funcs-run) (w .at .funcs-are) in omega arith
     where

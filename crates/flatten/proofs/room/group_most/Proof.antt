@@ -1,6 +1,6 @@
 use borrow.Author.Needs.{needs}
 use Rattle.flatten.specs.Room.{groupMost}
-use Rattle.flatten.proofs.Lengths.{said-small, rules-small}
+use Rattle.flatten.proofs.Lengths.{news-small, said-small, rules-small}
 use native.Mathlib.Omega.{arith}
 use Rattle.flatten.proofs.room.group_most.Statement.{statement}
 use Rattle.flatten.proofs.room.group_most.Tie as tie
@@ -10,29 +10,35 @@ use Rattle.flatten.proofs.room.group_most.Lts as lts
 mul-said : tie.Need-mul-said
 mul-said c = search needs
 
+mul-said-2 : tie.Need-mul-said-2
+mul-said-2 c = search needs
+
 add-said : tie.Need-add-said
 add-said c = search needs
 
 mul-result : tie.Need-mul-result
 mul-result c = search needs
 
-add-result : tie.Need-add-result
-add-result c = search needs
-
 mul-result-2 : tie.Need-mul-result-2
-mul-result-2 c = let b = said-small (c .pre .0) (c .pre .1) in omega arith
+mul-result-2 c = let b = news-small (c .pre .0) (c .pre .1) (c .pre .2) in omega arith
 
-add-result-2 : tie.Need-add-result-2
-add-result-2 c = let b = said-small (c .pre .0) (c .pre .1) in omega arith
-
-add-result-3 : tie.Need-add-result-3
-add-result-3 c = let b = said-small (c .pre .0) (c .pre .1) in omega arith
+add-result : tie.Need-add-result
+add-result c = let b = news-small (c .pre .0) (c .pre .1) (c .pre .2) in omega arith
 
 mul-result-3 : tie.Need-mul-result-3
-mul-result-3 c = let b = rules-small (c .pre .0) (c .pre .1) in omega arith
+mul-result-3 c = let b = said-small (c .pre .0) (c .pre .1) (c .pre .2) in omega arith
+
+add-result-2 : tie.Need-add-result-2
+add-result-2 c = let b = said-small (c .pre .0) (c .pre .1) (c .pre .2) in omega arith
+
+add-result-3 : tie.Need-add-result-3
+add-result-3 c = let b = said-small (c .pre .0) (c .pre .1) (c .pre .2) in omega arith
+
+mul-result-4 : tie.Need-mul-result-4
+mul-result-4 c = let b = rules-small (c .pre .0) (c .pre .1) (c .pre .2) in omega arith
 
 add-result-4 : tie.Need-add-result-4
-add-result-4 c = let b = rules-small (c .pre .0) (c .pre .1) in omega arith
+add-result-4 c = let b = rules-small (c .pre .0) (c .pre .1) (c .pre .2) in omega (arith, news-small (c .pre .0) (c .pre .1) (c .pre .2))
 
 returns : tie.Need-returns
 unfolding groupMost
@@ -43,12 +49,14 @@ group-most-spec =
     tie.close
     (tie.spec
     mul-said
+    mul-said-2
     add-said
     mul-result
-    add-result
     mul-result-2
+    add-result
+    mul-result-3
     add-result-2
     add-result-3
-    mul-result-3
+    mul-result-4
     add-result-4
     returns)

@@ -8,10 +8,18 @@ use Rattle.flatten.proofs.room.surely_fits.Tie as tie
 use Rattle.flatten.proofs.room.surely_fits.Reads as reads
 use Rattle.flatten.proofs.room.surely_fits.Lts as lts
 use Rattle.flatten.proofs.room.group_most.Reads as group-most-reads
+use Rattle.flatten.proofs.room.most_elements.Reads as most-elements-reads
 use Rattle.flatten.proofs.room.merges.Reads as merges-reads
 
+most-elements-requires : tie.Need-most-elements-requires
+most-elements-requires c κs =
+    let p = c .before .pre in let g = p .1 .ended .ground in let f = g .few in let n = p .0 in
+    (omega arith, record { few = omega arith; each-one = λ k h. g .sounds k (omega arith) .laid .elements .elements .few })
+
 group-most-requires : tie.Need-group-most-requires
-group-most-requires c κs = let g = c .before .pre .1 .ended .ground in let f = g .few in let l = g .short in search needs
+group-most-requires c κs =
+    let p = c .before .before .pre in let g = p .1 .ended .ground in let f = g .few in let l = g .short in let n = p .0 in
+    let m = c .most-elements .ensures .few in search needs
 
 returns : tie.Need-returns
 returns c = λ z. let y : _≡_ {A = ℕ} 0 1 = cc in absurd (omega arith)
@@ -20,7 +28,12 @@ merges-requires : tie.Need-merges-requires
 merges-requires c κs = search needs
 
 returns-2 : tie.Need-returns-2
-returns-2 c = λ z. let l = c .before .if1 .left in (omega (arith, c .before .before .group-most .ensures), c .merges .ensures (not-true _ z))
+returns-2 c = λ z. let l = c .before .if1 .left in record {
+    els = c .before .before .before .most-elements .result;
+    most = c .before .before .before .most-elements .ensures;
+    enough = omega (arith, c .before .before .group-most .ensures);
+    unmerged = c .merges .ensures (not-true _ z);
+  }
 
 pub surely-fits-spec : {M : Type 1} → statement M
-surely-fits-spec = tie.close (tie.spec group-most-requires returns merges-requires returns-2)
+surely-fits-spec = tie.close (tie.spec most-elements-requires group-most-requires returns merges-requires returns-2)
