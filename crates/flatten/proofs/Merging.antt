@@ -22,7 +22,7 @@ use Rattle.kinds.specs.Table.{kindIn}
 use Rattle.kinds.proofs.TableLaws.{kind-none}
 use Rattle.flatten.specs.Tables.{Tables, tables, unreached, sourceAt, pairsOn, reachedBy}
 use Rattle.flatten.specs.Ended.{Reaching, ReachedBy}
-use Rattle.flatten.specs.Room.{Unmerged, Reached}
+use Rattle.flatten.specs.Room.{Unmerged, WalkOver}
 use Rattle.flatten.proofs.Numbers.{source-read}
 
 -- Structure 0 was reached by no map.
@@ -44,7 +44,7 @@ none-left [] e f = refl
 none-left (p ∷ ps) e f = let z : _≡_ {A = Bool} true false = sym e ∙ f in let y : _≡_ {A = ℕ} 0 1 = cc in absurd (omega arith)
 
 -- One structure more.
-module _ {s index sources : List ℕ} {kinds : List (List ℕ)} {t n : ℕ} (w : Reached s index kinds sources) (m : n ≡ length (ruleAt s .structures)) (h : t < n) where
+module _ {s index sources : List ℕ} {kinds : List (List ℕ)} {t n : ℕ} (w : WalkOver s index kinds sources) (m : n ≡ length (ruleAt s .structures)) (h : t < n) where
   abbrev tb : Tables
   tb = tables sources (w .masks) (w .vars)
 

@@ -40,8 +40,8 @@ pub record Unmerged (s sources : List ℕ) (n : ℕ) : Type 0 where
   pub none : (tb : Tables) → tb .sources ≡ sources → (t : ℕ) (k : MorphismKind) → t < n → sourceAt tb t < unreached → reachedBy s tb t ≡ some k
       → kernelPairs (pairsOn s (sourceAt tb t) t) (structureIn s t) ≡ []
 
--- The structures that a walk reached, whatever they say.
-pub record Reached (s index : List ℕ) (kinds : List (List ℕ)) (sources : List ℕ) : Type 0 where
+-- A walk is over and has reached structures from these sources, whatever they say.
+pub record WalkOver (s index : List ℕ) (kinds : List (List ℕ)) (sources : List ℕ) : Type 0 where
   pub types : List ℕ
   pub masks : List (List ℕ)
   pub vars : List (List ℕ)

@@ -11,7 +11,7 @@ ghost use Rattle.definition.specs.Writer.{groupBytesOf};
 ghost use Rattle.rule.specs.Lookup.{ruleAt};
 ghost use Rattle.flatten.specs.Tables.{tables};
 ghost use Rattle.flatten.specs.Ended.{Ended};
-ghost use Rattle.flatten.specs.Room.{groupMost, Most, Unmerged, Reached, Sure};
+ghost use Rattle.flatten.specs.Room.{groupMost, Most, Unmerged, WalkOver, Sure};
 use crate::output::put_group;
 use crate::premise::reached_by;
 use crate::tables::SORTS;
@@ -76,7 +76,7 @@ fn merges(
     sources: &[u8; STRUCTURES],
 ) -> bool
     requires { ⌜ n ≡ length (ruleAt (now s) .structures) ⌝ }
-    requires { ⌜ Reached (now s) (now index) (now kinds) (now sources) ⌝ }
+    requires { ⌜ WalkOver (now s) (now index) (now kinds) (now sources) ⌝ }
     ensures { λ r. ⌜ (r ≡ false → Unmerged (now (s .entry)) (now (sources .entry)) n) ⌝ }
 {
     let mut t: usize = 1;
@@ -104,7 +104,7 @@ fn surely_fits(
     room: usize,
 ) -> bool
     requires { ⌜ n ≡ length (ruleAt (now s) .structures) ⌝ }
-    requires { ⌜ Reached (now s) (now index) (now kinds) (now sources) ⌝ }
+    requires { ⌜ WalkOver (now s) (now index) (now kinds) (now sources) ⌝ }
     ensures { λ r. ⌜ (r ≡ true → Sure (now (s .entry)) (now (index .entry)) (now (sources .entry)) n room) ⌝ }
 {
     let els = most_elements(index, n);
