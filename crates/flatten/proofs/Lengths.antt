@@ -9,7 +9,6 @@ use mathlib.Core.List.{List, [], _∷_, _++_, append-nil}
 use mathlib.Core.Path.{_≡_, refl, ap, sym, _∙_}
 use lib.Dec.{eqb, ltb}
 use lib.ListN.{length, getD, length-append}
-use borrow.Author.Tests.{ltb-true, ne-eqb}
 use Rattle.definition.specs.Base.{pick, each, joined}
 use Rattle.definition.specs.Flatten.{groupLeft}
 use Rattle.definition.specs.Group.{Variable, Statement, FlatRule}
@@ -36,7 +35,7 @@ use Rattle.statements.proofs.Lengths.{said-short, domains-short}
 use Rattle.flatten.specs.Tables.{Tables, unreached, sourceAt, rowAt, pairsOn, ownBy, concludedBy, reachedBy, equalitiesAt, saidAt, domainsAt, masksAt, ownAt, concludedAt, statementsAt, before, newsTo, emittedTo}
 use Rattle.flatten.specs.Ended.{Ended, Reaching}
 use Rattle.flatten.specs.Room.{nameMost, newsMost, saidMost, ruleMost, groupMost, Most, Unmerged}
-use Rattle.flatten.proofs.Premises.{source-is, source-reaching, source-below, stands-at, statements-are}
+use Rattle.flatten.proofs.Premises.{those-before, source-is, source-reaching, source-below, stands-at, statements-are}
 use Rattle.flatten.proofs.Rules.{ruleBytes, rulesTo, rules-pass, rules-more}
 
 -- No sum passes the largest number.
@@ -117,10 +116,6 @@ module _ {s index types : List ℕ} {kinds : List (List ℕ)} {tb : Tables} (e :
         go (some SurjThen) q = rw statements-none (omega arith)
         go (some NonSurjThen) q = said-few letterB
 
-  later : (t : ℕ) → (t ≡ 0 → ⊥) → before (e .state .slots) tb t ≡ statementsAt (e .state .slots) (sourceAt tb t)
-  unfolding before
-  later t d = rw (ne-eqb t 0 d)
-
   -- A premise: what structures say from the first to one of the first m.
   premise-few : (m t : ℕ) → Reaching s tb t → t < m → length (statementBytes letterB (statementsAt (e .state .slots) t)) ≤ m * most
   unfolding before
@@ -130,14 +125,14 @@ module _ {s index types : List ℕ} {kinds : List (List ℕ)} {tb : Tables} (e :
       let q : sourceAt tb (suc t) ≡ getD (tb .sources) (suc t) 0 = sym (source-is e x) in
       let b = source-below e x q (λ z. omega arith) in
       let r = premise-few m (sourceAt tb (suc t)) (source-reaching e x q) (omega arith) in
-      rw (statements-are e x, statements-append, length-append, later (suc t) (λ z. omega arith), suc-mul m most) (omega (arith, r, own-few x))
+      rw (statements-are e x, statements-append, length-append, those-before (e .state .slots) tb (suc t) (λ z. omega arith), suc-mul m most) (omega (arith, r, own-few x))
 
   before-few : (t : ℕ) → Reaching s tb t → length (statementBytes letterB (before (e .state .slots) tb t)) ≤ all * most
   unfolding before
   before-few zero x = rw statements-none (omega arith)
   before-few (suc t) x =
       let q = source-reaching e x (sym (source-is e x)) in
-      rw (later (suc t) (λ z. omega arith)) (premise-few all (sourceAt tb (suc t)) q (q .inside))
+      rw (those-before (e .state .slots) tb (suc t) (λ z. omega arith)) (premise-few all (sourceAt tb (suc t)) q (q .inside))
 
   -- A rule.
   one-rule : (count : ℕ) (premise conclusion : List Statement) → length (statementBytes letterB premise) ≤ all * most → length (statementBytes letterH conclusion) ≤ most

@@ -83,6 +83,11 @@ reached-kind s tb t kind q = go (eqb t 0) q
     go true q = let z : _≡_ {A = ℕ} 0 1 = cc in absurd (omega arith)
     go false q = sym q
 
+-- What stands before a structure's own statements: those of its source.
+pub those-before : (slots : List (Option Reached)) (tb : Tables) (t : ℕ) → (t ≡ 0 → ⊥) → before slots tb t ≡ statementsAt slots (sourceAt tb t)
+unfolding before
+those-before slots tb t d = rw (ne-eqb t 0 d)
+
 -- A structure that was reached, and its source.
 module _ {s index types : List ℕ} {kinds : List (List ℕ)} {tb : Tables} {t : ℕ} (e : Ended s index types kinds tb) (h : Reaching s tb t) where
   abbrev eqs : List Statement
@@ -208,10 +213,6 @@ module _ {s index types : List ℕ} {kinds : List (List ℕ)} {tb : Tables} {t :
       → Put out₀ out₁ (statementBytes letterB (statementsAt (e .state .slots) u)) from at
       → Put out₁ out₂ (statementBytes letterB own) at r
       → Put out₀ out₂ (statementBytes letterB (statementsAt (e .state .slots) t)) from r
-  unfolding before
   premise-later {u} {from} {at} {r} {out₀} {out₁} {out₂} d q p w =
-      let b : before (e .state .slots) tb t ≡ statementsAt (e .state .slots) u = those-before in
-      rw (statements-are, b, statements-append) (then p w)
-    where
-      those-before : before (e .state .slots) tb t ≡ statementsAt (e .state .slots) u
-      those-before = let x : u ≡ sourceAt tb t = q ∙ source-is in rw (ne-eqb t 0 d, x)
+      let x : u ≡ sourceAt tb t = q ∙ source-is in
+      rw (statements-are, those-before (e .state .slots) tb t d, ← x, statements-append) (then p w)

@@ -30,7 +30,7 @@ use Rattle.statements.specs.Said.{domainsBy}
 use Rattle.kinds.specs.Table.{kindIn}
 use Rattle.flatten.specs.Tables.{Tables, unreached, sourceAt, rowAt, masksAt, reachedBy, concludedBy, concludedAt, equalitiesAt, saidAt, domainsAt, statementsAt, before, emittedRule, emittedTo}
 use Rattle.flatten.specs.Ended.{Ended, Reaching, ReachedBy, Emits}
-use Rattle.flatten.proofs.Premises.{source-is, kind-is}
+use Rattle.flatten.proofs.Premises.{those-before, source-is, kind-is}
 use Rattle.flatten.proofs.Numbers.{source-read}
 
 -- The conclusions, by a kind's number.
@@ -127,8 +127,7 @@ module _ {s index types : List ℕ} {kinds : List (List ℕ)} {tb : Tables} {t :
   unfolding before
   rule-put {u = u} count conclusion h l p q v b c =
       let y : u ≡ sourceAt tb t = v ∙ source-is e x in
-      let z : before (e .state .slots) tb t ≡ statementsAt (e .state .slots) (sourceAt tb t) = rw (ne-eqb t 0 (λ i. omega arith)) in
-      rw (rule-bytes, field-bytes, z, ← y) (then (then (rw l at p) q) (then b c))
+      rw (rule-bytes, field-bytes, those-before (e .state .slots) tb t (λ i. omega arith), ← y) (then (then (rw l at p) q) (then b c))
 
 -- The rules of the first structures were put, and are so many.
 unfoldable pub rulesTo : {s index types : List ℕ} {kinds : List (List ℕ)} {tb : Tables} → Ended s index types kinds tb → ℕ → List Emitted

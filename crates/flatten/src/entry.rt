@@ -49,7 +49,7 @@ fn usable(len: usize) -> usize
     len
 }
 
-// The group, measured first, then written where it fits. The walk is over: its variables are handed over for good.
+// The group, written where it fits; whether it does is settled first. The walk is over: its variables are handed over for good.
 fn write_group(
     out: &mut [u8],
     s: &[u8],
