@@ -50,6 +50,10 @@ module _ (mask i : ℕ) (small : mask < 2 ^ i) where
 pub pow-fits : (i : ℕ) → i < 64 → 2 ^ i + 2 ^ i ≤ 2 ^ 64
 pow-fits i h = pow-twice i 64 h
 
+-- No flag is set in 0.
+pub no-flag : (i : ℕ) → flagAt 0 i ≡ false
+no-flag i = rw (div-eq-of-lt (pow-pos i))
+
 -- The flags by a test, one place after the other.
 pub flags-start : (test : ℕ → Bool) → FlagsOf 0 test 0
 flags-start test = record { small = pow-pos 0; same = λ i h. absurd (omega arith) }

@@ -17,7 +17,8 @@ use Rattle.definition.specs.Walk.{State, Reached}
 use Rattle.theory.proofs.Numbering.{fresh}
 use Rattle.rule.specs.Elements.{countAt}
 use Rattle.rule.specs.Lookup.{ruleAt}
-use Rattle.rows.specs.Kernel.{TypesOf}
+use Rattle.rows.specs.Kernel.{TypesOf, Merged}
+use Rattle.rows.specs.Maps.{pairsIn}
 use Rattle.rows.specs.declared.maps.Map.{Map}
 use Rattle.naming.specs.Structures.{structureIn, Laid}
 use Rattle.naming.specs.Variables.{rowOf, keptIn, GivenOut, newIn}
@@ -53,8 +54,8 @@ reached-or {sig} {s} {tb = tb} {state = state} w k h = go (getD (state .slots) k
     go none e = inl e
     go (some r) e = inr (e .source-in)
 
-abbrev pub flags : Masks → List ℕ
-flags masks = masks .preds ∷ masks .funcs ∷ masks .members ∷ masks .free ∷ []
+abbrev pub flags : Masks → ℕ → List ℕ
+flags masks merged = masks .preds ∷ masks .funcs ∷ masks .members ∷ masks .free ∷ merged ∷ []
 
 module _ {sig : Signature} {s index types : List ℕ} {tb : Tables} {next t u number : ℕ} (gr : Ground sig s index) (met : Met s u t number) (g : Going sig s tb types next t u) where
   read-source : getD (tb .sources) u 0 ≡ sourceAt tb u
@@ -154,12 +155,12 @@ module _ {sig : Signature} {s index types : List ℕ} {tb : Tables} {next t u nu
   fresh-is : {more count : ℕ} → more ≡ fresh (keptIn next count target) → count ≡ countAt index t → next + more ≡ next + fresh (taken o p)
   fresh-is e c = ap (λ (x : ℕ). next + x) (e ∙ rw (target-row, c, ← (elements-are (target-laid o))) (ap fresh (kept-row (below o p) (long o p))))
 
-  pub went-on : {r : Step} {masks : Masks} {sources′ types′ : List ℕ} {masks′ grown : List (List ℕ)} {more count next′ : ℕ} → Answered r → r ≡ step.Adds masks
+  pub went-on : {r : Step} {masks : Masks} {merged : ℕ} {sources′ types′ : List ℕ} {masks′ grown : List (List ℕ)} {more count next′ : ℕ} → Answered r → r ≡ step.Adds masks
       → more ≡ fresh (keptIn next count target) → count ≡ countAt index t → types′ ≡ sets types next (typesOf (newIn (structureIn s t) next target))
-      → sources′ ≡ set (tb .sources) t u → masks′ ≡ set (tb .masks) t (flags masks) → next′ ≡ next + more → grown ≡ set (tb .vars) t target
+      → sources′ ≡ set (tb .sources) t u → masks′ ≡ set (tb .masks) t (flags masks merged) → Merged merged (structureIn s t) (pairsIn s m) → next′ ≡ next + more → grown ≡ set (tb .vars) t target
       → Went On sig s (tables sources′ masks′ grown) types′ next′ t u
   unfolding rowAt
-  went-on {masks = masks} d e f c y x q n v =
+  went-on {masks = masks} {merged} d e f c y x q g n v =
       let d′ : Does sig (o .going .state .variables) s u t m (rowAt tb u) (row o p) kind (step.Adds masks) = rw e at (does d) in
-      let w = stepped o p (flags masks) (fresh-is f c) (rw target-row at y) in
-      record { is = rw (v, target-row, x, q, n) (go-on (o .going) (o .met) (map-accepted o p (flags masks) (d′ .is .0) (d′ .is .1 .0) (d′ .is .1 .1)) w) }
+      let w = stepped o p (flags masks merged) g (fresh-is f c) (rw target-row at y) in
+      record { is = rw (v, target-row, x, q, n) (go-on (o .going) (o .met) (map-accepted o p (flags masks merged) (d′ .is .0) (d′ .is .1 .0) (d′ .is .1 .1)) w) }

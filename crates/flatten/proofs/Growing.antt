@@ -3,7 +3,7 @@ use Prim.Native.Nat.{ℕ, _<_}
 use mathlib.Core.Path.{_≡_, refl, ap, _∙_}
 use mathlib.Core.Option.{Option, none, some}
 use mathlib.Core.List.{List, [], _∷_, _++_, List·Memᴰ·head, List·Memᴰ·tail}
-use lib.ListN.{length, set, List·getD-append}
+use lib.ListN.{length, getD, set, List·getD-append}
 use lib.Seq.{getD-set-same, getD-set-other}
 use Rattle.definition.specs.Base.{each, _∈_}
 use Rattle.definition.specs.Rule.{Pair}
@@ -15,7 +15,7 @@ use Rattle.theory.proofs.Lists.{mem-each}
 use Rattle.theory.proofs.StepLaws.{kernel-in}
 use Rattle.naming.specs.Structures.{structureIn}
 use Rattle.naming.specs.Variables.{GivenOut}
-use Rattle.flatten.specs.Tables.{Tables, unreached, sourceAt, rowAt, masksOf, masksAt, pairsOn, Keyed, reachedBy, equalitiesAt, saidAt, domainsAt, ownAt, concludedAt, statementsOf, statementsAt, before}
+use Rattle.flatten.specs.Tables.{Tables, unreached, sourceAt, rowAt, masksOf, masksAt, mergedAt, pairsOn, Keyed, reachedBy, equalitiesAt, saidAt, domainsAt, ownAt, concludedAt, statementsOf, statementsAt, before}
 
 -- Functions that agree on a list.
 pub each-alike : {A B : Type 0} (f g : A → B) (xs : List A) → ((a : A) → a ∈ xs → f a ≡ g a) → each f xs ≡ each g xs
@@ -58,6 +58,10 @@ module _ (tb : Tables) (t u : ℕ) (ms row : List ℕ) where
   unfolding masksAt
   masks-other k d = ap masksOf (getD-set-other (tb .masks) t k ms [] d)
 
+  pub merged-other : (k : ℕ) → (k ≡ t → ⊥) → mergedAt (grown tb t u ms row) k ≡ mergedAt tb k
+  unfolding mergedAt
+  merged-other k d = ap (λ (r : List ℕ). getD r 4 0) (getD-set-other (tb .masks) t k ms [] d)
+
   pub source-same : t < length (tb .sources) → sourceAt (grown tb t u ms row) t ≡ u
   unfolding sourceAt
   source-same h = getD-set-same (tb .sources) t u unreached h
@@ -69,6 +73,10 @@ module _ (tb : Tables) (t u : ℕ) (ms row : List ℕ) where
   pub masks-same : t < length (tb .masks) → masksAt (grown tb t u ms row) t ≡ masksOf ms
   unfolding masksAt
   masks-same h = ap masksOf (getD-set-same (tb .masks) t ms [] h)
+
+  pub merged-same : t < length (tb .masks) → mergedAt (grown tb t u ms row) t ≡ getD ms 4 0
+  unfolding mergedAt
+  merged-same h = ap (λ (r : List ℕ). getD r 4 0) (getD-set-same (tb .masks) t ms [] h)
 
 -- A structure reached before stays as it was.
 module _ (sig : Signature) (s : List ℕ) (keyed : Keyed s) (table news : List Variable) (tb : Tables) (t u : ℕ) (ms row : List ℕ) (k : ℕ) (d : k ≡ t → ⊥) (e : sourceAt tb k ≡ t → ⊥)

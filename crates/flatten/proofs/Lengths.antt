@@ -35,7 +35,7 @@ use Rattle.statements.proofs.Lengths.{said-short, domains-short}
 use Rattle.flatten.specs.Tables.{Tables, unreached, sourceAt, rowAt, pairsOn, ownBy, concludedBy, reachedBy, equalitiesAt, saidAt, domainsAt, masksAt, ownAt, concludedAt, statementsAt, before, newsTo, emittedTo}
 use Rattle.flatten.specs.Ended.{Ended, Reaching}
 use Rattle.flatten.specs.Room.{nameMost, newsMost, saidMost, ruleMost, groupMost, Most, Unmerged}
-use Rattle.flatten.proofs.Premises.{those-before, source-is, source-reaching, source-below, stands-at, statements-are}
+use Rattle.flatten.proofs.Premises.{reached-behind, those-before, unmerged-none, source-is, source-reaching, source-below, stands-at, statements-are}
 use Rattle.flatten.proofs.Rules.{ruleBytes, rulesTo, rules-pass, rules-more}
 
 -- No sum passes the largest number.
@@ -78,7 +78,7 @@ field-length letter name = omega arith
 
 -- At the end of a walk in which no map merged elements.
 module _ {s index types : List ℕ} {kinds : List (List ℕ)} {tb : Tables} (e : Ended s index types kinds tb)
-    (w : Unmerged s (tb .sources) (length (ruleAt s .structures))) {els : ℕ} (f : Most index (length (ruleAt s .structures)) els) where
+    (w : Unmerged (tb .masks) (length (ruleAt s .structures))) {els : ℕ} (f : Most index (length (ruleAt s .structures)) els) where
   abbrev all : ℕ
   all = length (ruleAt s .structures)
 
@@ -99,8 +99,7 @@ module _ {s index types : List ℕ} {kinds : List (List ℕ)} {tb : Tables} (e :
     domains-few = let c = f .each-one t (x .inside) in omega (arith, domains-short (stands-at e x) letterH (variablesIn (structureIn s t) (rowAt tb t)) (masksAt tb t .funcs))
 
     eqs-none : {k : MorphismKind} → reachedBy s tb t ≡ some k → eqs ≡ []
-    unfolding equalitiesAt equalities kernelVariables each
-    eqs-none {k} q = rw (w .none tb refl t k (x .inside) (x .reached) q)
+    eqs-none {k} q = let l = reached-behind s tb t k q in unmerged-none e x l (w .none t l (x .inside))
 
     both-few : {k : MorphismKind} (letter : ℕ) → reachedBy s tb t ≡ some k → length (statementBytes letter (eqs ++ saidAt s tb t)) ≤ most
     both-few letter q = rw (eqs-none q) (said-few letter)

@@ -22,15 +22,18 @@ use Rattle.definition.specs.Writer.{recordBytes}
 use Rattle.theory.proofs.ByteForm.{statementBytes, statements-append}
 use Rattle.records.specs.Buffer.{Put, countLimit}
 use Rattle.records.proofs.Tail.{nothing, then}
+use Rattle.definition.specs.Rows.{kernelPairs}
 use Rattle.rule.specs.Lookup.{ruleAt}
-use Rattle.rows.specs.Kernel.{TypesOf}
+use Rattle.rows.specs.Kernel.{TypesOf, Merged}
+use Rattle.rows.proofs.Several.{none-merged}
+use Rattle.statements.proofs.KernelPairs.{equalities-none}
 use Rattle.naming.specs.Structures.{structureIn}
 use Rattle.naming.specs.Variables.{variablesIn, GivenOut}
 use Rattle.statements.specs.Said.{saidBy}
 use Rattle.statements.specs.Structures.{Stands, sideIn}
 use Rattle.statements.specs.declared.masks.Masks.{Masks}
 use Rattle.kinds.specs.Table.{kindIn, entryAt, Tabled}
-use Rattle.flatten.specs.Tables.{Tables, unreached, sourceAt, rowAt, masksOf, masksAt, kindOn, pairsOn, ownBy, reachedBy, equalitiesAt, saidAt, ownAt, statementsOf, statementsAt, before}
+use Rattle.flatten.specs.Tables.{Tables, unreached, sourceAt, rowAt, masksOf, masksAt, mergedAt, kindOn, pairsOn, ownBy, reachedBy, equalitiesAt, saidAt, ownAt, statementsOf, statementsAt, before}
 use Rattle.flatten.specs.Walks.{ReachedAt}
 use Rattle.flatten.specs.Ended.{Ended, Reaching, ReachedBy}
 use Rattle.flatten.proofs.Numbers.{source-read}
@@ -82,6 +85,12 @@ reached-kind s tb t kind q = go (eqb t 0) q
     go : (b : Bool) → some kind ≡ pick b none (kindOn s (sourceAt tb t) t) → kindOn s (sourceAt tb t) t ≡ some kind
     go true q = let z : _≡_ {A = ℕ} 0 1 = cc in absurd (omega arith)
     go false q = sym q
+
+-- Structure 0 was reached by no map.
+pub reached-behind : (s : List ℕ) (tb : Tables) (t : ℕ) (kind : MorphismKind) → reachedBy s tb t ≡ some kind → 0 < t
+unfolding reachedBy
+reached-behind s tb zero kind q = let z : _≡_ {A = ℕ} 0 1 = cc in absurd (omega arith)
+reached-behind s tb (suc t) kind q = omega arith
 
 -- What stands before a structure's own statements: those of its source.
 pub those-before : (slots : List (Option Reached)) (tb : Tables) (t : ℕ) → (t ≡ 0 → ⊥) → before slots tb t ≡ statementsAt slots (sourceAt tb t)
@@ -139,13 +148,18 @@ module _ {s index types : List ℕ} {kinds : List (List ℕ)} {tb : Tables} {t :
   pub kind-is : {kind : ℕ} → ReachedBy kind kinds (tb .sources) t → kindIn kind ≡ reachedBy s tb t
   kind-is b = b .is s tb refl (e .tabled) (e .finished .ties .sources-long) (h .reached) place-small
 
-  pub mapped : {kind : ℕ} → ReachedBy kind kinds (tb .sources) t → kind < 4 → found (pairsBetween (ruleAt s .maps) (getD (tb .sources) t 0) t) ≡ true
-  mapped {kind} b l = let k = kind-some kind l in rw source-is (e .ground .mapped (sourceAt tb t) t (k .0) (reached-kind s tb t (k .0) (sym (k .1) ∙ kind-is b)))
+  abbrev Mapped : Type 0
+  Mapped = (0 < t) × (found (pairsBetween (ruleAt s .maps) (getD (tb .sources) t 0) t) ≡ true)
 
-  pub surj-mapped : {kind : ℕ} → ReachedBy kind kinds (tb .sources) t → kind ≡ 1 → found (pairsBetween (ruleAt s .maps) (getD (tb .sources) t 0) t) ≡ true
+  mapped : {kind : ℕ} → ReachedBy kind kinds (tb .sources) t → kind < 4 → Mapped
+  mapped {kind} b l =
+      let k = kind-some kind l in let q = sym (k .1) ∙ kind-is b in
+      (reached-behind s tb t (k .0) (sym q), rw source-is (e .ground .mapped (sourceAt tb t) t (k .0) (reached-kind s tb t (k .0) q)))
+
+  pub surj-mapped : {kind : ℕ} → ReachedBy kind kinds (tb .sources) t → kind ≡ 1 → Mapped
   surj-mapped b q = mapped b (omega arith)
 
-  pub both-mapped : {kind : ℕ} → ReachedBy kind kinds (tb .sources) t → (kind ≡ 0) ⊎ (kind ≡ 3) → found (pairsBetween (ruleAt s .maps) (getD (tb .sources) t 0) t) ≡ true
+  pub both-mapped : {kind : ℕ} → ReachedBy kind kinds (tb .sources) t → (kind ≡ 0) ⊎ (kind ≡ 3) → Mapped
   both-mapped b (inl q) = mapped b (omega arith)
   both-mapped b (inr q) = mapped b (omega arith)
 
@@ -156,21 +170,39 @@ module _ {s index types : List ℕ} {kinds : List (List ℕ)} {tb : Tables} {t :
   unfolding saidAt rowAt masksAt
   said-put letter x y p = rw (x, y) at p
 
-  -- The Equalities of the map that reached it, and what its masks mean.
-  pub both-put : (letter : ℕ) {from at r u : ℕ} {out₀ out₁ out₂ row row′ : List ℕ} {ps : List Pair} {ms : Masks} → u ≡ getD (tb .sources) t 0 → row ≡ getD (tb .vars) u []
+  -- Its elements that are images of several keys; without one the map that reached it has no kernel pairs.
+  pub merged-read : {u : ℕ} {ps : List Pair} → 0 < t → u ≡ getD (tb .sources) t 0 → orDefault (pairsBetween (ruleAt s .maps) u t) [] ≡ ps
+      → Merged (getD (getD (tb .masks) t []) 4 0) (structureIn s t) ps
+  unfolding mergedAt pairsOn
+  merged-read l q o = rw (← o, q, source-is) (at-slot .2 .merged l)
+
+  kernel-none : 0 < t → getD (getD (tb .masks) t []) 4 0 ≡ 0 → kernelPairs (pairsOn s (sourceAt tb t) t) (structureIn s t) ≡ []
+  unfolding mergedAt
+  kernel-none l q = none-merged (rw q at (at-slot .2 .merged l))
+
+  pub unmerged-none : 0 < t → getD (getD (tb .masks) t []) 4 0 ≡ 0 → eqs ≡ []
+  unfolding equalitiesAt
+  unmerged-none l q = equalities-none (e .sig) (e .state .variables) _ _ (pairsOn s (sourceAt tb t) t) (kernel-none l q)
+
+  -- The Equalities of the map that reached it.
+  pub map-put : (letter : ℕ) {from r u : ℕ} {out₀ out row : List ℕ} {ps : List Pair} → u ≡ getD (tb .sources) t 0 → row ≡ getD (tb .vars) u []
       → orDefault (pairsBetween (ruleAt s .maps) u t) [] ≡ ps
       → ((sig : Signature) (table : List Variable) (target : Side) → TypesOf table types → target .structure ≡ structureIn s t
-          → Put out₀ out₁ (statementBytes letter (equalities sig table (sideIn s u row) target ps)) from at)
-      → row′ ≡ getD (tb .vars) t [] → ms ≡ masksOf (getD (tb .masks) t [])
-      → Put out₁ out₂ (statementBytes letter (saidBy (structureIn s t) (variablesIn (structureIn s t) row′) ms)) at r
-      → Put out₀ out₂ (statementBytes letter (eqs ++ saidAt s tb t)) from r
+          → Put out₀ out (statementBytes letter (equalities sig table (sideIn s u row) target ps)) from r)
+      → Put out₀ out (statementBytes letter eqs) from r
   unfolding equalitiesAt rowAt pairsOn
-  both-put letter {from} {at} {r} {u} {out₀} {out₁} {out₂} {row} {row′} {ps} {ms} q x o p y z w =
-      rw statements-append (then (of-map (p (e .sig) (e .state .variables) (sideIn s t (rowAt tb t)) (e .finished .types-are) refl)) (said-put letter y z w))
+  map-put letter {from} {r} {u} {out₀} {out} {row} {ps} q x o p = of-map (p (e .sig) (e .state .variables) (sideIn s t (rowAt tb t)) (e .finished .types-are) refl)
     where
-      of-map : Put out₀ out₁ (statementBytes letter (equalities (e .sig) (e .state .variables) (sideIn s u row) (sideIn s t (rowAt tb t)) ps)) from at
-          → Put out₀ out₁ (statementBytes letter eqs) from at
+      of-map : Put out₀ out (statementBytes letter (equalities (e .sig) (e .state .variables) (sideIn s u row) (sideIn s t (rowAt tb t)) ps)) from r
+          → Put out₀ out (statementBytes letter eqs) from r
       of-map p = rw (← source-is, ← q, o, ← x) p
+
+  -- They, and what its masks mean.
+  pub both-put : (letter : ℕ) {from at r : ℕ} {out₀ out₁ out₂ row : List ℕ} {ms : Masks} → Put out₀ out₁ (statementBytes letter eqs) from at
+      → row ≡ getD (tb .vars) t [] → ms ≡ masksOf (getD (tb .masks) t [])
+      → Put out₁ out₂ (statementBytes letter (saidBy (structureIn s t) (variablesIn (structureIn s t) row) ms)) at r
+      → Put out₀ out₂ (statementBytes letter (eqs ++ saidAt s tb t)) from r
+  both-put letter p y z w = rw statements-append (then p (said-put letter y z w))
 
   -- What it adds, by its kind.
   pub own-nothing : {kind from : ℕ} (out : List ℕ) → from ≤ countLimit → ReachedBy kind kinds (tb .sources) t → kind ≡ 1

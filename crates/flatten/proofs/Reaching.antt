@@ -23,7 +23,7 @@ use Rattle.naming.specs.Variables.{GivenOut, newIn}
 use Rattle.flatten.specs.Tables.{Tables, unreached, sourceAt, concludedAt, before, newsTo, emittedTo}
 use Rattle.flatten.specs.Walks.{ReachedAt, Tie, Ties}
 use Rattle.flatten.proofs.Walkable.{Walkable}
-use Rattle.flatten.proofs.Growing.{grown, source-other, source-same, row-other, row-same, own-stays, concluded-stays, before-stays}
+use Rattle.flatten.proofs.Growing.{grown, source-other, source-same, row-other, row-same, merged-other, own-stays, concluded-stays, before-stays}
 
 -- What was given out below a number is below a larger one.
 pub given-more : {st : Structure} {row : List ℕ} {n m : ℕ} → n ≤ m → GivenOut st row n → GivenOut st row m
@@ -88,6 +88,7 @@ module _ {sig : Signature} {s index : List ℕ} {tb : Tables} {types : List ℕ}
         row-long = a .row-long;
         variables = rw (row-other tb t u ms row k d) (a .variables);
         given = rw (row-other tb t u ms row k d) (given-more l (a .given));
+        merged = λ h. rw (x, merged-other tb t u ms row k d) (a .merged h);
         statements = rw (before-stays slots tb t u ms row r k d e, own-stays sig s (o .ground .keyed) table news tb t u ms row k d e g) (a .statements);
       }
 

@@ -23,6 +23,7 @@ use Rattle.theory.proofs.StepForm.{emitted}
 use Rattle.theory.proofs.ByteForm.{named-append}
 use Rattle.theory.proofs.WalkLaws.{mem-at}
 use Rattle.rule.specs.Lookup.{ruleAt}
+use Rattle.rows.specs.Kernel.{Merged}
 use Rattle.rows.specs.Maps.{pairsIn}
 use Rattle.rows.specs.declared.maps.Map.{Map}
 use Rattle.naming.specs.Structures.{structureIn}
@@ -35,10 +36,10 @@ use Rattle.naming.proofs.Placed.{length-numbers-of, element-few}
 use Rattle.naming.proofs.Reached.{new-row, types-more}
 use Rattle.statements.specs.Said.{saidBy, domainsBy}
 use Rattle.statements.specs.Structures.{sideIn}
-use Rattle.flatten.specs.Tables.{Tables, unreached, sourceAt, rowAt, masksOf, masksAt, kindOn, ownBy, concludedBy, reachedBy, equalitiesAt, saidAt, domainsAt, ownAt, concludedAt, statementsOf, statementsAt, before, newsTo, emittedTo}
+use Rattle.flatten.specs.Tables.{Tables, unreached, sourceAt, rowAt, masksOf, masksAt, mergedAt, kindOn, ownBy, concludedBy, reachedBy, equalitiesAt, saidAt, domainsAt, ownAt, concludedAt, statementsOf, statementsAt, before, newsTo, emittedTo}
 use Rattle.flatten.specs.Walks.{ReachedAt, Walking}
 use Rattle.flatten.proofs.Walkable.{Walkable, MapAt}
-use Rattle.flatten.proofs.Growing.{grown, source-other, source-same, row-other, row-same, masks-same, statements-other, equalities-stay}
+use Rattle.flatten.proofs.Growing.{grown, source-other, source-same, row-other, row-same, masks-same, merged-same, statements-other, equalities-stay}
 use Rattle.flatten.proofs.Reaching.{is-reached, ties-grow, news-none, emitted-none, news-grown, emitted-grown}
 
 -- Each entry of a numbering is below what was given out and what is new.
@@ -161,6 +162,9 @@ module _ {sig : Signature} {s index : List ℕ} {tb : Tables} {types : List ℕ}
       masks-are : masksAt more t ≡ masksOf ms
       masks-are = let a = w .ties .masks-long in let i = in-limit in masks-same tb t u ms row (omega arith)
 
+      merged-is : mergedAt more t ≡ getD ms 4 0
+      merged-is = let a = w .ties .masks-long in let i = in-limit in merged-same tb t u ms row (omega arith)
+
       abbrev pub said : List Statement
       said = saidBy (structureIn s t) (variablesIn (structureIn s t) row) (masksOf ms)
 
@@ -212,14 +216,15 @@ module _ {sig : Signature} {s index : List ℕ} {tb : Tables} {types : List ℕ}
       counted : next + fresh taken ≡ length (state .variables ++ news)
       counted = let z = w .next-is in rw (length-append, count-news) (omega arith)
 
-      new-one : ReachedAt sig (state .variables ++ news) s more slots′ t after
-      new-one = record {
+      new-one : Merged (getD ms 4 0) (structureIn s t) (pairsIn s m) → ReachedAt sig (state .variables ++ news) s more slots′ t after
+      new-one g = record {
         source-in = rw source-is lower;
         source-down = λ h. rw source-is down;
         source-reached = rw (source-is, source-other tb t u ms row u apart) (o .reached);
         row-long = length-numbered next taken ∙ long;
         variables = rw row-is (sym (take-row (numbered next taken) (length-numbered next taken ∙ long)));
         given = rw (row-is, ← counted) (numbered-given (structureIn s t) taken below long);
+        merged = λ h. rw (source-is, merged-is, ← (p .same)) g;
         statements = rw (before-is, own-is);
       }
 
@@ -241,9 +246,9 @@ module _ {sig : Signature} {s index : List ℕ} {tb : Tables} {types : List ℕ}
           let a = named-append (groupName (ruleAt s)) 0 rules-before (each (emitted (source .statements)) concluded) in
           rw (g, before-is, concluded-is, a, zero-add, ← l, ← rules-far)
 
-      pub stepped : {next′ : ℕ} {types′ : List ℕ} → next′ ≡ next + fresh taken → types′ ≡ sets types next (typesOf (newIn (structureIn s t) next row))
+      pub stepped : Merged (getD ms 4 0) (structureIn s t) (pairsIn s m) → {next′ : ℕ} {types′ : List ℕ} → next′ ≡ next + fresh taken → types′ ≡ sets types next (typesOf (newIn (structureIn s t) next row))
           → Walking sig s more types′ next′ t state′
-      stepped e f =
+      stepped g e f =
           let z = w .next-is in let c = counted in
           let k = fresh-few taken in let l = long in let b = w .fewer (o .free) in
           let y : length (structureIn s t .elements) ≤ fieldLimit = element-few (o .ground .sounds t (o .met .target-in) .laid) in
@@ -251,7 +256,7 @@ module _ {sig : Signature} {s index : List ℕ} {tb : Tables} {types : List ℕ}
           let r : length (state .variables) + length news ≤ length types = rw count-news (omega arith) in
           let v : sets types next (typesOf news) ≡ sets types (length (state .variables)) (typesOf news) = ap (λ (i : ℕ). sets types i (typesOf news)) z in
           record {
-            ties = ties-grow o news ms row after new-one;
+            ties = ties-grow o news ms row after (new-one g);
             first-reached = rw (source-other tb t u ms row 0 (λ x. first (sym x))) (w .first-reached);
             above = λ j h. source-other tb t u ms row j (λ x. omega arith) ∙ w .above j h;
             variables = variables-are;

@@ -38,7 +38,7 @@ use Rattle.flatten.specs.declared.entry.Flattened.the-variants.{Written,
 
 -- There is room: the group can't be longer, or it was measured.
 pub surely : {s index types sources : List ℕ} {kinds masks vars : List (List ℕ)} {n room : ℕ} (e : Ended s index types kinds (tables sources masks vars)) → n ≡ length (ruleAt s .structures)
-    → Sure s index sources n room → true ≡ leb (length (groupBytesOf (groupLeft (ruleAt s) (e .state)))) room
+    → Sure s index masks n room → true ≡ leb (length (groupBytesOf (groupLeft (ruleAt s) (e .state)))) room
 surely {s} {room = room} e m u =
     let q = rw m at u in let f = group-few e (q .unmerged) (q .most) in let g = q .enough in
     sym (le-leb (length (groupBytesOf (groupLeft (ruleAt s) (e .state)))) room (omega arith))

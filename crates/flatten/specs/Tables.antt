@@ -53,14 +53,18 @@ abbrev pub allFlags : ℕ
 allFlags = 18446744073709551615
 
 abbrev pub allMasks : List ℕ
-allMasks = allFlags ∷ allFlags ∷ allFlags ∷ allFlags ∷ []
+allMasks = allFlags ∷ allFlags ∷ allFlags ∷ allFlags ∷ 0 ∷ []
 
 -- Those of a structure that no map has reached yet.
 abbrev pub noMasks : List ℕ
-noMasks = 0 ∷ 0 ∷ 0 ∷ 0 ∷ []
+noMasks = 0 ∷ 0 ∷ 0 ∷ 0 ∷ 0 ∷ []
 
 unfoldable pub masksAt : Tables → ℕ → Masks
 masksAt tb t = masksOf (getD (tb .masks) t [])
+
+-- The flags of its elements that are images of several keys.
+unfoldable pub mergedAt : Tables → ℕ → ℕ
+mergedAt tb t = getD (getD (tb .masks) t []) 4 0
 
 -- The kind and the pairs of the map between two structures.
 unfoldable pub kindOn : List ℕ → ℕ → ℕ → Option MorphismKind

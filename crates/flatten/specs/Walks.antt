@@ -9,13 +9,13 @@ use Rattle.definition.specs.Group.{Variable}
 use Rattle.definition.specs.Signature.{Signature}
 use Rattle.definition.specs.Walk.{Reached, State, groupName, namedRules}
 use Rattle.rule.specs.Lookup.{ruleAt}
-use Rattle.rows.specs.Kernel.{TypesOf}
+use Rattle.rows.specs.Kernel.{TypesOf, Merged}
 use Rattle.naming.specs.Structures.{structureIn}
 use Rattle.naming.specs.Variables.{variablesIn, GivenOut}
-use Rattle.flatten.specs.Tables.{Tables, unreached, sourceAt, rowAt, ownAt, before, newsTo, emittedTo}
+use Rattle.flatten.specs.Tables.{Tables, unreached, sourceAt, rowAt, mergedAt, pairsOn, ownAt, before, newsTo, emittedTo}
 
--- A structure that was reached: its source is below it and was reached, its variables were given out, and its statements are those
--- of its source and its own.
+-- A structure that was reached: its source is below it and was reached, its variables were given out, its elements that are images of
+-- several keys are flagged, and its statements are those of its source and its own.
 pub record ReachedAt (sig : Signature) (table : List Variable) (s : List ℕ) (tb : Tables) (slots : List (Option Reached)) (k : ℕ) (r : Reached) : Type 0 where
   pub source-in : sourceAt tb k < unreached
   pub source-down : 0 < k → sourceAt tb k < k
@@ -23,6 +23,7 @@ pub record ReachedAt (sig : Signature) (table : List Variable) (s : List ℕ) (t
   pub row-long : length (r .variables) ≡ length (structureIn s k .elements)
   pub variables : r .variables ≡ variablesIn (structureIn s k) (rowAt tb k)
   pub given : GivenOut (structureIn s k) (rowAt tb k) (length table)
+  pub merged : 0 < k → Merged (mergedAt tb k) (structureIn s k) (pairsOn s (sourceAt tb k) k)
   pub statements : r .statements ≡ before slots tb k ++ ownAt sig table s tb k
 
 abbrev pub Tie : Signature → List Variable → List ℕ → Tables → List (Option Reached) → ℕ → Option Reached → Type 0

@@ -12,6 +12,7 @@ ghost use Rattle.records.specs.Buffer.{Put, countLimit};
 ghost use Rattle.rule.specs.Lookup.{ruleAt};
 ghost use Rattle.flatten.specs.Tables.{tables, equalitiesAt, saidAt, ownAt, statementsAt};
 ghost use Rattle.flatten.specs.Ended.{Ended, Reaching, ReachedBy};
+use crate::tables::MERGED;
 use crate::tables::SORTS;
 use crate::tables::masks_at;
 use crate::tables::place;
@@ -39,6 +40,37 @@ pub fn reached_by(kinds: &[[u8; STRUCTURES]; STRUCTURES], sources: &[u8; STRUCTU
     kinds[u][t]
 }
 
+// Equality per kernel pair of the map that reached a structure. Most maps have none, and need not be looked up.
+fn put_map_equalities(
+    out: &mut [u8],
+    from: usize,
+    letter: u8,
+    s: &[u8],
+    index: &[u16; RULE_INDEX],
+    kinds: &[[u8; STRUCTURES]; STRUCTURES],
+    sources: &[u8; STRUCTURES],
+    masks: &[[u64; SORTS]; STRUCTURES],
+    vars: &[[u16; FIELDS]; STRUCTURES],
+    types: &[u8; VARIABLES],
+    t: usize,
+) -> usize
+    requires { ⌜ (from ≤ countLimit) × ((0 < t) × (found (pairsBetween (ruleAt (now s) .maps) (getD (now sources) t 0) t) ≡ true)) ⌝ }
+    requires { ⌜ Ended (now s) (now index) (now types) (now kinds) (tables (now sources) (now masks) (now vars)) ⌝ }
+    requires { ⌜ Reaching (now s) (tables (now sources) (now masks) (now vars)) t ⌝ }
+    ensures { λ r. ⌜ ((e : Ended (now (s .entry)) (now (index .entry)) (now (types .entry)) (now (kinds .entry)) (tables (now (sources .entry)) (now (masks .entry)) (now (vars .entry))))
+        → Put (now (out .entry)) (now (out .exit)) (statementBytes letter (equalitiesAt (e .sig) (e .state .variables) (now (s .entry)) (tables (now (sources .entry)) (now (masks .entry)) (now (vars .entry))) t)) from r) ⌝ }
+    ensures { λ r. ⌜ r ≤ countLimit ⌝ }
+{
+    let row = masks[t];
+    let merged = row[MERGED];
+    if merged == 0 {
+        return from;
+    }
+    let u = place(sources[t]);
+    let m = map_between(s, index, u, t);
+    put_equalities(out, from, letter, s, index, u, t, vars[u], m, types, merged)
+}
+
 // Equality per kernel pair of the map that reached a structure, then what the structure's masks mean.
 pub fn put_both(
     out: &mut [u8],
@@ -53,7 +85,7 @@ pub fn put_both(
     types: &[u8; VARIABLES],
     t: usize,
 ) -> usize
-    requires { ⌜ (from ≤ countLimit) × (found (pairsBetween (ruleAt (now s) .maps) (getD (now sources) t 0) t) ≡ true) ⌝ }
+    requires { ⌜ (from ≤ countLimit) × ((0 < t) × (found (pairsBetween (ruleAt (now s) .maps) (getD (now sources) t 0) t) ≡ true)) ⌝ }
     requires { ⌜ Ended (now s) (now index) (now types) (now kinds) (tables (now sources) (now masks) (now vars)) ⌝ }
     requires { ⌜ Reaching (now s) (tables (now sources) (now masks) (now vars)) t ⌝ }
     ensures { λ r. ⌜ ((e : Ended (now (s .entry)) (now (index .entry)) (now (types .entry)) (now (kinds .entry)) (tables (now (sources .entry)) (now (masks .entry)) (now (vars .entry))))
@@ -61,9 +93,7 @@ pub fn put_both(
         ++ saidAt (now (s .entry)) (tables (now (sources .entry)) (now (masks .entry)) (now (vars .entry))) t)) from r) ⌝ }
     ensures { λ r. ⌜ r ≤ countLimit ⌝ }
 {
-    let u = place(sources[t]);
-    let m = map_between(s, index, u, t);
-    let at = put_equalities(out, from, letter, s, index, u, t, vars[u], m, types);
+    let at = put_map_equalities(out, from, letter, s, index, kinds, sources, masks, vars, types, t);
     put_said(out, at, letter, s, index, t, vars[t], masks_at(masks, t))
 }
 

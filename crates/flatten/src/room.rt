@@ -11,16 +11,11 @@ ghost use Rattle.definition.specs.Writer.{groupBytesOf};
 ghost use Rattle.rule.specs.Lookup.{ruleAt};
 ghost use Rattle.flatten.specs.Tables.{tables};
 ghost use Rattle.flatten.specs.Ended.{Ended};
-ghost use Rattle.flatten.specs.Room.{groupMost, Most, Unmerged, WalkOver, Sure};
+ghost use Rattle.flatten.specs.Room.{groupMost, Most, Unmerged, Sure};
 use crate::output::put_group;
-use crate::premise::reached_by;
+use crate::tables::MERGED;
 use crate::tables::SORTS;
-use crate::tables::UNREACHED;
-use crate::tables::place;
-use kinds::maps::map_between;
-use kinds::table::NO_KIND;
 use naming::variables::VARIABLES;
-use rows::kernel::has_kernel_pairs;
 use rule::elements::element_count;
 use rule::ids::FIELDS;
 use rule::ids::NAME_BYTES;
@@ -68,26 +63,15 @@ fn group_most(len: usize, els: usize, n: usize) -> usize
 }
 
 // Does a map merge elements, one by which a structure was reached?
-fn merges(
-    s: &[u8],
-    index: &[u16; RULE_INDEX],
-    n: usize,
-    kinds: &[[u8; STRUCTURES]; STRUCTURES],
-    sources: &[u8; STRUCTURES],
-) -> bool
-    requires { ⌜ n ≡ length (ruleAt (now s) .structures) ⌝ }
-    requires { ⌜ WalkOver (now s) (now index) (now kinds) (now sources) ⌝ }
-    ensures { λ r. ⌜ (r ≡ false → Unmerged (now (s .entry)) (now (sources .entry)) n) ⌝ }
+fn merges(masks: &[[u64; SORTS]; STRUCTURES], n: usize) -> bool
+    requires { ⌜ n ≤ structureLimit ⌝ }
+    ensures { λ r. ⌜ (r ≡ false → Unmerged (now (masks .entry)) n) ⌝ }
 {
     let mut t: usize = 1;
     while t < n {
-        if sources[t] < UNREACHED {
-            if reached_by(kinds, sources, t) < NO_KIND {
-                let m = map_between(s, index, place(sources[t]), t);
-                if has_kernel_pairs(s, index, t, m) {
-                    return true;
-                }
-            }
+        let row = masks[t];
+        if row[MERGED] != 0 {
+            return true;
         }
         t += 1;
     }
@@ -99,19 +83,17 @@ fn surely_fits(
     s: &[u8],
     index: &[u16; RULE_INDEX],
     n: usize,
-    kinds: &[[u8; STRUCTURES]; STRUCTURES],
-    sources: &[u8; STRUCTURES],
+    masks: &[[u64; SORTS]; STRUCTURES],
     room: usize,
 ) -> bool
-    requires { ⌜ n ≡ length (ruleAt (now s) .structures) ⌝ }
-    requires { ⌜ WalkOver (now s) (now index) (now kinds) (now sources) ⌝ }
-    ensures { λ r. ⌜ (r ≡ true → Sure (now (s .entry)) (now (index .entry)) (now (sources .entry)) n room) ⌝ }
+    requires { ⌜ (length (now s) ≤ ruleBytes) × (n ≤ structureLimit) × Most (now index) n fieldLimit ⌝ }
+    ensures { λ r. ⌜ (r ≡ true → Sure (now (s .entry)) (now (index .entry)) (now (masks .entry)) n room) ⌝ }
 {
     let els = most_elements(index, n);
     if room < group_most(s.len(), els, n) {
         return false;
     }
-    !merges(s, index, n, kinds, sources)
+    !merges(masks, n)
 }
 
 // Does the group fit? It is measured where it must be, in a buffer without a byte.
@@ -131,7 +113,7 @@ pub fn fits(
     ensures { λ r. ⌜ ((e : Ended (now (s .entry)) (now (index .entry)) (now (types .entry)) (now (kinds .entry)) (tables (now (sources .entry)) (now (masks .entry)) (now (vars .entry))))
         → r ≡ leb (length (groupBytesOf (groupLeft (ruleAt (now (s .entry))) (e .state)))) room) ⌝ }
 {
-    if surely_fits(s, index, n, kinds, sources, room) {
+    if surely_fits(s, index, n, masks, room) {
         return true;
     }
     let mut nothing = [0u8; 0];

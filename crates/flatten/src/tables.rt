@@ -13,8 +13,12 @@ use statements::masks::Masks;
 // The source of a structure that no map has reached yet.
 pub const UNREACHED: u8 = STRUCTURES as u8;
 
-// A mask for each sort of what a structure says: R rows, A rows, members, TypeSets.
-pub const SORTS: usize = 4;
+// A mask for each sort of what a structure says: R rows, A rows, members, TypeSets; and one of its elements that are images of several
+// keys, of the map that reached it.
+pub const SORTS: usize = 5;
+
+// The place of that one.
+pub const MERGED: usize = 4;
 
 // Every flag is set.
 const ALL: u64 = 18446744073709551615;
@@ -30,7 +34,7 @@ pub fn no_el_vars() -> [[u16; FIELDS]; STRUCTURES]
 pub fn initial_matching_stmts() -> [u64; SORTS]
     ensures { λ r. ⌜ r ≡ allMasks ⌝ }
 {
-    [ALL, ALL, ALL, ALL]
+    [ALL, ALL, ALL, ALL, 0]
 }
 
 // A structure's number as an index.

@@ -13,7 +13,8 @@ ghost use Rattle.definition.specs.Walk.{completed, nothingTaken};
 ghost use Rattle.definition.specs.Limits.{structureLimit, variableLimit};
 ghost use Rattle.signature.specs.Index.{signatureAt, Indexed};
 ghost use Rattle.rule.specs.Lookup.{ruleAt};
-ghost use Rattle.rows.specs.Kernel.{TypesOf};
+ghost use Rattle.rows.specs.Kernel.{TypesOf, Merged};
+ghost use Rattle.rows.specs.Maps.{pairsIn};
 ghost use Rattle.naming.specs.Structures.{structureIn, Laid, ByteTypes};
 ghost use Rattle.naming.specs.Variables.{rowOf, GivenOut, newIn};
 ghost use Rattle.kinds.specs.Table.{kindIn, Tabled};
@@ -33,6 +34,7 @@ use naming::assign::initial_el_vars;
 use naming::types::type_variables;
 use naming::variables::VARIABLES;
 use naming::variables::fresh;
+use rows::kernel::merged_els;
 use rows::maps::Map;
 use rule::elements::element_count;
 use rule::ids::FIELDS;
@@ -80,16 +82,18 @@ fn flatten_map(
     target: [u16; FIELDS],
     first: u16,
     types: &[u8; VARIABLES],
+    merged: u64,
 ) -> Step
     requires { ⌜ Indexed (now sig) (now arities) counts ⌝ }
     requires { ⌜ Reaches (signatureAt (now sig) (now arities) counts) (now s) (now index) u t m source target first ⌝ }
     requires { ⌜ GivenOut (structureIn (now s) u) source (length (now types)) ⌝ }
+    requires { ⌜ Merged merged (structureIn (now s) t) (pairsIn (now s) m) ⌝ }
     ensures { λ r. ⌜ ((table : List definition.Variable) (k : rules.MorphismKind) → TypesOf table (now (types .entry)) → kindIn kind ≡ some k
         → Does (signatureAt (now (sig .entry)) (now (arities .entry)) counts) table (now (s .entry)) u t m source target k r) ⌝ }
 {
     if kind == SURJ_THEN {
         return flatten_surj_then(
-            sig, arities, counts, s, index, u, t, m, source, target, first, types,
+            sig, arities, counts, s, index, u, t, m, source, target, first, types, merged,
         );
     }
     if kind == NON_SURJ_THEN {
@@ -98,7 +102,7 @@ fn flatten_map(
         );
     }
     flatten_if_arbitrary(
-        sig, arities, counts, s, index, u, t, m, source, target, first, types,
+        sig, arities, counts, s, index, u, t, m, source, target, first, types, merged,
     )
 }
 
@@ -144,13 +148,14 @@ fn walk_map(
     let m = map_between(s, index, u, t);
     let first = *next;
     let target = assign_el_vars(source, s, index, u, t, m, first);
-    let r = flatten_map(sig, arities, counts, s, index, kind, u, t, m, source, target, first, types);
+    let merged = merged_els(s, index, t, m);
+    let r = flatten_map(sig, arities, counts, s, index, kind, u, t, m, source, target, first, types, merged);
     let Step::Adds(added) = r else {
         return MapWalked { vars: target, end: Walked::Refused(number(r)) };
     };
     type_variables(types, s, index, t, target, first);
     sources[t] = u as u8;
-    masks[t] = [added.preds, added.funcs, added.members, added.free];
+    masks[t] = [added.preds, added.funcs, added.members, added.free, merged];
     *next = first + fresh(target, element_count(index, t), first);
     MapWalked { vars: target, end: Walked::On }
 }

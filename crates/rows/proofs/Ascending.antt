@@ -1,16 +1,15 @@
--- Images that ascend: no two keys have one image, so there are no kernel pairs.
+-- Images that ascend: no two keys have one image.
 use Prim.Native.Nat.{ℕ, _+_, _≤_, _<_}
 use native.Mathlib.Omega.{arith}
-use mathlib.Core.Bool.{Bool, true, false, not}
+use mathlib.Core.Bool.{Bool, true, false}
 use mathlib.Core.List.{List, [], _∷_}
-use mathlib.Core.Path.{_≡_, refl, _∙_}
+use mathlib.Core.Path.{_≡_, refl, _∙_, ap}
 use lib.Dec.{eqb, ltb}
-use lib.ListN.{drop}
+use lib.ListN.{length, drop}
 use borrow.Author.Tests.{ne-eqb, eqb-true, lt-ltb, le-ltb, ltb-true}
-use Rattle.definition.specs.Base.{consIf, keep, each, joined, empty}
-use Rattle.definition.specs.Names.{numbersOf, fiber}
-use Rattle.definition.specs.Rows.{pairsAmong, kernelPairs}
-use Rattle.definition.specs.Rule.{Structure, Pair}
+use Rattle.definition.specs.Base.{consIf, keep, each}
+use Rattle.definition.specs.Names.{fiber}
+use Rattle.definition.specs.Rule.{Pair}
 use Rattle.theory.proofs.Lists.{and-left, and-right}
 use Rattle.rows.specs.Kernel.{imagesAbove, imagesAscend}
 use Rattle.rows.specs.Maps.{pairsIn, pairAt, MapIn}
@@ -32,25 +31,17 @@ fiber-none x e (p ∷ ps) h a =
     rw (ne-eqb (p .image) x (λ z. omega arith)) (fiber-none x (p .image) ps (omega arith) (and-right (ltb e (p .image)) _ a))
 
 -- Any number is the image of at most one.
-fiber-one : (x : ℕ) (ps : List Pair) → imagesAscend ps ≡ true → pairsAmong (fiber ps x) ≡ []
-unfolding imagesAscend fiber keep each pairsAmong
-fiber-one x [] a = refl
+pub fiber-one : (x : ℕ) (ps : List Pair) → imagesAscend ps ≡ true → length (fiber ps x) ≤ 1
+unfolding imagesAscend fiber keep each
+fiber-one x [] a = omega arith
 fiber-one x (p ∷ ps) a = go (eqb (p .image) x) refl (fiber-one x ps (above-ascend (p .image) ps a))
   where
-    go : (b : Bool) → eqb (p .image) x ≡ b → pairsAmong (fiber ps x) ≡ [] → pairsAmong (each (λ (q : Pair). q .key) (consIf b p (keep (λ (q : Pair). eqb (q .image) x) ps))) ≡ []
-    go true e r = let q : p .image ≡ x = eqb-true _ _ e in rw (fiber-none x (p .image) ps (omega arith) a)
+    go : (b : Bool) → eqb (p .image) x ≡ b → length (fiber ps x) ≤ 1 → length (each (λ (q : Pair). q .key) (consIf b p (keep (λ (q : Pair). eqb (q .image) x) ps))) ≤ 1
+    go true e r =
+        let q : p .image ≡ x = eqb-true _ _ e in
+        let n : length (fiber ps x) ≡ 0 = ap length (fiber-none x (p .image) ps (omega arith) a) in
+        omega arith
     go false e r = r
-
--- Where every list is empty, so are all of them one behind the other.
-joined-none : {A B : Type 0} (f : A → List B) → ((a : A) → f a ≡ []) → (xs : List A) → joined f xs ≡ []
-unfolding joined
-joined-none f h [] = refl
-joined-none f h (x ∷ xs) = rw (h x) (joined-none f h xs)
-
--- There are no kernel pairs.
-pub ascend-free : (pairs : List Pair) (target : Structure) → imagesAscend pairs ≡ true → not (empty (kernelPairs pairs target)) ≡ false
-unfolding kernelPairs
-ascend-free pairs target a = rw (joined-none (λ (e : ℕ). pairsAmong (fiber pairs e)) (λ e. fiber-one e pairs a) (numbersOf target))
 
 -- The loop: the images from a place on are held against the last one before it.
 pub record Climbs (s : List ℕ) (m : Map) (last p : ℕ) : Type 0 where

@@ -1,7 +1,7 @@
 -- Laws of this crate.
 pub mod MapLaws
 pub mod KernelLaws
-pub mod KernelFree
+pub mod Several
 pub mod Ascending
 pub mod Parts
 pub mod Sections

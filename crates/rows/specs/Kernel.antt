@@ -8,8 +8,9 @@ use lib.ListN.{length, getD, take}
 use Rattle.definition.specs.Base.{each, _∈_}
 use Rattle.definition.specs.Group.{Variable}
 use Rattle.definition.specs.Kinds.{Side, variableIn, typeIn}
-use Rattle.definition.specs.Names.{numbersOf}
+use Rattle.definition.specs.Names.{numbersOf, fiber}
 use Rattle.definition.specs.Rule.{Structure, Pair}
+use Rattle.flags.specs.Flags.{FlagsOf}
 use Rattle.rows.specs.Maps.{pairAt}
 use Rattle.rows.specs.declared.maps.Map.{Map}
 
@@ -55,3 +56,10 @@ imagesAbove e (p ∷ ps) = ltb e (p .image) && imagesAbove (p .image) ps
 unfoldable pub imagesAscend : List Pair → Bool
 imagesAscend [] = true
 imagesAscend (p ∷ ps) = imagesAbove (p .image) ps
+
+-- Whether the element at a place is the image of several keys; the elements that are, a flag for each place.
+abbrev pub severalAt : List ℕ → List Pair → ℕ → Bool
+severalAt els pairs j = ltb 1 (length (fiber pairs (getD els j 0)))
+
+pub record Merged (mask : ℕ) (target : Structure) (pairs : List Pair) : Type 0 where
+  pub flags : FlagsOf mask (severalAt (numbersOf target) pairs) (length (numbersOf target))

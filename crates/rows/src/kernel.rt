@@ -1,24 +1,24 @@
 // Keys and their variables; kernel pairs: two keys of one image. Refusal 25.
-ghost use mathlib.Core.Bool.{not};
 ghost use mathlib.Core.List.{List};
 ghost use mathlib.Core.Path.{_≡_};
 ghost use Prim.Native.Nat.{ℕ, _+_, _<_};
 ghost use lib.ListN.{length, drop};
-ghost use Rattle.definition.specs.Base.{any, empty};
+ghost use Rattle.definition.specs.Base.{any};
 ghost use Rattle.definition.specs.Group.{Variable};
 ghost use Rattle.definition.specs.Kinds.{Side, kernelClashes};
 ghost use Rattle.definition.specs.Limits.{structureLimit};
 ghost use Rattle.definition.specs.Names.{numbersOf};
-ghost use Rattle.definition.specs.Rows.{kernelPairs};
 ghost use Rattle.definition.specs.Rule.{Structure, Pair};
 ghost use Rattle.definition.specs.Signature.{Signature};
 ghost use Rattle.rule.specs.Elements.{elementNumbers, Elements};
 ghost use Rattle.rows.specs.Maps.{pairAt, pairsIn, MapIn};
-ghost use Rattle.rows.specs.Kernel.{clash, imagesAscend, KeyVars, KeyTypes, TypesOf, KeysIn, ImagesIn, SideAt, Typed};
+ghost use Rattle.rows.specs.Kernel.{clash, imagesAscend, KeyVars, KeyTypes, TypesOf, KeysIn, ImagesIn, SideAt, Typed, Merged};
 use crate::maps::Map;
 use crate::maps::pair_image;
 use crate::maps::pair_key;
+use flags::packed_less;
 use rule::elements::Found;
+use rule::elements::element_count;
 use rule::elements::find_element;
 use rule::ids::FIELDS;
 use rule::ids::RULE_INDEX;
@@ -72,31 +72,31 @@ fn images_ascend(s: &[u8], m: Map) -> bool
     true
 }
 
-// Has a map kernel pairs: two keys of one image? In most maps images ascend; else each image's place is marked once, so this is one pass over the pairs.
-pub fn has_kernel_pairs(s: &[u8], index: &[u16; RULE_INDEX], tgt: usize, m: Map) -> bool
+// The elements of the target that are images of several keys, a flag for each place. In most maps images ascend, and there are none;
+// else this is one pass over the pairs.
+pub fn merged_els(s: &[u8], index: &[u16; RULE_INDEX], tgt: usize, m: Map) -> u64
     requires { ⌜ MapIn (now s) m ⌝ }
     requires { ⌜ tgt < structureLimit ⌝ }
     requires { ⌜ Elements (now s) (now index) tgt ⌝ }
     ensures { λ r. ⌜ ((target : Structure) → numbersOf target ≡ elementNumbers (now (s .entry)) (now (index .entry)) tgt → ImagesIn target (pairsIn (now (s .entry)) m)
-        → r ≡ not (empty (kernelPairs (pairsIn (now (s .entry)) m) target))) ⌝ }
+        → Merged r target (pairsIn (now (s .entry)) m)) ⌝ }
 {
     if images_ascend(s, m) {
-        return false;
+        return 0;
     }
     let mut seen = [false; FIELDS];
+    let mut merged = [false; FIELDS];
     let mut p: usize = 0;
     while p < m.pairs {
         let f = find_element(s, index, tgt, pair_image(s, m, p));
         let Found::At(j) = f else {
-            return true;
+            return 0;
         };
-        if seen[j] {
-            return true;
-        }
+        merged[j] = seen[j];
         seen[j] = true;
         p += 1;
     }
-    false
+    packed_less(merged, [false; FIELDS], element_count(index, tgt))
 }
 
 // Does the variable of a key differ in type from that of a later key of the same image?

@@ -141,11 +141,7 @@ module _ {s : List ℕ} {m : Map} (h : MapIn s m) {src tgt : ℕ} {row vars type
   equalities-are sig target q = rw q (all-images (numbersOf (structureIn s tgt)))
 
 -- Without kernel pairs there are none.
-pub equalities-none : (sig : Signature) (table : List Variable) (source target : Side) (ps : List Pair) {st : Structure} {r : Bool}
-    → target .structure ≡ st → r ≡ not (empty (kernelPairs ps st)) → not r ≡ true → equalities sig table source target ps ≡ []
+pub equalities-none : (sig : Signature) (table : List Variable) (source target : Side) (ps : List Pair) → kernelPairs ps (target .structure) ≡ []
+    → equalities sig table source target ps ≡ []
 unfolding equalities kernelVariables each
-equalities-none sig table source target ps {st} q e n = rw (q, none (kernelPairs ps st) (rw e at n))
-  where
-    none : (ks : List Pair) → not (not (empty ks)) ≡ true → ks ≡ []
-    none [] x = refl
-    none (k ∷ ks) x = never x refl
+equalities-none sig table source target ps e = rw e

@@ -1,7 +1,5 @@
 -- Where no flag is set nothing is said.
 use Prim.Native.Nat.{ℕ, _+_, _≤_}
-use native.Mathlib.Nat.{div-eq-of-lt}
-use mathlib.Core.Bool.{false}
 use mathlib.Core.List.{List, [], _∷_}
 use mathlib.Core.Path.{_≡_, refl}
 use Rattle.definition.specs.Base.{keep, each}
@@ -11,8 +9,7 @@ use Rattle.definition.specs.Rule.{Structure, Row, Element}
 use Rattle.theory.proofs.ByteForm.{statementBytes}
 use Rattle.records.specs.Buffer.{Put, countLimit}
 use Rattle.records.proofs.Tail.{nothing}
-use Rattle.flags.specs.Flags.{flagAt}
-use Rattle.flags.proofs.Bits.{pow-pos}
+use Rattle.flags.proofs.Bits.{no-flag}
 use Rattle.statements.specs.Said.{flaggedFrom, flagged, memberFlag}
 use Rattle.statements.specs.Parts.{chosenStatements, membersSaid, typesSaid}
 use Rattle.statements.specs.declared.sections.Chosen.{Chosen}
@@ -21,9 +18,6 @@ use Rattle.statements.proofs.Elements.{statements-none}
 -- No statements: no bytes.
 pub unsaid : {statements : List Statement} {from : ℕ} (out : List ℕ) (letter : ℕ) → statements ≡ [] → from ≤ countLimit → Put out out (statementBytes letter statements) from from
 unsaid {from = from} out letter e h = rw (e, statements-none letter) (nothing out from h)
-
-no-flag : (i : ℕ) → flagAt 0 i ≡ false
-no-flag i = rw (div-eq-of-lt (pow-pos i))
 
 flagged-none : {A : Type 0} (i : ℕ) (xs : List A) → flaggedFrom 0 i xs ≡ []
 unfolding flaggedFrom

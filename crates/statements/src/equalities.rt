@@ -12,7 +12,7 @@ ghost use Rattle.definition.specs.Signature.{Signature};
 ghost use Rattle.definition.specs.Writer.{statementField, fieldBytes};
 ghost use Rattle.theory.proofs.ByteForm.{statementBytes};
 ghost use Rattle.records.specs.Buffer.{Put, countLimit};
-ghost use Rattle.rows.specs.Kernel.{Typed, TypesOf};
+ghost use Rattle.rows.specs.Kernel.{Typed, TypesOf, Merged};
 ghost use Rattle.rows.specs.Maps.{pairAt, pairsIn, MapIn};
 ghost use Rattle.naming.specs.Maps.{Joins};
 ghost use Rattle.naming.specs.Structures.{structureIn};
@@ -22,9 +22,9 @@ ghost use Rattle.statements.specs.Equalities.{varsOver, equalityOf, equa
 use crate::statement::Statement;
 use crate::statement::counted;
 use crate::statement::put_statement;
+use flags::flag;
 use records::fields::place;
 use records::fields::short;
-use rows::kernel::has_kernel_pairs;
 use rows::kernel::key_vars;
 use rows::maps::Map;
 use rows::maps::pair_image;
@@ -120,7 +120,7 @@ fn put_fiber(
     at
 }
 
-// Those of every element of the target, in the elements' order.
+// Those of every element of the target, in the elements' order; only one that is flagged is the image of several keys.
 fn put_kernel_pairs(
     out: &mut [u8],
     from: usize,
@@ -131,25 +131,30 @@ fn put_kernel_pairs(
     m: Map,
     vars: &[u16; FIELDS],
     types: &[u8],
+    merged: u64,
 ) -> usize
     requires { ⌜ from ≤ countLimit ⌝ }
     requires { ⌜ Stands (now s) (now index) tgt ⌝ }
     requires { ⌜ MapIn (now s) m ⌝ }
     requires { ⌜ Typed m (now vars) (length (now types)) ⌝ }
+    requires { ⌜ Merged merged (structureIn (now s) tgt) (pairsIn (now s) m) ⌝ }
     ensures { λ r. ⌜ Put (now (out .entry)) (now (out .exit)) (statementBytes letter (equalitiesOver (now (s .entry)) m (now (vars .entry)) (now (types .entry)) (numbersOf (structureIn (now (s .entry)) tgt)))) from r ⌝ }
 {
     let count = element_count(index, tgt);
     let mut at = from;
     let mut j: usize = 0;
     while j < count {
-        let e = element_number(s, index, tgt, j);
-        at = put_fiber(out, at, letter, s, m, vars, types, e);
+        if flag(merged, j) {
+            let e = element_number(s, index, tgt, j);
+            at = put_fiber(out, at, letter, s, m, vars, types, e);
+        }
         j += 1;
     }
     at
 }
 
-// An Equality for each kernel pair, by image; `row` has the variables of the source's elements, by their places.
+// An Equality for each kernel pair, by image; `row` has the variables of the source's elements, by their places, and `merged` flags the
+// images of several keys.
 pub fn put_equalities(
     out: &mut [u8],
     from: usize,
@@ -161,19 +166,17 @@ pub fn put_equalities(
     row: [u16; FIELDS],
     m: Map,
     types: &[u8],
+    merged: u64,
 ) -> usize
     requires { ⌜ from ≤ countLimit ⌝ }
     requires { ⌜ Stands (now s) (now index) src × Stands (now s) (now index) tgt ⌝ }
     requires { ⌜ MapIn (now s) m × Joins (now s) src tgt m ⌝ }
     requires { ⌜ GivenOut (structureIn (now s) src) row (length (now types)) ⌝ }
+    requires { ⌜ Merged merged (structureIn (now s) tgt) (pairsIn (now s) m) ⌝ }
     ensures { λ r. ⌜ ((sig : Signature) (table : List Variable) (target : Side) → TypesOf table (now (types .entry)) → target .structure ≡ structureIn (now (s .entry)) tgt
         → Put (now (out .entry)) (now (out .exit)) (statementBytes letter (definition.equalities sig table (sideIn (now (s .entry)) src row) target (pairsIn (now (s .entry)) m))) from r) ⌝ }
     ensures { λ r. ⌜ r ≤ countLimit ⌝ }
 {
-    // Without kernel pairs the keys' variables need not be looked up.
-    if !has_kernel_pairs(s, index, tgt, m) {
-        return from;
-    }
     let vars = key_vars(s, index, src, &row, m);
-    put_kernel_pairs(out, from, letter, s, index, tgt, m, &vars, types)
+    put_kernel_pairs(out, from, letter, s, index, tgt, m, &vars, types, merged)
 }

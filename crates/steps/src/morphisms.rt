@@ -12,7 +12,7 @@ ghost use Rattle.definition.specs.Rule.{If, Noop};
 ghost use Rattle.definition.specs.Signature.{Signature};
 ghost use Rattle.signature.specs.Index.{signatureAt, Indexed};
 ghost use Rattle.rule.specs.Elements.{countAt};
-ghost use Rattle.rows.specs.Kernel.{TypesOf};
+ghost use Rattle.rows.specs.Kernel.{TypesOf, Merged};
 ghost use Rattle.rows.specs.Maps as maps;
 ghost use Rattle.rows.specs.declared.maps.Map as declared_maps;
 ghost use Rattle.naming.specs.Maps.{Joins};
@@ -34,7 +34,6 @@ use crate::yielding::one_flag;
 use crate::yielding::yielding_row;
 use naming::variables::image_els;
 use rows::arguments::constrained_els;
-use rows::kernel::has_kernel_pairs;
 use rows::kernel::kernel_clash;
 use rows::kernel::key_vars;
 use rows::maps::Map;
@@ -49,7 +48,8 @@ use signature::ids::Counts;
 use signature::ids::INDEX;
 use statements::masks::Masks;
 
-// 25: do two variables of a kernel pair differ in type? Most maps have no kernel pairs, so this is asked before variables are looked up.
+// 25: do two variables of a kernel pair differ in type? Most maps have no kernel pairs: no image of several keys is flagged, and no
+// variable is looked up.
 fn clashes(
     s: &[u8],
     index: &[u16; RULE_INDEX],
@@ -58,14 +58,16 @@ fn clashes(
     m: Map,
     source: [u16; FIELDS],
     types: &[u8],
+    merged: u64,
 ) -> bool
     requires { ⌜ Between (now s) (now index) src tgt m ⌝ }
     requires { ⌜ Joins (now s) src tgt m ⌝ }
     requires { ⌜ GivenOut (structureIn (now s) src) source (length (now types)) ⌝ }
+    requires { ⌜ Merged merged (structureIn (now s) tgt) (maps.pairsIn (now s) m) ⌝ }
     ensures { λ r. ⌜ ((sig : Signature) (table : List Variable) (target : List ℕ) → TypesOf table (now (types .entry))
         → r ≡ kernelClashes sig table (sideIn (now (s .entry)) src source) (sideIn (now (s .entry)) tgt target) (maps.pairsIn (now (s .entry)) m)) ⌝ }
 {
-    if !has_kernel_pairs(s, index, tgt, m) {
+    if merged == 0 {
         return false;
     }
     let vars = key_vars(s, index, src, &source, m);
@@ -81,15 +83,17 @@ fn new_masks(
     m: Map,
     source: [u16; FIELDS],
     types: &[u8],
+    merged: u64,
     marks: [bool; ROWS],
 ) -> Step
     requires { ⌜ Between (now s) (now index) src tgt m ⌝ }
     requires { ⌜ Joins (now s) src tgt m ⌝ }
     requires { ⌜ GivenOut (structureIn (now s) src) source (length (now types)) ⌝ }
+    requires { ⌜ Merged merged (structureIn (now s) tgt) (maps.pairsIn (now s) m) ⌝ }
     ensures { λ r. ⌜ ((sig : Signature) (table : List Variable) (target : List ℕ) → TypesOf table (now (types .entry))
         → MasksFor sig table (now (s .entry)) src tgt m source target (now (index .entry)) marks r) ⌝ }
 {
-    if clashes(s, index, src, tgt, m, source, types) {
+    if clashes(s, index, src, tgt, m, source, types, merged) {
         return Step::Refused(25);
     }
     added_rows(s, index, src, tgt, m, marks)
@@ -110,10 +114,12 @@ pub fn flatten_if_arbitrary(
     target: [u16; FIELDS],
     first: u16,
     types: &[u8],
+    merged: u64,
 ) -> Step
     requires { ⌜ Indexed (now sig) (now arities) counts ⌝ }
     requires { ⌜ Reaches (signatureAt (now sig) (now arities) counts) (now s) (now index) src tgt m source target first ⌝ }
     requires { ⌜ GivenOut (structureIn (now s) src) source (length (now types)) ⌝ }
+    requires { ⌜ Merged merged (structureIn (now s) tgt) (maps.pairsIn (now s) m) ⌝ }
     ensures { λ r. ⌜ ((table : List Variable) → TypesOf table (now (types .entry))
         → IfDoes (signatureAt (now (sig .entry)) (now (arities .entry)) counts) table (now (s .entry)) src tgt m source target If r
         × IfDoes (signatureAt (now (sig .entry)) (now (arities .entry)) counts) table (now (s .entry)) src tgt m source target Noop r) ⌝ }
@@ -123,7 +129,7 @@ pub fn flatten_if_arbitrary(
     let funcs = bound(index, section + 1);
     let end = bound(index, section + 2);
     let marks = constrained_els(sig, arities, counts, s, index, tgt, preds, funcs, end);
-    let step = new_masks(s, index, src, tgt, m, source, types, marks);
+    let step = new_masks(s, index, src, tgt, m, source, types, merged, marks);
     let Step::Adds(masks) = step else {
         return step;
     };
@@ -149,13 +155,15 @@ pub fn flatten_surj_then(
     target: [u16; FIELDS],
     first: u16,
     types: &[u8],
+    merged: u64,
 ) -> Step
     requires { ⌜ Reaches (signatureAt (now sig) (now arities) counts) (now s) (now index) src tgt m source target first ⌝ }
     requires { ⌜ GivenOut (structureIn (now s) src) source (length (now types)) ⌝ }
+    requires { ⌜ Merged merged (structureIn (now s) tgt) (maps.pairsIn (now s) m) ⌝ }
     ensures { λ r. ⌜ ((table : List Variable) → TypesOf table (now (types .entry))
         → SurjDoes (signatureAt (now (sig .entry)) (now (arities .entry)) counts) table (now (s .entry)) src tgt m source target r) ⌝ }
 {
-    let step = new_masks(s, index, src, tgt, m, source, types, [false; ROWS]);
+    let step = new_masks(s, index, src, tgt, m, source, types, merged, [false; ROWS]);
     let Step::Adds(masks) = step else {
         return step;
     };

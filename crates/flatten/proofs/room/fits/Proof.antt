@@ -9,7 +9,9 @@ use Rattle.flatten.proofs.output.put_group.Reads as put-group-reads
 use Rattle.flatten.proofs.room.surely_fits.Reads as surely-fits-reads
 
 surely-fits-requires : tie.Need-surely-fits-requires
-surely-fits-requires c κs = search needs
+surely-fits-requires c κs =
+    let p = c .before .pre in let g = p .1 .ground in let f = g .few in let n = p .0 .0 in
+    (g .short, omega arith, record { few = omega arith; each-one = λ k h. g .sounds k (omega arith) .laid .elements .elements .few })
 
 returns : tie.Need-returns
 returns c = λ e. surely e (c .before .before .before .pre .0 .0) (c .before .surely-fits .ensures (c .if1 .taken))

@@ -5,27 +5,18 @@ use borrow.Author.Needs.{needs}
 use native.Mathlib.Omega.{arith}
 use Rattle.flatten.proofs.room.surely_fits.Statement.{statement}
 use Rattle.flatten.proofs.room.surely_fits.Tie as tie
-use Rattle.flatten.proofs.room.surely_fits.Reads as reads
-use Rattle.flatten.proofs.room.surely_fits.Lts as lts
-use Rattle.flatten.proofs.room.group_most.Reads as group-most-reads
-use Rattle.flatten.proofs.room.most_elements.Reads as most-elements-reads
-use Rattle.flatten.proofs.room.merges.Reads as merges-reads
 
 most-elements-requires : tie.Need-most-elements-requires
-most-elements-requires c κs =
-    let p = c .before .pre in let g = p .1 .ended .ground in let f = g .few in let n = p .0 in
-    (omega arith, record { few = omega arith; each-one = λ k h. g .sounds k (omega arith) .laid .elements .elements .few })
+most-elements-requires c κs = let p = c .before .pre in (p .1, p .2)
 
 group-most-requires : tie.Need-group-most-requires
-group-most-requires c κs =
-    let p = c .before .before .pre in let g = p .1 .ended .ground in let f = g .few in let l = g .short in let n = p .0 in
-    let m = c .most-elements .ensures .few in search needs
+group-most-requires c κs = let p = c .before .before .pre in (p .0, c .most-elements .ensures .few, p .1)
 
 returns : tie.Need-returns
 returns c = λ z. let y : _≡_ {A = ℕ} 0 1 = cc in absurd (omega arith)
 
 merges-requires : tie.Need-merges-requires
-merges-requires c κs = search needs
+merges-requires c κs = c .before .before .before .before .pre .1
 
 returns-2 : tie.Need-returns-2
 returns-2 c = λ z. let l = c .before .if1 .left in record {

@@ -2,6 +2,7 @@ use mathlib.Core.Path.{refl}
 use Rattle.signature.specs.Index.{signatureAt}
 use Rattle.flatten.specs.Tables.{tables}
 use Rattle.flatten.specs.Went.{GoingFrom}
+use Rattle.naming.proofs.Placed.{numbers-are}
 use Rattle.flatten.proofs.Grounds.{byte-types}
 use Rattle.flatten.proofs.Numbers.{count-small, fresh-room}
 use Rattle.flatten.proofs.Walkable.{Walkable, map-at}
@@ -16,6 +17,7 @@ use Rattle.flatten.proofs.walk.flatten_map.Reads as flatten-map-reads
 use Rattle.flatten.proofs.walk.number.Reads as number-reads
 use Rattle.kinds.proofs.maps.map_between.Reads as map-between-reads
 use Rattle.naming.proofs.assign.assign_el_vars.Reads as assign-el-vars-reads
+use Rattle.rows.proofs.kernel.merged_els.Reads as merged-els-reads
 use Rattle.naming.proofs.types.type_variables.Reads as type-variables-reads
 use Rattle.naming.proofs.variables.fresh.Reads as fresh-reads
 use Rattle.rule.proofs.elements.element_count.Reads as element-count-reads
@@ -25,7 +27,7 @@ abbrev S : tie.After-enum-told → tie.Start
 S c = c .before .before .before .before .before .before
 
 abbrev T : tie.After-type-variables-arg → tie.After-enum-told
-T c = c .before .before .before .before .before .before .before .before .before
+T c = c .before .before .before .before .before .before .before .before .before .before
 
 -- Behind `ends` the map can be walked.
 abbrev From : tie.Start → Type 0
@@ -63,11 +65,15 @@ assign-el-vars-requires c κs =
     let e = c .before .before in let o = can e (here e) in
     ((source-laid o, target-laid o), (c .before .map-between .ensures .1, (given-read o (here e .row), room o)))
 
+merged-els-requires : tie.Need-merged-els-requires
+merged-els-requires c κs =
+    let m = c .before .before in let l = target-laid (can (m .before) (here (m .before))) in (m .map-between .ensures .1 .0, (l .few, l .elements .elements))
+
 flatten-map-requires : tie.Need-flatten-map-requires
 flatten-map-requires c κs =
-    let e = c .before .assign-el-vars .ensures in let m = c .before .before .before in let g = here (m .before) in
+    let e = c .before .before .assign-el-vars .ensures in let m = c .before .before .before .before in let g = here (m .before) in
     let o = can (m .before) g in let p = map-at (m .map-between .ensures) in
-    (S (m .before) .pre .1 .0 .0, (reaches o p (g .row) e, typed-read o p (g .row) e))
+    (S (m .before) .pre .1 .0 .0, (reaches o p (g .row) e, (typed-read o p (g .row) e, c .before .merged-els .ensures _ (numbers-are (target-laid o)) (p .joins .images))))
 
 enum-known-r : tie.Need-enum-known-r
 enum-known-r c = search needs
@@ -80,7 +86,7 @@ number-requires c κs = search needs
 
 returns-2 : tie.Need-returns-2
 returns-2 c =
-    let f = c .before .before .before in let a = f .before .before in let m = a .before .before in
+    let f = c .before .before .before in let a = f .before .before .before in let m = a .before .before in
     λ g. went-refused (can (m .before) g) (map-at (m .map-between .ensures)) (g .row) (a .assign-el-vars .ensures)
       (f .flatten-map .ensures) (c .before .enum-told3 .given .1) (c .number .ensures)
 
@@ -93,8 +99,8 @@ cast-sources c = let h = S (T (c .before)) .pre .0 in search needs
 element-write-sources : tie.Need-element-write-sources
 element-write-sources c = let h = S (T (c .before)) .pre .0 in search needs
 
-mul-t30 : tie.Need-mul-t30
-mul-t30 c = let h = S (T (c .before)) .pre .0 in search needs
+mul-t31 : tie.Need-mul-t31
+mul-t31 c = let h = S (T (c .before)) .pre .0 in search needs
 
 element-set-from-masks : tie.Need-element-set-from-masks
 element-set-from-masks c = let h = S (T (c .before)) .pre .0 in search needs
@@ -112,9 +118,10 @@ add-next c =
 
 returns-3 : tie.Need-returns-3
 returns-3 c =
-    let r = c .before .before .before .before .before in let f = r .before .before in let a = f .before .before in let m = a .before .before in
-    λ g. went-on (can (m .before) g) (map-at (m .map-between .ensures)) (g .row) (a .assign-el-vars .ensures)
-      (f .flatten-map .ensures) (r .r .given .1) (c .fresh .ensures) (c .before .element-count .ensures) (c .before .before .type-variables .ensures) refl refl refl refl
+    let r = c .before .before .before .before .before in let f = r .before .before in let l = f .before .before in let a = l .before in let m = a .before .before in
+    λ g. let o = can (m .before) g in let p = map-at (m .map-between .ensures) in went-on o p (g .row) (a .assign-el-vars .ensures)
+      (f .flatten-map .ensures) (r .r .given .1) (c .fresh .ensures) (c .before .element-count .ensures) (c .before .before .type-variables .ensures) refl refl
+      (l .merged-els .ensures _ (numbers-are (target-laid o)) (p .joins .images)) refl refl
 
 pub walk-map-spec : {M : Type 1} → statement M
 walk-map-spec =
@@ -126,6 +133,7 @@ walk-map-spec =
     returns
     map-between-requires
     assign-el-vars-requires
+    merged-els-requires
     flatten-map-requires
     enum-known-r
     enum-told-3
@@ -134,7 +142,7 @@ walk-map-spec =
     type-variables-requires
     cast-sources
     element-write-sources
-    mul-t30
+    mul-t31
     element-set-from-masks
     element-count-requires
     fresh-requires

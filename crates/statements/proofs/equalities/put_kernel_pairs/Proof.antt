@@ -1,19 +1,23 @@
-use Rattle.statements.proofs.Fibers.{overBytes, els-on, els-end, over-all}
+use Rattle.statements.proofs.Fibers.{overBytes, els-on, els-pass, els-end, over-all, place-in-numbers}
+use Rattle.rows.proofs.Several.{unflagged}
 use Rattle.naming.proofs.Placed.{at-count}
 use Rattle.naming.specs.Structures.{structureIn}
-use Rattle.records.proofs.Tail.{Writing, begin, wrote, finish}
+use Rattle.records.proofs.Tail.{Writing, begin, wrote, passed, finish}
 use Rattle.definition.specs.Names.{numbersOf}
+use mathlib.Core.Logic.{⊎-elim}
+use mathlib.Core.Path.{sym, _∙_}
 use lib.ListN.{drop}
 use Prim.Native.Nat.{_-_, _≤_}
 use borrow.Author.Needs.{needs}
+use native.Mathlib.Omega.{arith}
 use Rattle.statements.proofs.equalities.put_kernel_pairs.Statement.{statement}
 use Rattle.statements.proofs.equalities.put_kernel_pairs.Tie as tie
 
 abbrev Inv-loop : tie.InvT-loop
-Inv-loop out₀ from letter s index tgt m vars types count at₀ j₀ out at j = (j ≤ count) × Writing out₀ out from at (overBytes letter s m vars types (numbersOf (structureIn s tgt))) (overBytes letter s m vars types (drop j (numbersOf (structureIn s tgt))))
+Inv-loop out₀ from letter s index tgt m vars types merged count at₀ j₀ out at j = (j ≤ count) × Writing out₀ out from at (overBytes letter s m vars types (numbersOf (structureIn s tgt))) (overBytes letter s m vars types (drop j (numbersOf (structureIn s tgt))))
 
 abbrev μ-loop : tie.MeasureT-loop
-μ-loop out₀ from letter s index tgt m vars types count at₀ j₀ out at j = count - j
+μ-loop out₀ from letter s index tgt m vars types merged count at₀ j₀ out at j = count - j
 
 element-count-requires : tie.Need-element-count-requires Inv-loop μ-loop
 element-count-requires c κs = c .before .before .before .pre .1 .0 .at .laid .few
@@ -21,11 +25,14 @@ element-count-requires c κs = c .before .before .before .pre .1 .0 .at .laid .f
 loop-holds : tie.Need-loop-holds Inv-loop μ-loop
 loop-holds c = (search needs, begin _ _ (search needs))
 
+flag-requires : tie.Need-flag-requires Inv-loop μ-loop
+flag-requires c κs = let f = c .before .before .before .before .before .before .pre .1 .0 .at .laid .elements .elements .few in let e = c .before .before .element-count .ensures in let l = c .loop-test .taken in omega arith
+
 element-number-requires : tie.Need-element-number-requires Inv-loop μ-loop
-element-number-requires c κs = ((c .before .before .before .before .before .before .pre .1 .0 .at .laid .few, at-count (c .before .before .before .before .before .before .pre .1 .0 .at .laid) (c .before .before .element-count .ensures) (c .loop-test .taken)), c .before .before .before .before .before .before .pre .1 .0 .at .laid .elements .elements)
+element-number-requires c κs = ((c .before .before .before .before .before .before .before .before .pre .1 .0 .at .laid .few, at-count (c .before .before .before .before .before .before .before .before .pre .1 .0 .at .laid) (c .before .before .before .before .element-count .ensures) (c .before .before .loop-test .taken)), c .before .before .before .before .before .before .before .before .pre .1 .0 .at .laid .elements .elements)
 
 put-fiber-requires : tie.Need-put-fiber-requires Inv-loop μ-loop
-put-fiber-requires c κs = (search needs, c .before .before .before .before .before .before .before .before .pre .1 .1)
+put-fiber-requires c κs = (search needs, (c .before .before .before .before .before .before .before .before .before .before .pre .1 .1 .0, c .before .before .before .before .before .before .before .before .before .before .pre .1 .1 .1 .0))
 
 add-j : tie.Need-add-j Inv-loop μ-loop
 add-j c = search needs
@@ -34,7 +41,7 @@ loop-less : tie.Need-loop-less Inv-loop μ-loop
 loop-less c = search needs
 
 loop-again : tie.Need-loop-again Inv-loop μ-loop
-loop-again c = (search needs, wrote (c .before .before .before .before .before .before .loop .inv .1) (els-on _ _ (c .before .before .before .before .before .before .before .before .before .before .before .pre .1 .0 .at .laid) _ _ (c .before .before .before .before .before .before .before .element-count .ensures) (c .before .before .before .before .before .loop-test .taken) (c .before .before .before .before .element-number .ensures)) (c .before .before .put-fiber .ensures))
+loop-again c = ⊎-elim (λ w. (search needs, rw (w .6, w .7) (wrote (c .before .before .before .loop .inv .1) (els-on _ _ (c .before .before .before .before .before .before .before .before .pre .1 .0 .at .laid) _ _ (c .before .before .before .before .element-count .ensures) (c .before .before .loop-test .taken) (w .1 .ensures)) (w .3 .ensures)))) (λ w. (search needs, rw (w .1, w .2) (passed (c .before .before .before .loop .inv .1) (els-pass _ _ (c .before .before .before .before .before .before .before .before .pre .1 .0 .at .laid) _ _ (c .before .before .before .before .element-count .ensures) (c .before .before .loop-test .taken) (c .before .before .before .before .before .before .before .before .pre .1 .1 .0) (unflagged (c .before .before .before .before .before .before .before .before .pre .1 .1 .1 .1) _ (place-in-numbers (c .before .before .before .before .before .before .before .before .pre .1 .0 .at .laid) (c .before .before .before .before .element-count .ensures) (c .before .before .loop-test .taken)) (sym (c .before .flag .ensures) ∙ w .0 .left)))))) (c .if1 .came)
 
 same-length : tie.Need-same-length Inv-loop μ-loop
 same-length c = c .before .loop .inv .1 .put .long
@@ -50,6 +57,7 @@ put-kernel-pairs-spec =
     μ-loop
     element-count-requires
     loop-holds
+    flag-requires
     element-number-requires
     put-fiber-requires
     add-j
