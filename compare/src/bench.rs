@@ -91,6 +91,14 @@ pub fn report() -> Result<String, String> {
         ("12 elements sent to one", records::merged(12, 1)),
         ("38 elements sent to one", records::merged(38, 1)),
         ("64 elements sent to one thrice", records::merged(64, 3)),
+        (
+            "8 structures, from 12 elements to 5",
+            records::shrunk(8, 12),
+        ),
+        (
+            "32 structures, from 64 elements to 33",
+            records::shrunk(32, 64),
+        ),
     ] {
         report += &of_flatten(&signature, title, &rule)?;
     }

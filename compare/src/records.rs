@@ -122,3 +122,21 @@ pub fn merged(elements: u16, targets: u16) -> Vec<u8> {
     let sizes = std::iter::once(elements).chain(maps.iter().map(|_| 1));
     walked(sizes.map(|size| related(size, std::iter::empty())), &maps)
 }
+
+/// Structures one after another, SurjThen and If in turn, each with an element fewer than the one before, whose last two are sent to its
+/// last: each map has a kernel pair, and each premise an Equality for each If before it.
+pub fn shrunk(structures: u16, elements: u16) -> Vec<u8> {
+    let maps: Vec<Walked> = (1..structures)
+        .map(|k| {
+            let last = elements - k - 1;
+            Walked {
+                source: k - 1,
+                target: k,
+                pairs: (0..=last + 1).flat_map(|e| [e, e.min(last)]).collect(),
+                kind: u8::from(k % 2 == 1),
+            }
+        })
+        .collect();
+    let structure = |k| related(elements - k, std::iter::empty());
+    walked((0..structures).map(structure), &maps)
+}

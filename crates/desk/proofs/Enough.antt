@@ -3,7 +3,7 @@ use mathlib.Core.List.{List, [], _∷_}
 use mathlib.Core.Path.{_≡_, refl, sym, _∙_}
 use mathlib.Core.Bool.{Bool, true, false}
 use lib.Dec.{leb}
-use Prim.Native.Nat.{ℕ, _+_, _*_, _-_, _≤_, _<_}
+use Prim.Native.Nat.{ℕ, _+_, _*_, _≤_, _<_}
 use lib.ListN.{length, take, drop, length-drop}
 use lib.Seq.{take-all, take-take, length-take-le}
 use native.Mathlib.Omega.{arith}

@@ -6,21 +6,18 @@ use native.Mathlib.Nat.{mul-le-mul, suc-mul}
 use mathlib.Core.Bool.{Bool, true, false}
 use mathlib.Core.Option.{Option, none, some}
 use mathlib.Core.List.{List, [], _∷_, _++_, append-nil}
-use mathlib.Core.Path.{_≡_, refl, ap, sym, _∙_}
+use mathlib.Core.Path.{_≡_, refl, sym}
 use lib.Dec.{eqb, ltb}
 use lib.ListN.{length, getD, length-append}
 use Rattle.definition.specs.Base.{pick, each, joined}
 use Rattle.definition.specs.Flatten.{groupLeft}
-use Rattle.definition.specs.Group.{Variable, Statement, FlatRule}
-use Rattle.definition.specs.Kinds.{Emitted, equalities, kernelVariables}
-use Rattle.definition.specs.Letters.{letterG, letterU, letterB, letterH, underscore}
+use Rattle.definition.specs.Group.{Statement}
+use Rattle.definition.specs.Letters.{letterB, letterH}
 use Rattle.definition.specs.Limits as limits
-use Rattle.definition.specs.Limits.{structureLimit, fieldLimit}
-use Rattle.definition.specs.Names.{decimal}
-use Rattle.definition.specs.Rows.{kernelPairs}
+use Rattle.definition.specs.Limits.{parentLimit, structureLimit, fieldLimit}
 use Rattle.definition.specs.Rule.{MorphismKind, If, SurjThen, NonSurjThen, Noop}
 use Rattle.definition.specs.Walk.{groupName, namedRules}
-use Rattle.definition.specs.Writer.{fieldBytes, recordBytes, variableField, flatRuleFields, groupBytesOf}
+use Rattle.definition.specs.Writer.{fieldBytes, recordBytes, variableField, groupBytesOf}
 use Rattle.theory.proofs.Lists.{each-append, joined-append}
 use Rattle.theory.proofs.StepForm.{emitted}
 use Rattle.theory.proofs.ByteForm.{statementBytes, statements-append, record-append, rule-bytes, group-bytes, named-append}
@@ -31,11 +28,13 @@ use Rattle.naming.specs.Variables.{variablesIn, newIn}
 use Rattle.naming.proofs.Lengths.{news-short, rule-name-short}
 use Rattle.naming.proofs.Printing.{group-short}
 use Rattle.statements.proofs.Elements.{statements-none}
-use Rattle.statements.proofs.Lengths.{said-short, domains-short}
+use Rattle.naming.proofs.Placed.{elements-are, numbers-rise}
+use Rattle.statements.specs.Structures.{sideIn}
+use Rattle.statements.proofs.Lengths.{said-short, domains-short, equalities-short}
 use Rattle.flatten.specs.Tables.{Tables, unreached, sourceAt, rowAt, pairsOn, ownBy, concludedBy, reachedBy, equalitiesAt, saidAt, domainsAt, masksAt, ownAt, concludedAt, statementsAt, before, newsTo, emittedTo}
 use Rattle.flatten.specs.Ended.{Ended, Reaching}
-use Rattle.flatten.specs.Room.{nameMost, newsMost, saidMost, ruleMost, groupMost, Most, Unmerged}
-use Rattle.flatten.proofs.Premises.{reached-behind, those-before, unmerged-none, source-is, source-reaching, source-below, stands-at, statements-are}
+use Rattle.flatten.specs.Room.{newsMost, saidMost, ruleMost, groupMost, Most}
+use Rattle.flatten.proofs.Premises.{reached-behind, those-before, pairs-in, source-is, source-reaching, source-below, stands-at, statements-are}
 use Rattle.flatten.proofs.Rules.{ruleBytes, rulesTo, rules-pass, rules-more}
 
 -- No sum passes the largest number.
@@ -46,17 +45,20 @@ module _ {len els n : ℕ} (l : len ≤ limits.ruleBytes) (f : els ≤ fieldLimi
       news-few : newsMost els ≤ newsMost fieldLimit
       news-few = omega arith
 
+  pub squares-small : els * els ≤ fieldLimit * fieldLimit
+  squares-small = mul-le-mul f f
+
   pub said-small : n * saidMost len els ≤ structureLimit * saidMost limits.ruleBytes fieldLimit
   said-small = mul-le-mul m said-few
     where
       said-few : saidMost len els ≤ saidMost limits.ruleBytes fieldLimit
-      said-few = omega arith
+      said-few = omega (arith, squares-small)
 
   pub rules-small : n * ruleMost len els n ≤ structureLimit * ruleMost limits.ruleBytes fieldLimit structureLimit
   rules-small = mul-le-mul m rule-few
     where
       rule-few : ruleMost len els n ≤ ruleMost limits.ruleBytes fieldLimit structureLimit
-      rule-few = omega (arith, said-small)
+      rule-few = omega (arith, said-small, squares-small)
 
 -- The most elements of the first structures, and of one more.
 pub most-none : (index : List ℕ) → Most index 0 0
@@ -76,9 +78,8 @@ field-length : (letter : ℕ) (name : List ℕ) → length (fieldBytes (record {
 unfolding fieldBytes
 field-length letter name = omega arith
 
--- At the end of a walk in which no map merged elements.
-module _ {s index types : List ℕ} {kinds : List (List ℕ)} {tb : Tables} (e : Ended s index types kinds tb)
-    (w : Unmerged (tb .masks) (length (ruleAt s .structures))) {els : ℕ} (f : Most index (length (ruleAt s .structures)) els) where
+-- At the end of a walk.
+module _ {s index types : List ℕ} {kinds : List (List ℕ)} {tb : Tables} (e : Ended s index types kinds tb) {els : ℕ} (f : Most index (length (ruleAt s .structures)) els) where
   abbrev all : ℕ
   all = length (ruleAt s .structures)
 
@@ -90,19 +91,32 @@ module _ {s index types : List ℕ} {kinds : List (List ℕ)} {tb : Tables} (e :
     abbrev eqs : List Statement
     eqs = equalitiesAt (e .sig) (e .state .variables) s tb t
 
-    said-few : (letter : ℕ) → length (statementBytes letter (saidAt s tb t)) ≤ most
+    said-only : (letter : ℕ) → length (statementBytes letter (saidAt s tb t)) ≤ 2 * length s + (16 + 2 * parentLimit) * els
     unfolding saidAt
-    said-few letter = let c = f .each-one t (x .inside) in omega (arith, said-short (stands-at e x) letter (variablesIn (structureIn s t) (rowAt tb t)) (masksAt tb t))
+    said-only letter = let c = f .each-one t (x .inside) in omega (arith, said-short (stands-at e x) letter (variablesIn (structureIn s t) (rowAt tb t)) (masksAt tb t))
+
+    said-few : (letter : ℕ) → length (statementBytes letter (saidAt s tb t)) ≤ most
+    said-few letter = omega (arith, said-only letter)
 
     domains-few : length (statementBytes letterH (domainsAt s tb t)) ≤ most
     unfolding domainsAt
     domains-few = let c = f .each-one t (x .inside) in omega (arith, domains-short (stands-at e x) letterH (variablesIn (structureIn s t) (rowAt tb t)) (masksAt tb t .funcs))
 
-    eqs-none : {k : MorphismKind} → reachedBy s tb t ≡ some k → eqs ≡ []
-    eqs-none {k} q = let l = reached-behind s tb t k q in unmerged-none e x l (w .none t l (x .inside))
+    pairs-most : {k : MorphismKind} → reachedBy s tb t ≡ some k → length (pairsOn s (sourceAt tb t) t) ≤ els
+    pairs-most {k} q =
+        let g = source-reaching e x (sym (source-is e x)) in
+        let a = pairs-in e x (reached-behind s tb t k q) in let b = elements-are (stands-at e g .at .laid) in
+        omega (arith, f .each-one (sourceAt tb t) (g .inside))
+
+    eqs-few : {k : MorphismKind} (letter : ℕ) → reachedBy s tb t ≡ some k → length (statementBytes letter eqs) ≤ 5 * (els * els)
+    unfolding equalitiesAt
+    eqs-few letter q =
+        let a = equalities-short letter (e .sig) (e .state .variables) (sideIn s (sourceAt tb t) (rowAt tb (sourceAt tb t))) (sideIn s t (rowAt tb t)) (pairsOn s (sourceAt tb t) t)
+              (numbers-rise (stands-at e x .at .laid)) in
+        let b = pairs-most q in omega (arith, mul-le-mul b b)
 
     both-few : {k : MorphismKind} (letter : ℕ) → reachedBy s tb t ≡ some k → length (statementBytes letter (eqs ++ saidAt s tb t)) ≤ most
-    both-few letter q = rw (eqs-none q) (said-few letter)
+    both-few letter q = rw (statements-append, length-append) (omega (arith, eqs-few letter q, said-only letter))
 
     own-few : length (statementBytes letterB (ownAt (e .sig) (e .state .variables) s tb t)) ≤ most
     unfolding ownAt ownBy

@@ -15,4 +15,3 @@ pub mod Groups
 pub mod Grounds
 pub mod Writing
 pub mod Lengths
-pub mod Merging

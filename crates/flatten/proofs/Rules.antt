@@ -8,7 +8,7 @@ use mathlib.Core.Option.{Option}
 use mathlib.Core.List.{List, [], _∷_, _++_, append-nil}
 use lib.Dec.{eqb, ltb}
 use lib.ListN.{length, getD, length-append}
-use borrow.Author.Tests.{lt-ltb, le-ltb, ne-eqb}
+use borrow.Author.Tests.{lt-ltb, le-ltb}
 use Rattle.definition.specs.Base.{pick, each, joined}
 use Rattle.definition.specs.Letters.{letterU, letterB, letterH, underscore}
 use Rattle.definition.specs.Limits.{structureLimit}

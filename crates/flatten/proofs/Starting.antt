@@ -180,6 +180,7 @@ module _ (sig : Signature) (s : List ℕ) (rows : FewRows (structureIn s 0)) (so
         variables = rw first-row (sym (take-row (numbered 0 (nothingTaken st)) long));
         given = rw (first-row, ← c) (numbered-given st (nothingTaken st) (nothing-below st) (length-nothing st));
         merged = λ h. absurd (omega arith);
+        pairs-few = λ h. absurd (omega arith);
         statements = rw (before-is, own-is);
       }
 

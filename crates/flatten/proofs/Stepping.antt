@@ -32,7 +32,8 @@ use Rattle.naming.specs.Maps.{takenOver}
 use Rattle.naming.proofs.Whole.{TakenBelow, take-row, length-numbered}
 use Rattle.naming.proofs.Carrying.{length-carried, taken-below}
 use Rattle.naming.proofs.News.{typesOf}
-use Rattle.naming.proofs.Placed.{length-numbers-of, element-few}
+use Rattle.naming.proofs.Placed.{length-numbers-of, numbers-rise, element-few}
+use Rattle.rows.proofs.KernelCount.{keys-few}
 use Rattle.naming.proofs.Reached.{new-row, types-more}
 use Rattle.statements.specs.Said.{saidBy, domainsBy}
 use Rattle.statements.specs.Structures.{sideIn}
@@ -216,6 +217,12 @@ module _ {sig : Signature} {s index : List ℕ} {tb : Tables} {types : List ℕ}
       counted : next + fresh taken ≡ length (state .variables ++ news)
       counted = let z = w .next-is in rw (length-append, count-news) (omega arith)
 
+      keys-in : length (pairsIn s m) ≤ length (structureIn s u .elements)
+      keys-in =
+          let l = o .ground .sounds u (o .met .source-in) .laid in
+          let a = keys-few (pairsIn s m) (numbersOf (structureIn s u)) (p .map-in .ascend) (numbers-rise l) (p .joins .keys .named) in
+          let b = length-numbers-of (structureIn s u) in omega arith
+
       new-one : Merged (getD ms 4 0) (structureIn s t) (pairsIn s m) → ReachedAt sig (state .variables ++ news) s more slots′ t after
       new-one g = record {
         source-in = rw source-is lower;
@@ -225,6 +232,7 @@ module _ {sig : Signature} {s index : List ℕ} {tb : Tables} {types : List ℕ}
         variables = rw row-is (sym (take-row (numbered next taken) (length-numbered next taken ∙ long)));
         given = rw (row-is, ← counted) (numbered-given (structureIn s t) taken below long);
         merged = λ h. rw (source-is, merged-is, ← (p .same)) g;
+        pairs-few = λ h. rw (source-is, ← (p .same)) keys-in;
         statements = rw (before-is, own-is);
       }
 

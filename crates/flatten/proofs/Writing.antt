@@ -38,9 +38,9 @@ use Rattle.flatten.specs.declared.entry.Flattened.the-variants.{Written,
 
 -- There is room: the group can't be longer, or it was measured.
 pub surely : {s index types sources : List ℕ} {kinds masks vars : List (List ℕ)} {n room : ℕ} (e : Ended s index types kinds (tables sources masks vars)) → n ≡ length (ruleAt s .structures)
-    → Sure s index masks n room → true ≡ leb (length (groupBytesOf (groupLeft (ruleAt s) (e .state)))) room
+    → Sure s index n room → true ≡ leb (length (groupBytesOf (groupLeft (ruleAt s) (e .state)))) room
 surely {s} {room = room} e m u =
-    let q = rw m at u in let f = group-few e (q .unmerged) (q .most) in let g = q .enough in
+    let q = rw m at u in let f = group-few e (q .most) in let g = q .enough in
     sym (le-leb (length (groupBytesOf (groupLeft (ruleAt s) (e .state)))) room (omega arith))
 
 pub measured : {none o p : List ℕ} {m room : ℕ} → Put none o p 0 m → room ≤ 65535 → leb m room ≡ leb (length p) room

@@ -2,9 +2,8 @@
 use mathlib.Core.List.{List}
 use mathlib.Core.Path.{_≡_}
 use Prim.Native.Nat.{ℕ, _≤_}
-use lib.Dec.{ltb}
 use lib.ListN.{length, take, drop}
-use Rattle.definition.specs.Base.{pick, Outcome, refused, accepted, onAccepted}
+use Rattle.definition.specs.Base.{Outcome, refused, accepted, onAccepted}
 use Rattle.definition.specs.Signature.{Signature, readSignature}
 use Rattle.definition.specs.Rule.{readRule}
 use Rattle.definition.specs.Walk.{State, walkOf}

@@ -1,6 +1,6 @@
 // Is there room for the group? That is settled before a byte of the lent buffer is written: by a bound where that is enough, else by
 // measuring.
-ghost use mathlib.Core.Bool.{true, false};
+ghost use mathlib.Core.Bool.{true};
 ghost use mathlib.Core.Path.{_≡_};
 ghost use Prim.Native.Nat.{_≤_};
 ghost use lib.Dec.{leb};
@@ -11,9 +11,8 @@ ghost use Rattle.definition.specs.Writer.{groupBytesOf};
 ghost use Rattle.rule.specs.Lookup.{ruleAt};
 ghost use Rattle.flatten.specs.Tables.{tables};
 ghost use Rattle.flatten.specs.Ended.{Ended};
-ghost use Rattle.flatten.specs.Room.{groupMost, Most, Unmerged, Sure};
+ghost use Rattle.flatten.specs.Room.{groupMost, Most, Sure};
 use crate::output::put_group;
-use crate::tables::MERGED;
 use crate::tables::SORTS;
 use naming::variables::VARIABLES;
 use rule::elements::element_count;
@@ -35,6 +34,9 @@ const NEW_MOST: usize = 5 + NAME_BYTES + DIGITS;
 // What a structure says of an element has at most so many: a TypeSet, and a member row with its parents.
 const ELEMENT_MOST: usize = 16 + 2 * PARENTS;
 
+// Of so many elements there are at most half as many pairs as their number squared, and for each an Equality of 10 bytes.
+const PAIR_MOST: usize = 5;
+
 // The most elements that one of so many structures has.
 fn most_elements(index: &[u16; RULE_INDEX], n: usize) -> usize
     requires { ⌜ (n ≤ structureLimit) × Most (now index) n fieldLimit ⌝ }
@@ -52,30 +54,14 @@ fn most_elements(index: &[u16; RULE_INDEX], n: usize) -> usize
     most
 }
 
-// Where no map merges elements, a group has at most so many bytes: the names, the variables, and in each rule what structures say. The
-// statement of a row is no longer than two of its fields.
+// A group has at most so many bytes: the names, the variables, and in each rule what structures say. The statement of a row is no longer
+// than two of its fields.
 fn group_most(len: usize, els: usize, n: usize) -> usize
     requires { ⌜ (len ≤ ruleBytes) × (els ≤ fieldLimit) × (n ≤ structureLimit) ⌝ }
     ensures { λ r. ⌜ r ≡ groupMost len els n ⌝ }
 {
-    let said = 2 * len + ELEMENT_MOST * els;
+    let said = 2 * len + ELEMENT_MOST * els + PAIR_MOST * (els * els);
     NAME_MOST + n * (NEW_MOST * els) + n * (NAME_MOST + n * said + said)
-}
-
-// Does a map merge elements, one by which a structure was reached?
-fn merges(masks: &[[u64; SORTS]; STRUCTURES], n: usize) -> bool
-    requires { ⌜ n ≤ structureLimit ⌝ }
-    ensures { λ r. ⌜ (r ≡ false → Unmerged (now (masks .entry)) n) ⌝ }
-{
-    let mut t: usize = 1;
-    while t < n {
-        let row = masks[t];
-        if row[MERGED] != 0 {
-            return true;
-        }
-        t += 1;
-    }
-    false
 }
 
 // Does every group fit that a rule of such a length can give? Small rules need not be measured.
@@ -83,17 +69,13 @@ fn surely_fits(
     s: &[u8],
     index: &[u16; RULE_INDEX],
     n: usize,
-    masks: &[[u64; SORTS]; STRUCTURES],
     room: usize,
 ) -> bool
     requires { ⌜ (length (now s) ≤ ruleBytes) × (n ≤ structureLimit) × Most (now index) n fieldLimit ⌝ }
-    ensures { λ r. ⌜ (r ≡ true → Sure (now (s .entry)) (now (index .entry)) (now (masks .entry)) n room) ⌝ }
+    ensures { λ r. ⌜ (r ≡ true → Sure (now (s .entry)) (now (index .entry)) n room) ⌝ }
 {
     let els = most_elements(index, n);
-    if room < group_most(s.len(), els, n) {
-        return false;
-    }
-    !merges(masks, n)
+    group_most(s.len(), els, n) <= room
 }
 
 // Does the group fit? It is measured where it must be, in a buffer without a byte.
@@ -113,7 +95,7 @@ pub fn fits(
     ensures { λ r. ⌜ ((e : Ended (now (s .entry)) (now (index .entry)) (now (types .entry)) (now (kinds .entry)) (tables (now (sources .entry)) (now (masks .entry)) (now (vars .entry))))
         → r ≡ leb (length (groupBytesOf (groupLeft (ruleAt (now (s .entry))) (e .state)))) room) ⌝ }
 {
-    if surely_fits(s, index, n, masks, room) {
+    if surely_fits(s, index, n, room) {
         return true;
     }
     let mut nothing = [0u8; 0];

@@ -1,5 +1,5 @@
 -- Loops along a row of variables: what is left at an index, and a turn of each.
-use Prim.Native.Nat.{ℕ, suc, _+_, _-_, _≤_, _<_}
+use Prim.Native.Nat.{ℕ, suc, _+_, _≤_, _<_}
 use native.Mathlib.Omega.{arith}
 use native.Mathlib.Nat.{add-zero, zero-add}
 use native.Mathlib.Numerals.{add-one}

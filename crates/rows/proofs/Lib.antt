@@ -2,6 +2,7 @@
 pub mod MapLaws
 pub mod KernelLaws
 pub mod Several
+pub mod KernelCount
 pub mod Ascending
 pub mod Parts
 pub mod Sections

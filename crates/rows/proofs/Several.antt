@@ -3,7 +3,6 @@
 use Prim.Native.Nat.{ℕ, zero, suc, _+_, _≤_, _<_}
 use native.Mathlib.Omega.{arith}
 use native.Mathlib.Decide.{ℕ-discrete}
-use native.Mathlib.Numerals.{add-one}
 use mathlib.Core.Bool.{Bool, true, false, not, _&&_, _||_}
 use mathlib.Core.List.{List, [], _∷_, _++_, append-nil}
 use mathlib.Core.Logic.{⊎-elim}
@@ -25,7 +24,7 @@ use Rattle.definition.specs.Signature.{Signature}
 use Rattle.records.proofs.Lists.{keep-append}
 use Rattle.theory.proofs.Lists.{never, has-mem, mem-has, each-append, trichotomy}
 use Rattle.theory.proofs.Numbering.{place-in}
-use Rattle.rule.specs.Elements.{countAt, elementNumbers, Elements, Finds}
+use Rattle.rule.specs.Elements.{elementNumbers, Elements, Finds}
 use Rattle.rule.specs.declared.elements.Found.the-variants.{At, Nothing}
 use Rattle.rule.proofs.Finding.{numbers-length}
 use Rattle.rows.specs.Arguments.{Marks}

@@ -1,5 +1,5 @@
 -- The E fields of a structure: what the index holds while their positions are stored.
-use Prim.Native.Nat.{ℕ, _+_, _-_, _*_, _≤_, _<_}
+use Prim.Native.Nat.{ℕ, _+_, _*_, _≤_, _<_}
 use native.Mathlib.Omega.{arith}
 use native.Mathlib.Decide.{ℕ-discrete}
 use mathlib.Core.List.{List, _∷_, _++_, append-assoc, append-nil}

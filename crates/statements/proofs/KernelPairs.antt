@@ -1,29 +1,28 @@
 -- The definition's Equalities are those of the keys' variables.
 use Prim.Native.Nat.{ℕ, zero, suc, _+_, _<_}
 use native.Mathlib.Omega.{arith}
-use native.Mathlib.Numerals.{add-one}
 use native.Mathlib.Decide.{ℕ-discrete}
-use mathlib.Core.Bool.{Bool, true, not}
 use mathlib.Core.List.{List, [], _∷_, List·Memᴰ·head, List·Memᴰ·tail}
 use mathlib.Core.Path.{_≡_, refl, sym, _∙_, ap}
 use lib.Dec.{eqb}
-use lib.ListN.{length, getD, drop, drop-of-length-le}
-use lib.Seq.{drop-cons, getD-take}
+use lib.ListN.{length, getD, drop}
+use lib.Seq.{getD-take}
 use borrow.Author.Tests.{eq-eqb, ne-eqb}
-use Rattle.definition.specs.Base.{keep, each, joined, empty, _∈_}
+use Rattle.definition.specs.Base.{keep, each, joined, _∈_}
 use Rattle.definition.specs.Group.{Variable, Statement}
 use Rattle.definition.specs.Kinds.{Side, variableIn, typeIn, kernelVariables, equalities}
 use Rattle.definition.specs.Letters.{equality}
 use Rattle.definition.specs.Names.{numbersOf, fiber}
 use Rattle.definition.specs.Rows.{pairsAmong, kernelPairs}
-use Rattle.definition.specs.Rule.{Pair, Structure}
+use Rattle.definition.specs.Rule.{Pair}
 use Rattle.definition.specs.Signature.{Signature}
-use Rattle.theory.proofs.Lists.{never, mem-keep, mem-each, each-append, getD-each, joined-same}
+use Rattle.theory.proofs.Lists.{mem-keep, mem-each, each-append, getD-each, joined-same}
 use Rattle.rule.specs.Elements.{elementNumbers}
 use Rattle.rule.proofs.Finding.{numbers-length}
 use Rattle.rows.specs.Kernel.{KeyVars, Typed, TypesOf, KeysIn, SideAt}
 use Rattle.rows.specs.Maps.{pairsIn, pairAt, noPair, MapIn}
 use Rattle.rows.specs.declared.maps.Map.{Map}
+use Rattle.rows.proofs.KernelLaws.{left-on, left-end}
 use Rattle.rows.proofs.MapLaws.{pairs-many}
 use Rattle.rows.proofs.Parts.{get-mem}
 use Rattle.naming.specs.Maps.{Joins}
@@ -54,15 +53,11 @@ module _ {s : List ℕ} {m : Map} (h : MapIn s m) {source : Side} {vars : List �
       let n = pairs-many h in
       sym (getD-take (length (pairsIn s m)) vars i 0 (omega arith)) ∙ rw (v .same) (getD-each (λ (p : Pair). variableIn source (p .key)) (pairsIn s m) i noPair 0 (omega arith))
 
-  pairs-left : (q : ℕ) → q < m .pairs → drop q (pairsIn s m) ≡ pairAt s m q ∷ drop (q + 1) (pairsIn s m)
-  unfolding pairAt
-  pairs-left q l = let n = pairs-many h in rw add-one (drop-cons (pairsIn s m) q noPair (omega arith))
-
   over-are : (d q : ℕ) → d + q ≡ m .pairs → (e : ℕ)
       → each (variableIn source) (each (λ (p : Pair). p .key) (keep (λ (p : Pair). eqb (p .image) e) (drop q (pairsIn s m)))) ≡ varsOver s m vars e q
   unfolding keep each
   over-are zero q g e =
-      let n = pairs-many h in rw (drop-of-length-le (pairsIn s m) {i = q} (omega arith), over-end s m vars e q (omega arith))
+      rw (left-end h q (omega arith), over-end s m vars e q (omega arith))
   over-are (suc d) q g e = go (ℕ-discrete (pairAt s m q .image) e) (over-are d (q + 1) (omega arith) e)
     where
       l : q < m .pairs
@@ -71,8 +66,8 @@ module _ {s : List ℕ} {m : Map} (h : MapIn s m) {source : Side} {vars : List �
       go : Dec (pairAt s m q .image ≡ e)
           → each (variableIn source) (each (λ (p : Pair). p .key) (keep (λ (p : Pair). eqb (p .image) e) (drop (q + 1) (pairsIn s m)))) ≡ varsOver s m vars e (q + 1)
           → each (variableIn source) (each (λ (p : Pair). p .key) (keep (λ (p : Pair). eqb (p .image) e) (drop q (pairsIn s m)))) ≡ varsOver s m vars e q
-      go (yes x) i = rw (pairs-left q l, eq-eqb (pairAt s m q .image) e x, over-on s m vars e q l x, key-var q l, i)
-      go (no x) i = rw (pairs-left q l, ne-eqb (pairAt s m q .image) e x, over-pass s m vars e q l x, i)
+      go (yes x) i = rw (left-on h q l, eq-eqb (pairAt s m q .image) e x, over-on s m vars e q l x, key-var q l, i)
+      go (no x) i = rw (left-on h q l, ne-eqb (pairAt s m q .image) e x, over-pass s m vars e q l x, i)
 
   fiber-vars : (e : ℕ) → each (variableIn source) (fiber (pairsIn s m) e) ≡ varsOver s m vars e 0
   unfolding fiber

@@ -5,15 +5,17 @@ use native.Mathlib.Nat.{mul-suc}
 use mathlib.Core.Bool.{Bool, true, false}
 use mathlib.Core.List.{List, [], _∷_, List·Memᴰ·head, List·Memᴰ·tail}
 use mathlib.Core.Path.{_≡_, refl, sym, _∙_, ap}
-use lib.ListN.{length, getD, drop, length-append, length-drop}
+use lib.ListN.{length, drop, length-append, length-drop}
 use Rattle.definition.specs.Base.{pick, consIf, keep, each, butLast, empty, _∈_}
-use Rattle.definition.specs.Group.{Statement}
-use Rattle.definition.specs.Letters.{predicate, function, funcDomain}
+use Rattle.definition.specs.Group.{Variable, Statement}
+use Rattle.definition.specs.Kinds.{Side, variableIn, typeIn, kernelVariables, equalities}
+use Rattle.definition.specs.Letters.{predicate, function, equality, funcDomain}
 use Rattle.definition.specs.Limits.{parentLimit}
-use Rattle.definition.specs.Names.{variableAt}
+use Rattle.definition.specs.Names.{numbersOf, variableAt}
 use Rattle.definition.specs.Records.{Field, numbers}
-use Rattle.definition.specs.Rows.{memberRow, rowBefore, insertRow, sortRows, members, rowStatement, typeSets}
-use Rattle.definition.specs.Rule.{Structure, Element, Row, rowOf}
+use Rattle.definition.specs.Rows.{memberRow, rowBefore, insertRow, sortRows, members, kernelPairs, rowStatement, typeSets}
+use Rattle.definition.specs.Rule.{Structure, Element, Row, Pair, rowOf}
+use Rattle.definition.specs.Signature.{Signature}
 use Rattle.definition.specs.Writer.{statementField, fieldBytes}
 use Rattle.theory.proofs.ByteForm.{statementBytes, statements-append}
 use Rattle.theory.proofs.Lists.{mem-keep, each-append, length-each}
@@ -25,7 +27,9 @@ use Rattle.records.proofs.Numbers.{length-numbers-in}
 use Rattle.records.proofs.Runs.{run-within}
 use Rattle.rows.specs.Elements.{elementIn}
 use Rattle.rows.specs.Members.{hasParents}
+use Rattle.rows.proofs.ArgumentLaws.{Ascending}
 use Rattle.rows.proofs.ElementLaws.{noElement}
+use Rattle.rows.proofs.KernelCount.{kernel-few}
 use Rattle.rows.proofs.Parts.{mem-place, cons-few, keep-few}
 use Rattle.rule.specs.Elements.{countAt}
 use Rattle.naming.specs.Structures.{structureIn, Laid}
@@ -98,6 +102,22 @@ each-short letter most say (x ∷ xs) h =
     let c = each-short letter most say xs (λ y m. h y (List·Memᴰ·tail m)) in
     let d : (6 + 2 * most) * length (x ∷ xs) ≡ (6 + 2 * most) * length xs + (6 + 2 * most) = mul-suc (6 + 2 * most) (length xs) in
     rw (statements-cons, length-append) (omega arith)
+
+-- The Equalities of a map: two variables, 10 bytes each, and at most half as many as pairs of its pairs.
+pub equalities-short : (letter : ℕ) (sig : Signature) (table : List Variable) (source target : Side) (ps : List Pair) → Ascending (numbersOf (target .structure))
+    → length (statementBytes letter (equalities sig table source target ps)) ≤ 5 * (length ps * length ps)
+unfolding equalities kernelVariables
+equalities-short letter sig table source target ps up =
+    let a = each-short letter 2 equal (each variables (kernelPairs ps (target .structure))) (λ p m. omega arith) in
+    let b = length-each variables (kernelPairs ps (target .structure)) in
+    let c = kernel-few ps (target .structure) up in
+    omega arith
+  where
+    variables : Pair → Pair
+    variables p = record { key = variableIn source (p .key); image = variableIn source (p .image) }
+
+    equal : Pair → Statement
+    equal p = record { kind = equality; symbol = typeIn table (p .key); variables = p .key ∷ p .image ∷ [] }
 
 -- Those of a list that are flagged are no more than the list.
 flagged-few : {A : Type 0} (mask i : ℕ) (xs : List A) → length (flaggedFrom mask i xs) ≤ length xs

@@ -3,7 +3,7 @@ use Prim.Native.Nat.{ℕ, _<_}
 use mathlib.Core.Bool.{Bool, true, false, not, _&&_}
 use mathlib.Core.List.{List}
 use mathlib.Core.Path.{_≡_, sym, _∙_, ap}
-use lib.ListN.{length, getD, take}
+use lib.ListN.{getD, take}
 use Rattle.definition.specs.Base.{keep, each, placeFrom, empty, _∈_}
 use Rattle.definition.specs.Names.{numbersOf}
 use Rattle.definition.specs.Rule.{Element, Row, Pair}

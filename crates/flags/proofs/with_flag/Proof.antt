@@ -2,8 +2,6 @@ use Rattle.flags.proofs.Bits.{pow-fits, shift-is}
 use borrow.Author.Needs.{needs}
 use Rattle.flags.proofs.with_flag.Statement.{statement}
 use Rattle.flags.proofs.with_flag.Tie as tie
-use Rattle.flags.proofs.with_flag.Reads as reads
-use Rattle.flags.proofs.with_flag.Lts as lts
 
 shl-result : tie.Need-shl-result
 shl-result c = search needs

@@ -4,11 +4,6 @@ use borrow.Author.Needs.{needs}
 use native.Mathlib.Omega.{arith}
 use Rattle.flatten.proofs.entry.flatten.Statement.{statement}
 use Rattle.flatten.proofs.entry.flatten.Tie as tie
-use Rattle.flatten.proofs.entry.flatten.Reads as reads
-use Rattle.flatten.proofs.entry.flatten.Lts as lts
-use Rattle.flatten.proofs.entry.flatten_rule.Reads as flatten-rule-reads
-use Rattle.flatten.proofs.entry.number.Reads as number-reads
-use Rattle.reading.proofs.read_rule_into.Reads as read-rule-into-reads
 
 read-rule-into-requires : tie.Need-read-rule-into-requires
 read-rule-into-requires c κs = search needs

@@ -7,14 +7,6 @@ use Rattle.kinds.proofs.TableLaws.{empty-table}
 use borrow.Author.Needs.{needs}
 use Rattle.flatten.proofs.entry.flatten_rule.Statement.{statement}
 use Rattle.flatten.proofs.entry.flatten_rule.Tie as tie
-use Rattle.flatten.proofs.entry.flatten_rule.Reads as reads
-use Rattle.flatten.proofs.entry.flatten_rule.Lts as lts
-use Rattle.flatten.proofs.entry.write_group.Reads as write-group-reads
-use Rattle.flatten.proofs.tables.no_el_vars.Reads as no-el-vars-reads
-use Rattle.flatten.proofs.walk.flatten_morphisms.Reads as flatten-morphisms-reads
-use Rattle.kinds.proofs.sources.unmapped_auxiliary.Reads as unmapped-auxiliary-reads
-use Rattle.kinds.proofs.sources.unmapped_kind.Reads as unmapped-kind-reads
-use Rattle.kinds.proofs.table.kind_table.Reads as kind-table-reads
 
 abbrev S : tie.Else2 → tie.Start
 S c = c .before .before .before .before .before .before .before

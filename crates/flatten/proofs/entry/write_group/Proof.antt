@@ -3,11 +3,6 @@ use borrow.Author.Needs.{needs}
 use native.Mathlib.Omega.{arith}
 use Rattle.flatten.proofs.entry.write_group.Statement.{statement}
 use Rattle.flatten.proofs.entry.write_group.Tie as tie
-use Rattle.flatten.proofs.entry.write_group.Reads as reads
-use Rattle.flatten.proofs.entry.write_group.Lts as lts
-use Rattle.flatten.proofs.entry.usable.Reads as usable-reads
-use Rattle.flatten.proofs.room.fits.Reads as fits-reads
-use Rattle.flatten.proofs.output.put_group.Reads as put-group-reads
 
 usable-requires : tie.Need-usable-requires
 usable-requires c κs = search needs

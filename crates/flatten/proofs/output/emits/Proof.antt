@@ -3,9 +3,6 @@ use mathlib.Core.Path.{refl}
 use borrow.Author.Needs.{needs}
 use Rattle.flatten.proofs.output.emits.Statement.{statement}
 use Rattle.flatten.proofs.output.emits.Tie as tie
-use Rattle.flatten.proofs.output.emits.Reads as reads
-use Rattle.flatten.proofs.output.emits.Lts as lts
-use Rattle.flatten.proofs.premise.reached_by.Reads as reached-by-reads
 
 reached-by-requires : tie.Need-reached-by-requires
 reached-by-requires c κs = search needs

@@ -4,11 +4,6 @@ use borrow.Author.Needs.{needs}
 use native.Mathlib.Omega.{arith}
 use Rattle.flatten.proofs.output.put_conclusion.Statement.{statement}
 use Rattle.flatten.proofs.output.put_conclusion.Tie as tie
-use Rattle.flatten.proofs.output.put_conclusion.Reads as reads
-use Rattle.flatten.proofs.output.put_conclusion.Lts as lts
-use Rattle.flatten.proofs.premise.put_both.Reads as put-both-reads
-use Rattle.flatten.proofs.premise.reached_by.Reads as reached-by-reads
-use Rattle.statements.proofs.writer.put_domains.Reads as put-domains-reads
 
 reached-by-requires : tie.Need-reached-by-requires
 reached-by-requires c κs = let w = c .before .before .pre .1 in both-small (w .0) (w .1)

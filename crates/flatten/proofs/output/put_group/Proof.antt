@@ -3,13 +3,6 @@ use borrow.Author.Needs.{needs}
 use native.Mathlib.Omega.{arith}
 use Rattle.flatten.proofs.output.put_group.Statement.{statement}
 use Rattle.flatten.proofs.output.put_group.Tie as tie
-use Rattle.flatten.proofs.output.put_group.Reads as reads
-use Rattle.flatten.proofs.output.put_group.Lts as lts
-use Rattle.flatten.proofs.output.put_rules.Reads as put-rules-reads
-use Rattle.flatten.proofs.variables.put_all_variables.Reads as put-all-variables-reads
-use Rattle.naming.proofs.writer.group_name_length.Reads as group-name-length-reads
-use Rattle.naming.proofs.writer.put_group_name.Reads as put-group-name-reads
-use Rattle.records.proofs.write.put_field_head.Reads as put-field-head-reads
 
 group-name-length-requires : tie.Need-group-name-length-requires
 group-name-length-requires c κs = search needs

@@ -4,14 +4,6 @@ use borrow.Author.Needs.{needs}
 use native.Mathlib.Omega.{arith}
 use Rattle.flatten.proofs.output.put_rule.Statement.{statement}
 use Rattle.flatten.proofs.output.put_rule.Tie as tie
-use Rattle.flatten.proofs.output.put_rule.Reads as reads
-use Rattle.flatten.proofs.output.put_rule.Lts as lts
-use Rattle.flatten.proofs.output.put_conclusion.Reads as put-conclusion-reads
-use Rattle.flatten.proofs.premise.put_premise.Reads as put-premise-reads
-use Rattle.flatten.proofs.tables.place.Reads as place-reads
-use Rattle.naming.proofs.writer.put_rule_name.Reads as put-rule-name-reads
-use Rattle.naming.proofs.writer.rule_name_length.Reads as rule-name-length-reads
-use Rattle.records.proofs.write.put_field_head.Reads as put-field-head-reads
 
 rule-name-length-requires : tie.Need-rule-name-length-requires
 rule-name-length-requires c κs = search needs

@@ -7,10 +7,6 @@ use borrow.Author.Needs.{needs}
 use native.Mathlib.Omega.{arith}
 use Rattle.flatten.proofs.output.put_rules.Statement.{statement}
 use Rattle.flatten.proofs.output.put_rules.Tie as tie
-use Rattle.flatten.proofs.output.put_rules.Reads as reads
-use Rattle.flatten.proofs.output.put_rules.Lts as lts
-use Rattle.flatten.proofs.output.emits.Reads as emits-reads
-use Rattle.flatten.proofs.output.put_rule.Reads as put-rule-reads
 
 abbrev Inv-loop : tie.InvT-loop
 Inv-loop out₀ from s index n kinds sources masks vars types at₀ k₀ t₀ out at k t = (t ≤ n) × Ruling out₀ out s index types kinds (tables sources masks vars) from at k t

@@ -5,12 +5,6 @@ use Rattle.flatten.proofs.Premises.{place-small, both-small, stands-at,
 use borrow.Author.Needs.{needs}
 use Rattle.flatten.proofs.premise.put_own.Statement.{statement}
 use Rattle.flatten.proofs.premise.put_own.Tie as tie
-use Rattle.flatten.proofs.premise.put_own.Reads as reads
-use Rattle.flatten.proofs.premise.put_own.Lts as lts
-use Rattle.flatten.proofs.premise.put_both.Reads as put-both-reads
-use Rattle.flatten.proofs.premise.reached_by.Reads as reached-by-reads
-use Rattle.flatten.proofs.tables.masks_at.Reads as masks-at-reads
-use Rattle.statements.proofs.writer.put_said.Reads as put-said-reads
 
 reached-by-requires : tie.Need-reached-by-requires
 reached-by-requires c κs = let w = c .before .before .pre .1 in both-small (w .0) (w .1)

@@ -3,9 +3,6 @@ use mathlib.Core.Path.{refl}
 use Rattle.flatten.proofs.Premises.{reached-first, reached-later}
 use Rattle.flatten.proofs.premise.reached_by.Statement.{statement}
 use Rattle.flatten.proofs.premise.reached_by.Tie as tie
-use Rattle.flatten.proofs.premise.reached_by.Reads as reads
-use Rattle.flatten.proofs.premise.reached_by.Lts as lts
-use Rattle.flatten.proofs.tables.place.Reads as place-reads
 
 returns : tie.Need-returns
 returns c = reached-first refl (c .if1 .taken)

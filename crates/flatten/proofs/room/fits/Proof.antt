@@ -3,10 +3,6 @@ use borrow.Author.Needs.{needs}
 use native.Mathlib.Omega.{arith}
 use Rattle.flatten.proofs.room.fits.Statement.{statement}
 use Rattle.flatten.proofs.room.fits.Tie as tie
-use Rattle.flatten.proofs.room.fits.Reads as reads
-use Rattle.flatten.proofs.room.fits.Lts as lts
-use Rattle.flatten.proofs.output.put_group.Reads as put-group-reads
-use Rattle.flatten.proofs.room.surely_fits.Reads as surely-fits-reads
 
 surely-fits-requires : tie.Need-surely-fits-requires
 surely-fits-requires c κs =

@@ -1,11 +1,9 @@
 use borrow.Author.Needs.{needs}
 use Rattle.flatten.specs.Room.{groupMost}
-use Rattle.flatten.proofs.Lengths.{news-small, said-small, rules-small}
+use Rattle.flatten.proofs.Lengths.{news-small, squares-small, said-small, rules-small}
 use native.Mathlib.Omega.{arith}
 use Rattle.flatten.proofs.room.group_most.Statement.{statement}
 use Rattle.flatten.proofs.room.group_most.Tie as tie
-use Rattle.flatten.proofs.room.group_most.Reads as reads
-use Rattle.flatten.proofs.room.group_most.Lts as lts
 
 mul-said : tie.Need-mul-said
 mul-said c = search needs
@@ -15,6 +13,15 @@ mul-said-2 c = search needs
 
 add-said : tie.Need-add-said
 add-said c = search needs
+
+mul-said-3 : tie.Need-mul-said-3
+mul-said-3 c = let b = squares-small (c .pre .0) (c .pre .1) (c .pre .2) in omega arith
+
+mul-said-4 : tie.Need-mul-said-4
+mul-said-4 c = let b = squares-small (c .pre .0) (c .pre .1) (c .pre .2) in omega arith
+
+add-said-2 : tie.Need-add-said-2
+add-said-2 c = let b = squares-small (c .pre .0) (c .pre .1) (c .pre .2) in omega arith
 
 mul-result : tie.Need-mul-result
 mul-result c = search needs
@@ -32,7 +39,7 @@ add-result-2 : tie.Need-add-result-2
 add-result-2 c = let b = said-small (c .pre .0) (c .pre .1) (c .pre .2) in omega arith
 
 add-result-3 : tie.Need-add-result-3
-add-result-3 c = let b = said-small (c .pre .0) (c .pre .1) (c .pre .2) in omega arith
+add-result-3 c = let b = said-small (c .pre .0) (c .pre .1) (c .pre .2) in omega (arith, squares-small (c .pre .0) (c .pre .1) (c .pre .2))
 
 mul-result-4 : tie.Need-mul-result-4
 mul-result-4 c = let b = rules-small (c .pre .0) (c .pre .1) (c .pre .2) in omega arith
@@ -51,6 +58,9 @@ group-most-spec =
     mul-said
     mul-said-2
     add-said
+    mul-said-3
+    mul-said-4
+    add-said-2
     mul-result
     mul-result-2
     add-result

@@ -6,9 +6,6 @@ use borrow.Author.Needs.{needs}
 use native.Mathlib.Omega.{arith}
 use Rattle.flatten.proofs.room.most_elements.Statement.{statement}
 use Rattle.flatten.proofs.room.most_elements.Tie as tie
-use Rattle.flatten.proofs.room.most_elements.Reads as reads
-use Rattle.flatten.proofs.room.most_elements.Lts as lts
-use Rattle.rule.proofs.elements.element_count.Reads as element-count-reads
 
 abbrev Inv-loop : tie.InvT-loop
 Inv-loop index n most₀ k₀ most k = Most index k most

@@ -8,11 +8,6 @@ use borrow.Author.Needs.{needs}
 use native.Mathlib.Omega.{arith}
 use Rattle.flatten.proofs.variables.put_all_variables.Statement.{statement}
 use Rattle.flatten.proofs.variables.put_all_variables.Tie as tie
-use Rattle.flatten.proofs.variables.put_all_variables.Reads as reads
-use Rattle.flatten.proofs.variables.put_all_variables.Lts as lts
-use Rattle.naming.proofs.variables.fresh.Reads as fresh-reads
-use Rattle.naming.proofs.writer.put_variables.Reads as put-variables-reads
-use Rattle.rule.proofs.elements.element_count.Reads as element-count-reads
 
 abbrev Inv-loop : tie.InvT-loop
 Inv-loop out₀ from s index n sources vars at₀ number₀ t₀ out at number t = (t ≤ n) × Naming out₀ out s (tables sources [] vars) from at number t

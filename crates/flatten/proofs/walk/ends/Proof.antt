@@ -3,8 +3,6 @@ use mathlib.Core.Path.{refl}
 use borrow.Author.Needs.{needs}
 use Rattle.flatten.proofs.walk.ends.Statement.{statement}
 use Rattle.flatten.proofs.walk.ends.Tie as tie
-use Rattle.flatten.proofs.walk.ends.Reads as reads
-use Rattle.flatten.proofs.walk.ends.Lts as lts
 
 element-copy-out-if1 : tie.Need-element-copy-out-if1
 element-copy-out-if1 c = search needs

@@ -2,11 +2,6 @@ use Rattle.flatten.proofs.Doing.{surj-does, non-surj-does, if-does}
 use borrow.Author.Needs.{needs}
 use Rattle.flatten.proofs.walk.flatten_map.Statement.{statement}
 use Rattle.flatten.proofs.walk.flatten_map.Tie as tie
-use Rattle.flatten.proofs.walk.flatten_map.Reads as reads
-use Rattle.flatten.proofs.walk.flatten_map.Lts as lts
-use Rattle.steps.proofs.morphisms.flatten_if_arbitrary.Reads as flatten-if-arbitrary-reads
-use Rattle.steps.proofs.morphisms.flatten_non_surj_then.Reads as flatten-non-surj-then-reads
-use Rattle.steps.proofs.morphisms.flatten_surj_then.Reads as flatten-surj-then-reads
 
 flatten-surj-then-requires : tie.Need-flatten-surj-then-requires
 flatten-surj-then-requires c κs = search needs

@@ -15,13 +15,6 @@ use borrow.Author.Needs.{needs}
 use native.Mathlib.Omega.{arith}
 use Rattle.flatten.proofs.walk.flatten_morphisms.Statement.{statement}
 use Rattle.flatten.proofs.walk.flatten_morphisms.Tie as tie
-use Rattle.flatten.proofs.walk.flatten_morphisms.Reads as reads
-use Rattle.flatten.proofs.walk.flatten_morphisms.Lts as lts
-use Rattle.flatten.proofs.walk.first_row.Reads as first-row-reads
-use Rattle.flatten.proofs.walk.stopped.Reads as stopped-reads
-use Rattle.flatten.proofs.walk.to_walk.Reads as to-walk-reads
-use Rattle.flatten.proofs.walk.walk_map.Reads as walk-map-reads
-use Rattle.rule.proofs.elements.element_count.Reads as element-count-reads
 
 abbrev Inv-loop : tie.InvT-loop
 Inv-loop sig arities counts s index n kinds sources₀ masks₀ types₀ refused vars₀ next₀ end₀ t₀ u₀ sources masks types vars next end t u =

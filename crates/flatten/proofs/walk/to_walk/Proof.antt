@@ -3,8 +3,6 @@ use Rattle.flatten.proofs.Ending.{walked-on, walked-not}
 use borrow.Author.Needs.{needs}
 use Rattle.flatten.proofs.walk.to_walk.Statement.{statement}
 use Rattle.flatten.proofs.walk.to_walk.Tie as tie
-use Rattle.flatten.proofs.walk.to_walk.Reads as reads
-use Rattle.flatten.proofs.walk.to_walk.Lts as lts
 
 enum-told : tie.Need-enum-told
 enum-told c = search needs

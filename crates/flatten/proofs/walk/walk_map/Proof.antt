@@ -10,17 +10,6 @@ use Rattle.flatten.proofs.Going.{ends-stop, walkable, room, source-laid
 use borrow.Author.Needs.{needs}
 use Rattle.flatten.proofs.walk.walk_map.Statement.{statement}
 use Rattle.flatten.proofs.walk.walk_map.Tie as tie
-use Rattle.flatten.proofs.walk.walk_map.Reads as reads
-use Rattle.flatten.proofs.walk.walk_map.Lts as lts
-use Rattle.flatten.proofs.walk.ends.Reads as ends-reads
-use Rattle.flatten.proofs.walk.flatten_map.Reads as flatten-map-reads
-use Rattle.flatten.proofs.walk.number.Reads as number-reads
-use Rattle.kinds.proofs.maps.map_between.Reads as map-between-reads
-use Rattle.naming.proofs.assign.assign_el_vars.Reads as assign-el-vars-reads
-use Rattle.rows.proofs.kernel.merged_els.Reads as merged-els-reads
-use Rattle.naming.proofs.types.type_variables.Reads as type-variables-reads
-use Rattle.naming.proofs.variables.fresh.Reads as fresh-reads
-use Rattle.rule.proofs.elements.element_count.Reads as element-count-reads
 
 -- From a place behind `ends` to the start, and from the last calls back to it.
 abbrev S : tie.After-enum-told → tie.Start

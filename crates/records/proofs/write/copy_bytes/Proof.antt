@@ -5,8 +5,6 @@ use borrow.Author.Needs.{needs}
 use native.Mathlib.Omega.{arith}
 use Rattle.records.proofs.write.copy_bytes.Statement.{statement}
 use Rattle.records.proofs.write.copy_bytes.Tie as tie
-use Rattle.records.proofs.write.copy_bytes.Reads as reads
-use Rattle.records.proofs.write.copy_bytes.Lts as lts
 
 abbrev Inv-loop : tie.InvT-loop
 Inv-loop out₀ at s start len i₀ out i = (i ≤ len) × Copying out₀ out s at start i

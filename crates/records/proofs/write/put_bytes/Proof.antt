@@ -3,9 +3,6 @@ use borrow.Author.Needs.{needs}
 use native.Mathlib.Omega.{arith}
 use Rattle.records.proofs.write.put_bytes.Statement.{statement}
 use Rattle.records.proofs.write.put_bytes.Tie as tie
-use Rattle.records.proofs.write.put_bytes.Reads as reads
-use Rattle.records.proofs.write.put_bytes.Lts as lts
-use Rattle.records.proofs.write.copy_bytes.Reads as copy-bytes-reads
 
 sub-if1 : tie.Need-sub-if1
 sub-if1 c = search needs

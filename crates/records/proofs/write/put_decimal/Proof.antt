@@ -2,10 +2,6 @@ use Rattle.records.proofs.Decimal.{decimal-short}
 use borrow.Author.Needs.{needs}
 use Rattle.records.proofs.write.put_decimal.Statement.{statement}
 use Rattle.records.proofs.write.put_decimal.Tie as tie
-use Rattle.records.proofs.write.put_decimal.Reads as reads
-use Rattle.records.proofs.write.put_decimal.Lts as lts
-use Rattle.records.proofs.write.put_byte.Reads as put-byte-reads
-use Rattle.records.proofs.write.put_digits.Reads as put-digits-reads
 
 cast-put-byte : tie.Need-cast-put-byte
 cast-put-byte c = search needs

@@ -1,5 +1,4 @@
 use Prim.Native.Nat.{_-_, _≤_}
-use native.Mathlib.Omega.{arith}
 use mathlib.Core.Path.{_≡_, sym, _∙_}
 use lib.ListN.{length, length-set}
 use borrow.Author.Needs.{needs}

@@ -1,5 +1,4 @@
 use Rattle.rule.proofs.Saying.{tail-run-at}
-use Prim.Native.Nat.{_-_}
 use borrow.Author.Needs.{needs}
 use Rattle.rule.proofs.lookup.section_behind.Statement.{statement}
 use Rattle.rule.proofs.lookup.section_behind.Tie as tie
