@@ -1,37 +1,33 @@
 -- The definition's Equalities are those of the keys' variables.
-use Prim.Native.Nat.{ℕ, zero, suc, _+_, _<_}
+use Prim.Native.Nat.{ℕ, _≤_, _<_}
 use native.Mathlib.Omega.{arith}
-use native.Mathlib.Decide.{ℕ-discrete}
 use mathlib.Core.List.{List, [], _∷_, List·Memᴰ·head, List·Memᴰ·tail}
 use mathlib.Core.Path.{_≡_, refl, sym, _∙_, ap}
 use lib.Dec.{eqb}
-use lib.ListN.{length, getD, drop}
-use lib.Seq.{getD-take}
-use borrow.Author.Tests.{eq-eqb, ne-eqb}
+use lib.ListN.{length, getD, take}
+use lib.Seq.{getD-take, length-take-le}
 use Rattle.definition.specs.Base.{keep, each, joined, _∈_}
 use Rattle.definition.specs.Group.{Variable, Statement}
 use Rattle.definition.specs.Kinds.{Side, variableIn, typeIn, kernelVariables, equalities}
 use Rattle.definition.specs.Letters.{equality}
+use Rattle.definition.specs.Limits.{fieldLimit}
 use Rattle.definition.specs.Names.{numbersOf, fiber}
 use Rattle.definition.specs.Rows.{pairsAmong, kernelPairs}
 use Rattle.definition.specs.Rule.{Pair}
 use Rattle.definition.specs.Signature.{Signature}
-use Rattle.theory.proofs.Lists.{mem-keep, mem-each, each-append, getD-each, joined-same}
+use Rattle.theory.proofs.Lists.{mem-keep, mem-each, each-append, getD-each, length-each, joined-same}
 use Rattle.rule.specs.Elements.{elementNumbers}
 use Rattle.rule.proofs.Finding.{numbers-length}
-use Rattle.rows.specs.Kernel.{KeyVars, Typed, TypesOf, KeysIn, SideAt}
-use Rattle.rows.specs.Maps.{pairsIn, pairAt, noPair, MapIn}
+use Rattle.rows.specs.Kernel.{TypesOf, KeysIn, SideAt}
+use Rattle.rows.specs.Maps.{pairsIn}
 use Rattle.rows.specs.declared.maps.Map.{Map}
-use Rattle.rows.proofs.KernelLaws.{left-on, left-end}
-use Rattle.rows.proofs.MapLaws.{pairs-many}
 use Rattle.rows.proofs.Parts.{get-mem}
 use Rattle.naming.specs.Maps.{Joins}
 use Rattle.naming.specs.Structures.{structureIn, Laid}
 use Rattle.naming.specs.Variables.{GivenOut}
 use Rattle.naming.proofs.Placed.{elements-are, numbers-are}
 use Rattle.statements.specs.Structures.{sideIn}
-use Rattle.statements.specs.Equalities.{varsOver, equalityOf, equalitiesAmong, equalitiesOver}
-use Rattle.statements.proofs.Fibers.{over-on, over-pass, over-end}
+use Rattle.statements.specs.Equalities.{equalityOf, equalitiesAmong, equalitiesOver, TypedVars, KeysGiven}
 
 -- A row has the variables of its structure's elements.
 pub side-at : {s index : List ℕ} {k : ℕ} → Laid s index k → (row : List ℕ) → SideAt (elementNumbers s index k) row (sideIn s k row)
@@ -45,48 +41,28 @@ side-at {s} {index} {k} l row = record {
 pub keys-in : {s index : List ℕ} {k : ℕ} {ps : List Pair} → Laid s index k → KeysIn (numbersOf (structureIn s k)) ps → KeysIn (elementNumbers s index k) ps
 keys-in l w = rw (numbers-are l) at w
 
--- The variable of each key.
-module _ {s : List ℕ} {m : Map} (h : MapIn s m) {source : Side} {vars : List ℕ} (v : KeyVars source (pairsIn s m) vars) where
-  key-var : (i : ℕ) → i < m .pairs → getD vars i 0 ≡ variableIn source (pairAt s m i .key)
-  unfolding pairAt
-  key-var i l =
-      let n = pairs-many h in
-      sym (getD-take (length (pairsIn s m)) vars i 0 (omega arith)) ∙ rw (v .same) (getD-each (λ (p : Pair). variableIn source (p .key)) (pairsIn s m) i noPair 0 (omega arith))
-
-  over-are : (d q : ℕ) → d + q ≡ m .pairs → (e : ℕ)
-      → each (variableIn source) (each (λ (p : Pair). p .key) (keep (λ (p : Pair). eqb (p .image) e) (drop q (pairsIn s m)))) ≡ varsOver s m vars e q
-  unfolding keep each
-  over-are zero q g e =
-      rw (left-end h q (omega arith), over-end s m vars e q (omega arith))
-  over-are (suc d) q g e = go (ℕ-discrete (pairAt s m q .image) e) (over-are d (q + 1) (omega arith) e)
-    where
-      l : q < m .pairs
-      l = omega arith
-
-      go : Dec (pairAt s m q .image ≡ e)
-          → each (variableIn source) (each (λ (p : Pair). p .key) (keep (λ (p : Pair). eqb (p .image) e) (drop (q + 1) (pairsIn s m)))) ≡ varsOver s m vars e (q + 1)
-          → each (variableIn source) (each (λ (p : Pair). p .key) (keep (λ (p : Pair). eqb (p .image) e) (drop q (pairsIn s m)))) ≡ varsOver s m vars e q
-      go (yes x) i = rw (left-on h q l, eq-eqb (pairAt s m q .image) e x, over-on s m vars e q l x, key-var q l, i)
-      go (no x) i = rw (left-on h q l, ne-eqb (pairAt s m q .image) e x, over-pass s m vars e q l x, i)
-
-  fiber-vars : (e : ℕ) → each (variableIn source) (fiber (pairsIn s m) e) ≡ varsOver s m vars e 0
-  unfolding fiber
-  fiber-vars e = over-are (m .pairs) 0 (omega arith) e
+pub keys-given : {s : List ℕ} {src tgt size : ℕ} {m : Map} {row : List ℕ} → Joins s src tgt m → GivenOut (structureIn s src) row size → KeysGiven s src m row size
+keys-given j g = record { keys = j .keys; given = g }
 
 -- Each key's variable has a type.
-module _ {s : List ℕ} {m : Map} (h : MapIn s m) {src tgt size : ℕ} {row : List ℕ} (j : Joins s src tgt m) (g : GivenOut (structureIn s src) row size) where
-  pub keys-typed : {vars : List ℕ} → KeyVars (sideIn s src row) (pairsIn s m) vars → Typed m vars size
-  unfolding pairAt
-  keys-typed v = record { below = λ p l. rw (key-var h v p l) (g .below (pairAt s m p .key) (j .keys .named (pairAt s m p) (pair-in p l))) }
-    where
-      pair-in : (p : ℕ) → p < m .pairs → pairAt s m p ∈ pairsIn s m
-      pair-in p l = let n = pairs-many h in get-mem (pairsIn s m) p noPair (omega arith)
-
+module _ {s : List ℕ} {m : Map} {src size : ℕ} {row : List ℕ} (j : KeysGiven s src m row size) where
   fiber-below : (e x : ℕ) → x ∈ fiber (pairsIn s m) e → variableIn (sideIn s src row) x < size
   unfolding fiber
   fiber-below e x i =
       let a = mem-each (λ (p : Pair). p .key) (keep (λ (p : Pair). eqb (p .image) e) (pairsIn s m)) i in
-      rw (a .2) (g .below (a .0 .key) (j .keys .named (a .0) (mem-keep (λ (p : Pair). eqb (p .image) e) (pairsIn s m) (a .1) .0)))
+      rw (a .2) (j .given .below (a .0 .key) (j .keys .named (a .0) (mem-keep (λ (p : Pair). eqb (p .image) e) (pairsIn s m) (a .1) .0)))
+
+  pub typed-vars : (e : ℕ) {vars : List ℕ} {count : ℕ} → length vars ≡ fieldLimit → count ≤ fieldLimit
+      → take count vars ≡ each (variableIn (sideIn s src row)) (fiber (pairsIn s m) e) → TypedVars vars count size
+  typed-vars e {vars} {count} a b q = record { long = a; few = b; below = below }
+    where
+      below : (i : ℕ) → i < count → getD vars i 0 < size
+      below i l =
+          let n : length (take count vars) ≡ count = length-take-le count vars (omega arith) in
+          let k : length (take count vars) ≡ length (fiber (pairsIn s m) e) = ap length q ∙ length-each (variableIn (sideIn s src row)) (fiber (pairsIn s m) e) in
+          let v : getD vars i 0 ≡ variableIn (sideIn s src row) (getD (fiber (pairsIn s m) e) i 0) =
+          sym (getD-take count vars i 0 l) ∙ rw q (getD-each (variableIn (sideIn s src row)) (fiber (pairsIn s m) e) i 0 0 (omega arith)) in
+          rw v (fiber-below e (getD (fiber (pairsIn s m) e) i 0) (get-mem (fiber (pairsIn s m) e) i 0 (omega arith)))
 
 -- The Equalities of pairs of keys.
 module _ {types : List ℕ} {table : List Variable} (t : TypesOf table types) (variable : ℕ → ℕ) where
@@ -112,28 +88,27 @@ unfolding each joined
 each-joined f g [] = refl
 each-joined f g (x ∷ xs) = rw (each-append, each-joined f g xs)
 
-module _ {s : List ℕ} {m : Map} (h : MapIn s m) {src tgt : ℕ} {row vars types : List ℕ} (j : Joins s src tgt m) (g : GivenOut (structureIn s src) row (length types))
-    (v : KeyVars (sideIn s src row) (pairsIn s m) vars) {table : List Variable} (t : TypesOf table types) where
+module _ {s : List ℕ} {m : Map} {src : ℕ} {row types : List ℕ} (j : KeysGiven s src m row (length types)) {table : List Variable} (t : TypesOf table types) where
   abbrev variable : ℕ → ℕ
   variable = variableIn (sideIn s src row)
 
   abbrev pairs : ℕ → List Pair
   pairs e = pairsAmong (fiber (pairsIn s m) e)
 
-  by-image : (e : ℕ) → each (equal t variable) (each (ofVariables t variable) (pairs e)) ≡ equalitiesAmong types (varsOver s m vars e 0)
-  by-image e = among-are t variable (fiber (pairsIn s m) e) (fiber-below h j g e) ∙ ap (equalitiesAmong types) (fiber-vars h v e)
+  by-image : (e : ℕ) → each (equal t variable) (each (ofVariables t variable) (pairs e)) ≡ equalitiesAmong types (each variable (fiber (pairsIn s m) e))
+  by-image e = among-are t variable (fiber (pairsIn s m) e) (fiber-below j e)
 
-  all-images : (els : List ℕ) → each (equal t variable) (each (ofVariables t variable) (joined pairs els)) ≡ equalitiesOver s m vars types els
+  all-images : (els : List ℕ) → each (equal t variable) (each (ofVariables t variable) (joined pairs els)) ≡ equalitiesOver variable (pairsIn s m) types els
   unfolding equalitiesOver
   all-images els =
       ap (each (equal t variable)) (each-joined (ofVariables t variable) pairs els)
       ∙ each-joined (equal t variable) (λ (e : ℕ). each (ofVariables t variable) (pairs e)) els
       ∙ joined-same _ _ by-image els
 
-  pub equalities-are : (sig : Signature) (target : Side) → target .structure ≡ structureIn s tgt
-      → equalities sig table (sideIn s src row) target (pairsIn s m) ≡ equalitiesOver s m vars types (numbersOf (structureIn s tgt))
+  pub equalities-are : (tgt : ℕ) (sig : Signature) (target : Side) → target .structure ≡ structureIn s tgt
+      → equalities sig table (sideIn s src row) target (pairsIn s m) ≡ equalitiesOver variable (pairsIn s m) types (numbersOf (structureIn s tgt))
   unfolding equalities kernelVariables kernelPairs
-  equalities-are sig target q = rw q (all-images (numbersOf (structureIn s tgt)))
+  equalities-are tgt sig target q = rw q (all-images (numbersOf (structureIn s tgt)))
 
 -- Without kernel pairs there are none.
 pub equalities-none : (sig : Signature) (table : List Variable) (source target : Side) (ps : List Pair) → kernelPairs ps (target .structure) ≡ []

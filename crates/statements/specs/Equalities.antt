@@ -1,17 +1,19 @@
 -- Equalities of the variables of keys.
 use mathlib.Core.List.{List, [], _∷_, _++_}
-use Prim.Native.Nat.{ℕ, _-_}
-use lib.Dec.{eqb}
-use lib.ListN.{getD}
-use Rattle.definition.specs.Base.{keep, each, joined, span}
+use mathlib.Core.Path.{_≡_}
+use Prim.Native.Nat.{ℕ, _≤_, _<_}
+use lib.ListN.{length, getD}
+use Rattle.definition.specs.Base.{each, joined}
 use Rattle.definition.specs.Letters.{equality}
 use Rattle.definition.specs.Group.{Statement}
-use Rattle.rows.specs.Maps.{pairAt}
+use Rattle.definition.specs.Limits.{fieldLimit}
+use Rattle.definition.specs.Names.{numbersOf, fiber}
+use Rattle.definition.specs.Rule.{Pair}
+use Rattle.rows.specs.Kernel.{KeysIn}
+use Rattle.rows.specs.Maps.{pairsIn}
 use Rattle.rows.specs.declared.maps.Map.{Map}
-
--- The variables of a map's keys with an image, from a key on; `vars` has those of the keys.
-unfoldable pub varsOver : List ℕ → Map → List ℕ → ℕ → ℕ → List ℕ
-varsOver s m vars e q = each (λ (i : ℕ). getD vars i 0) (keep (λ (i : ℕ). eqb (pairAt s m i .image) e) (span (m .pairs - q) q))
+use Rattle.naming.specs.Structures.{structureIn}
+use Rattle.naming.specs.Variables.{GivenOut}
 
 -- The Equality of two variables; its type is the first one's.
 unfoldable pub equalityOf : List ℕ → ℕ → ℕ → Statement
@@ -23,5 +25,16 @@ equalitiesAmong types [] = []
 equalitiesAmong types (v ∷ vs) = each (equalityOf types v) vs ++ equalitiesAmong types vs
 
 -- Those of the keys of each image, by the target's elements.
-unfoldable pub equalitiesOver : List ℕ → Map → List ℕ → List ℕ → List ℕ → List Statement
-equalitiesOver s m vars types els = joined (λ (e : ℕ). equalitiesAmong types (varsOver s m vars e 0)) els
+unfoldable pub equalitiesOver : (ℕ → ℕ) → List Pair → List ℕ → List ℕ → List Statement
+equalitiesOver variable pairs types els = joined (λ (e : ℕ). equalitiesAmong types (each variable (fiber pairs e))) els
+
+-- The first variables of an array, each of which has a place in the table of types.
+pub record TypedVars (vars : List ℕ) (count size : ℕ) : Type 0 where
+  pub long : length vars ≡ fieldLimit
+  pub few : count ≤ fieldLimit
+  pub below : (i : ℕ) → i < count → getD vars i 0 < size
+
+-- A map's keys are elements of its source, whose variables have places in that table.
+pub record KeysGiven (s : List ℕ) (src : ℕ) (m : Map) (row : List ℕ) (size : ℕ) : Type 0 where
+  pub keys : KeysIn (numbersOf (structureIn s src)) (pairsIn s m)
+  pub given : GivenOut (structureIn s src) row size

@@ -2,34 +2,38 @@
 ghost use mathlib.Core.List.{List};
 ghost use mathlib.Core.Path.{_≡_};
 ghost use Prim.Native.Nat.{_+_, _≤_, _<_};
-ghost use lib.ListN.{length, getD};
+ghost use lib.ListN.{length, getD, take, drop};
 ghost use Rattle.definition.specs.Base.{each};
 ghost use Rattle.definition.specs.Group.{Variable};
 ghost use Rattle.definition.specs.Kinds as definition;
-ghost use Rattle.definition.specs.Kinds.{Side};
-ghost use Rattle.definition.specs.Names.{numbersOf};
+ghost use Rattle.definition.specs.Kinds.{Side, variableIn};
+ghost use Rattle.definition.specs.Limits.{structureLimit, fieldLimit};
+ghost use Rattle.definition.specs.Names.{numbersOf, fiber};
 ghost use Rattle.definition.specs.Signature.{Signature};
 ghost use Rattle.definition.specs.Writer.{statementField, fieldBytes};
 ghost use Rattle.theory.proofs.ByteForm.{statementBytes};
 ghost use Rattle.records.specs.Buffer.{Put, countLimit};
-ghost use Rattle.rows.specs.Kernel.{Typed, TypesOf, Merged};
-ghost use Rattle.rows.specs.Maps.{pairAt, pairsIn, MapIn};
+ghost use Rattle.rule.specs.Elements.{elementNumbers, Elements};
+ghost use Rattle.rows.specs.Kernel.{TypesOf, KeysIn, SideAt, Merged};
+ghost use Rattle.rows.specs.Maps.{pairsIn, MapIn};
 ghost use Rattle.naming.specs.Maps.{Joins};
 ghost use Rattle.naming.specs.Structures.{structureIn};
 ghost use Rattle.naming.specs.Variables.{GivenOut};
 ghost use Rattle.statements.specs.Structures.{Stands, sideIn};
-ghost use Rattle.statements.specs.Equalities.{varsOver, equalityOf, equalitiesAmong, equalitiesOver};
+ghost use Rattle.statements.specs.Equalities.{equalityOf, equalitiesAmong, equalitiesOver, TypedVars, KeysGiven};
 use crate::statement::Statement;
 use crate::statement::counted;
 use crate::statement::put_statement;
 use flags::flag;
 use records::fields::place;
 use records::fields::short;
-use rows::kernel::key_vars;
 use rows::maps::Map;
 use rows::maps::pair_image;
+use rows::maps::pair_key;
+use rule::elements::Found;
 use rule::elements::element_count;
 use rule::elements::element_number;
+use rule::elements::find_element;
 use rule::ids::ElId;
 use rule::ids::FIELDS;
 use rule::ids::RULE_INDEX;
@@ -62,62 +66,101 @@ fn put_equality(out: &mut [u8], from: usize, letter: u8, types: &[u8], v: u16, w
     )
 }
 
-// The Equalities of a key and each later one with the same image.
+// The variables of the keys of an image, in the keys' order, and how many there are.
+pub struct Fiber {
+    pub vars: [u16; FIELDS],
+    pub count: usize,
+}
+
+// Those of an element; `row` has the variables of the source's elements, by their places.
+fn fiber_vars(s: &[u8], index: &[u16; RULE_INDEX], src: usize, row: &[u16; FIELDS], m: Map, e: ElId) -> Fiber
+    requires { ⌜ MapIn (now s) m ⌝ }
+    requires { ⌜ src < structureLimit ⌝ }
+    requires { ⌜ Elements (now s) (now index) src ⌝ }
+    requires { ⌜ KeysIn (elementNumbers (now s) (now index) src) (pairsIn (now s) m) ⌝ }
+    ensures { λ r. ⌜ (length (r .vars) ≡ fieldLimit) × (r .count ≤ fieldLimit) ⌝ }
+    ensures { λ r. ⌜ ((source : Side) → SideAt (elementNumbers (now (s .entry)) (now (index .entry)) src) (now (row .entry)) source
+        → take (r .count) (r .vars) ≡ each (variableIn source) (fiber (pairsIn (now (s .entry)) m) (e .0))) ⌝ }
+{
+    let mut vars = [0u16; FIELDS];
+    let mut count: usize = 0;
+    let mut p: usize = 0;
+    while p < m.pairs {
+        let image = pair_image(s, m, p);
+        if image.0 == e.0 {
+            let f = find_element(s, index, src, pair_key(s, m, p));
+            let Found::At(i) = f else {
+                return Fiber { vars, count };
+            };
+            vars[count] = row[i];
+            count += 1;
+        }
+        p += 1;
+    }
+    Fiber { vars, count }
+}
+
+// Equalities of a variable with each behind it.
 fn put_later(
     out: &mut [u8],
     from: usize,
     letter: u8,
-    s: &[u8],
-    m: Map,
-    vars: &[u16; FIELDS],
     types: &[u8],
-    p: usize,
+    vars: &[u16; FIELDS],
+    count: usize,
+    i: usize,
 ) -> usize
-    requires { ⌜ (from ≤ countLimit) × (p < m .pairs) ⌝ }
-    requires { ⌜ MapIn (now s) m ⌝ }
-    requires { ⌜ Typed m (now vars) (length (now types)) ⌝ }
-    ensures { λ r. ⌜ Put (now (out .entry)) (now (out .exit)) (statementBytes letter (each (equalityOf (now (types .entry)) (getD (now (vars .entry)) p 0))
-        (varsOver (now (s .entry)) m (now (vars .entry)) (pairAt (now (s .entry)) m p .image) (p + 1)))) from r ⌝ }
+    requires { ⌜ (from ≤ countLimit) × (i < count) ⌝ }
+    requires { ⌜ TypedVars (now vars) count (length (now types)) ⌝ }
+    ensures { λ r. ⌜ Put (now (out .entry)) (now (out .exit)) (statementBytes letter (each (equalityOf (now (types .entry)) (getD (now (vars .entry)) i 0))
+        (drop (i + 1) (take count (now (vars .entry)))))) from r ⌝ }
 {
-    let image = pair_image(s, m, p);
     let mut at = from;
-    let mut q = p + 1;
-    while q < m.pairs {
-        let other = pair_image(s, m, q);
-        if other.0 == image.0 {
-            at = put_equality(out, at, letter, types, vars[p], vars[q]);
-        }
-        q += 1;
+    let mut j = i + 1;
+    while j < count {
+        at = put_equality(out, at, letter, types, vars[i], vars[j]);
+        j += 1;
     }
     at
 }
 
-// The Equalities of the keys whose image is an element.
+// Equalities of each two of some variables.
+fn put_among(out: &mut [u8], from: usize, letter: u8, types: &[u8], vars: &[u16; FIELDS], count: usize) -> usize
+    requires { ⌜ from ≤ countLimit ⌝ }
+    requires { ⌜ TypedVars (now vars) count (length (now types)) ⌝ }
+    ensures { λ r. ⌜ Put (now (out .entry)) (now (out .exit)) (statementBytes letter (equalitiesAmong (now (types .entry)) (take count (now (vars .entry))))) from r ⌝ }
+{
+    let mut at = from;
+    let mut i: usize = 0;
+    while i < count {
+        at = put_later(out, at, letter, types, vars, count, i);
+        i += 1;
+    }
+    at
+}
+
+// Those of the keys of an element.
 fn put_fiber(
     out: &mut [u8],
     from: usize,
     letter: u8,
     s: &[u8],
+    index: &[u16; RULE_INDEX],
+    src: usize,
+    row: &[u16; FIELDS],
     m: Map,
-    vars: &[u16; FIELDS],
     types: &[u8],
     e: ElId,
 ) -> usize
     requires { ⌜ from ≤ countLimit ⌝ }
-    requires { ⌜ MapIn (now s) m ⌝ }
-    requires { ⌜ Typed m (now vars) (length (now types)) ⌝ }
-    ensures { λ r. ⌜ Put (now (out .entry)) (now (out .exit)) (statementBytes letter (equalitiesAmong (now (types .entry)) (varsOver (now (s .entry)) m (now (vars .entry)) (e .0) 0))) from r ⌝ }
+    requires { ⌜ Stands (now s) (now index) src ⌝ }
+    requires { ⌜ MapIn (now s) m × KeysGiven (now s) src m (now row) (length (now types)) ⌝ }
+    ensures { λ r. ⌜ Put (now (out .entry)) (now (out .exit)) (statementBytes letter (equalitiesAmong (now (types .entry))
+        (each (variableIn (sideIn (now (s .entry)) src (now (row .entry)))) (fiber (pairsIn (now (s .entry)) m) (e .0))))) from r ⌝ }
 {
-    let mut at = from;
-    let mut p: usize = 0;
-    while p < m.pairs {
-        let image = pair_image(s, m, p);
-        if image.0 == e.0 {
-            at = put_later(out, at, letter, s, m, vars, types, p);
-        }
-        p += 1;
-    }
-    at
+    let fiber = fiber_vars(s, index, src, row, m, e);
+    let vars = fiber.vars;
+    put_among(out, from, letter, types, &vars, fiber.count)
 }
 
 // Those of every element of the target, in the elements' order; only one that is flagged is the image of several keys.
@@ -127,18 +170,19 @@ fn put_kernel_pairs(
     letter: u8,
     s: &[u8],
     index: &[u16; RULE_INDEX],
+    src: usize,
     tgt: usize,
+    row: &[u16; FIELDS],
     m: Map,
-    vars: &[u16; FIELDS],
     types: &[u8],
     merged: u64,
 ) -> usize
     requires { ⌜ from ≤ countLimit ⌝ }
-    requires { ⌜ Stands (now s) (now index) tgt ⌝ }
-    requires { ⌜ MapIn (now s) m ⌝ }
-    requires { ⌜ Typed m (now vars) (length (now types)) ⌝ }
+    requires { ⌜ Stands (now s) (now index) src × Stands (now s) (now index) tgt ⌝ }
+    requires { ⌜ MapIn (now s) m × KeysGiven (now s) src m (now row) (length (now types)) ⌝ }
     requires { ⌜ Merged merged (structureIn (now s) tgt) (pairsIn (now s) m) ⌝ }
-    ensures { λ r. ⌜ Put (now (out .entry)) (now (out .exit)) (statementBytes letter (equalitiesOver (now (s .entry)) m (now (vars .entry)) (now (types .entry)) (numbersOf (structureIn (now (s .entry)) tgt)))) from r ⌝ }
+    ensures { λ r. ⌜ Put (now (out .entry)) (now (out .exit)) (statementBytes letter (equalitiesOver (variableIn (sideIn (now (s .entry)) src (now (row .entry))))
+        (pairsIn (now (s .entry)) m) (now (types .entry)) (numbersOf (structureIn (now (s .entry)) tgt)))) from r ⌝ }
 {
     let count = element_count(index, tgt);
     let mut at = from;
@@ -146,7 +190,7 @@ fn put_kernel_pairs(
     while j < count {
         if flag(merged, j) {
             let e = element_number(s, index, tgt, j);
-            at = put_fiber(out, at, letter, s, m, vars, types, e);
+            at = put_fiber(out, at, letter, s, index, src, row, m, types, e);
         }
         j += 1;
     }
@@ -177,6 +221,5 @@ pub fn put_equalities(
         → Put (now (out .entry)) (now (out .exit)) (statementBytes letter (definition.equalities sig table (sideIn (now (s .entry)) src row) target (pairsIn (now (s .entry)) m))) from r) ⌝ }
     ensures { λ r. ⌜ r ≤ countLimit ⌝ }
 {
-    let vars = key_vars(s, index, src, &row, m);
-    put_kernel_pairs(out, from, letter, s, index, tgt, m, &vars, types, merged)
+    put_kernel_pairs(out, from, letter, s, index, src, tgt, &row, m, types, merged)
 }

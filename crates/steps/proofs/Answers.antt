@@ -22,9 +22,8 @@ use Rattle.theory.proofs.Lists.{lowest-none, length-each, getD-each}
 use Rattle.theory.proofs.StepForm.{stepFault}
 use Rattle.records.specs.Places.{Run}
 use Rattle.rule.specs.Elements.{countAt, elementNumbers}
-use Rattle.rule.proofs.Finding.{numbers-length}
 use Rattle.rows.specs.Arguments.{RowsKnown}
-use Rattle.rows.specs.Kernel.{KeyVars, Typed, SideAt, KeysIn}
+use Rattle.rows.specs.Kernel.{KeyVars, Typed, KeysIn}
 use Rattle.rows.specs.Maps.{noPair, pairsIn, MapIn}
 use Rattle.rows.specs.Members.{memberRows}
 use Rattle.rows.specs.declared.maps.Map.{Map}
@@ -51,12 +50,6 @@ use Rattle.steps.proofs.Masks.{flagged-keep, none-flagged}
 use Rattle.steps.proofs.Flagging.{members-all, members-free}
 
 -- The variables of a map's keys.
-pub side-at : {s index : List ℕ} {k : ℕ} → Laid s index k → (row : List ℕ) → SideAt (elementNumbers s index k) row (sideIn s k row)
-side-at {s} {index} {k} w row = record {
-  numbers = numbers-are w;
-  variables = λ i l. let n = numbers-length s index k in let e = elements-are w in sym (getD-take (length (structureIn s k .elements)) row i 0 (omega arith));
-}
-
 pub keys-in : {s index : List ℕ} {src tgt : ℕ} {m : Map} → Laid s index src → Joins s src tgt m → KeysIn (elementNumbers s index src) (pairsIn s m)
 keys-in w j = rw (numbers-are w) at (j .keys)
 

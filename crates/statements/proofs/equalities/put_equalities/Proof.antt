@@ -1,20 +1,19 @@
-use Rattle.statements.proofs.KernelPairs.{side-at, keys-in, keys-typed, equalities-are}
 use borrow.Author.Needs.{needs}
 use native.Mathlib.Omega.{arith}
+use Rattle.statements.proofs.KernelPairs.{keys-given, equalities-are}
 use Rattle.statements.proofs.equalities.put_equalities.Statement.{statement}
 use Rattle.statements.proofs.equalities.put_equalities.Tie as tie
 
-key-vars-requires : tie.Need-key-vars-requires
-key-vars-requires c κs = (c .before .before .before .before .pre .1 .1 .0 .0, (c .before .before .before .before .pre .1 .0 .0 .at .laid .few, (c .before .before .before .before .pre .1 .0 .0 .at .laid .elements .elements, keys-in (c .before .before .before .before .pre .1 .0 .0 .at .laid) (c .before .before .before .before .pre .1 .1 .0 .1 .keys))))
-
 put-kernel-pairs-requires : tie.Need-put-kernel-pairs-requires
-put-kernel-pairs-requires c κs = (c .before .before .before .before .before .before .before .pre .0, (c .before .before .before .before .before .before .before .pre .1 .0 .1, (c .before .before .before .before .before .before .before .pre .1 .1 .0 .0, (keys-typed (c .before .before .before .before .before .before .before .pre .1 .1 .0 .0) (c .before .before .before .before .before .before .before .pre .1 .1 .0 .1) (c .before .before .before .before .before .before .before .pre .1 .1 .1 .0) (c .before .before .key-vars .ensures _ (side-at (c .before .before .before .before .before .before .before .pre .1 .0 .0 .at .laid) _)), c .before .before .before .before .before .before .before .pre .1 .1 .1 .1))))
+put-kernel-pairs-requires c κs = let p = c .before .before .before .before .before .pre in let m = p .1 .1 .0 in (p .0, (p .1 .0, ((m .0, keys-given (m .1) (p .1 .1 .1 .0)), p .1 .1 .1 .1)))
 
 same-length : tie.Need-same-length
 same-length c = search needs
 
 returns : tie.Need-returns
-returns c = (λ sig table target t q. rw (equalities-are (c .before .before .before .before .before .before .before .before .before .before .pre .1 .1 .0 .0) (c .before .before .before .before .before .before .before .before .before .before .pre .1 .1 .0 .1) (c .before .before .before .before .before .before .before .before .before .before .pre .1 .1 .1 .0) (c .before .before .before .before .before .key-vars .ensures _ (side-at (c .before .before .before .before .before .before .before .before .before .before .pre .1 .0 .0 .at .laid) _)) t sig target q) (c .before .before .put-kernel-pairs .ensures), omega (arith, c .before .before .put-kernel-pairs .ensures .size))
+returns c =
+    let p = c .before .before .before .before .before .before .before .before .pre in let r = c .before .before .put-kernel-pairs .ensures in
+    (λ sig table target t q. rw (equalities-are (keys-given (p .1 .1 .0 .1) (p .1 .1 .1 .0)) t _ sig target q) r, omega (arith, r .size))
 
 pub put-equalities-spec : {M : Type 1} → statement M
-put-equalities-spec = tie.close (tie.spec key-vars-requires put-kernel-pairs-requires same-length returns)
+put-equalities-spec = tie.close (tie.spec put-kernel-pairs-requires same-length returns)

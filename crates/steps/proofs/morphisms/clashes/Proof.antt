@@ -1,6 +1,7 @@
 use mathlib.Core.Path.{sym}
 use Rattle.rows.proofs.Several.{none-merged, no-clash}
-use Rattle.steps.proofs.Answers.{side-at, keys-in, keys-typed}
+use Rattle.statements.proofs.KernelPairs.{side-at}
+use Rattle.steps.proofs.Answers.{keys-in, keys-typed}
 use Rattle.steps.proofs.morphisms.clashes.Statement.{statement}
 use Rattle.steps.proofs.morphisms.clashes.Tie as tie
 

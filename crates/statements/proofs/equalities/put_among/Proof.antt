@@ -1,0 +1,37 @@
+use Prim.Native.Nat.{_-_, _≤_}
+use lib.ListN.{take, drop}
+use borrow.Author.Needs.{needs}
+use Rattle.records.proofs.Tail.{Writing, begin, wrote, finish}
+use Rattle.statements.proofs.Fibers.{firsts-on, firsts-end, amongBytes, among-cons, among-none, among-all}
+use Rattle.statements.proofs.equalities.put_among.Statement.{statement}
+use Rattle.statements.proofs.equalities.put_among.Tie as tie
+
+abbrev Inv-loop : tie.InvT-loop
+Inv-loop out₀ from letter types vars count at₀ i₀ out at i = (i ≤ count) × Writing out₀ out from at (amongBytes letter types (take count vars)) (amongBytes letter types (drop i (take count vars)))
+
+abbrev μ-loop : tie.MeasureT-loop
+μ-loop out₀ from letter types vars count at₀ i₀ out at i = count - i
+
+loop-holds : tie.Need-loop-holds Inv-loop μ-loop
+loop-holds c = (search needs, begin _ _ (search needs))
+
+put-later-requires : tie.Need-put-later-requires Inv-loop μ-loop
+put-later-requires c κs = ((search needs, c .before .loop-test .taken), c .before .before .before .before .before .pre .1)
+
+add-i : tie.Need-add-i Inv-loop μ-loop
+add-i c = let f = c .before .before .before .before .before .before .before .before .pre .1 .few in let l = c .before .before .before .before .loop-test .taken in search needs
+
+loop-less : tie.Need-loop-less Inv-loop μ-loop
+loop-less c = search needs
+
+loop-again : tie.Need-loop-again Inv-loop μ-loop
+loop-again c = (search needs, wrote (c .before .before .before .before .before .loop .inv .1) (among-cons _ _ _ (firsts-on (c .before .before .before .before .before .before .before .before .pre .1) _ (c .before .before .before .before .loop-test .taken))) (c .before .before .put-later .ensures))
+
+same-length : tie.Need-same-length Inv-loop μ-loop
+same-length c = c .before .loop .inv .1 .put .long
+
+returns : tie.Need-returns Inv-loop μ-loop
+returns c = rw (← (among-all _ _ _)) (finish (c .before .loop .inv .1) (among-none _ _ (firsts-end (c .before .before .before .before .pre .1) _ (c .loop-test .left))))
+
+pub put-among-spec : {M : Type 1} → statement M
+put-among-spec = tie.close (tie.spec Inv-loop μ-loop loop-holds put-later-requires add-i loop-less loop-again same-length returns)
