@@ -65,12 +65,7 @@ fn group_most(len: usize, els: usize, n: usize) -> usize
 }
 
 // Does every group fit that a rule of such a length can give? Small rules need not be measured.
-fn surely_fits(
-    s: &[u8],
-    index: &[u16; RULE_INDEX],
-    n: usize,
-    room: usize,
-) -> bool
+fn surely_fits(s: &[u8], index: &[u16; RULE_INDEX], n: usize, room: usize) -> bool
     requires { ⌜ (length (now s) ≤ ruleBytes) × (n ≤ structureLimit) × Most (now index) n fieldLimit ⌝ }
     ensures { λ r. ⌜ (r ≡ true → Sure (now (s .entry)) (now (index .entry)) n room) ⌝ }
 {

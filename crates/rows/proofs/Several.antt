@@ -116,11 +116,11 @@ module _ {s : List ℕ} {m : Map} (h : MapIn s m) {els : List ℕ} {seen merged 
 pub packed-merged : {mask : ℕ} {merged : List Bool} (els : List ℕ) (target : Structure) (pairs : List Pair) → numbersOf target ≡ els → length els ≤ fieldLimit
     → PackedLess mask merged (replicate fieldLimit false) (length els) → ((j : ℕ) → j < length els → getD merged j false ≡ severalAt els pairs j) → Merged mask target pairs
 packed-merged {mask} {merged} els target pairs e few p w = record {
-    flags = record {
-      small = rw e (p .flags .small);
-      same = λ j l. rw e (same j (rw e at l));
-    };
-  }
+  flags = record {
+    small = rw e (p .flags .small);
+    same = λ j l. rw e (same j (rw e at l));
+  };
+}
   where
     and-not : (b : Bool) → (b && not false) ≡ b
     and-not true = refl

@@ -31,7 +31,13 @@ fn variable(v: u16) -> usize
 }
 
 // The variables of a map's keys, in the keys' order; `row` has those of the source's elements, by their places.
-pub fn key_vars(s: &[u8], index: &[u16; RULE_INDEX], k: usize, row: &[u16; FIELDS], m: Map) -> [u16; FIELDS]
+pub fn key_vars(
+    s: &[u8],
+    index: &[u16; RULE_INDEX],
+    k: usize,
+    row: &[u16; FIELDS],
+    m: Map,
+) -> [u16; FIELDS]
     requires { ⌜ MapIn (now s) m ⌝ }
     requires { ⌜ k < structureLimit ⌝ }
     requires { ⌜ Elements (now s) (now index) k ⌝ }

@@ -62,9 +62,11 @@ module _ {s : List ℕ} {m : Map} (h : MapIn s m) {els row : List ℕ} {e : ℕ}
     pub fiber-next : pairAt s m p .image ≡ e → count < length vars → {k i : ℕ} → k ≡ pairAt s m p .key → Finds (At i) k els
         → FiberTo s m els row e (set vars count (getD row i 0)) (count + 1) (p + 1)
     unfolding each variableAt
-    fiber-next a b {k} {i} q f = record { same = λ source t.
-        let v : getD row i 0 ≡ variableIn source (pairAt s m p .key) = t .variables i (f .is .1) ∙ rw (← q, t .numbers, ← (f .is .0)) in
-        rw (store-more vars count (getD row i 0) b, w .same source t, on, more-same (take p (pairsIn s m)) (pairAt s m p) e a, each-append, v) }
+    fiber-next a b {k} {i} q f = record {
+      same = λ source t.
+          let v : getD row i 0 ≡ variableIn source (pairAt s m p .key) = t .variables i (f .is .1) ∙ rw (← q, t .numbers, ← (f .is .0)) in
+          rw (store-more vars count (getD row i 0) b, w .same source t, on, more-same (take p (pairsIn s m)) (pairAt s m p) e a, each-append, v);
+    }
 
 -- The first variables of an array, from one on.
 module _ {vars : List ℕ} {count size : ℕ} (w : TypedVars vars count size) where

@@ -73,7 +73,14 @@ pub struct Fiber {
 }
 
 // Those of an element; `row` has the variables of the source's elements, by their places.
-fn fiber_vars(s: &[u8], index: &[u16; RULE_INDEX], src: usize, row: &[u16; FIELDS], m: Map, e: ElId) -> Fiber
+fn fiber_vars(
+    s: &[u8],
+    index: &[u16; RULE_INDEX],
+    src: usize,
+    row: &[u16; FIELDS],
+    m: Map,
+    e: ElId,
+) -> Fiber
     requires { ⌜ MapIn (now s) m ⌝ }
     requires { ⌜ src < structureLimit ⌝ }
     requires { ⌜ Elements (now s) (now index) src ⌝ }
@@ -125,7 +132,14 @@ fn put_later(
 }
 
 // Equalities of each two of some variables.
-fn put_among(out: &mut [u8], from: usize, letter: u8, types: &[u8], vars: &[u16; FIELDS], count: usize) -> usize
+fn put_among(
+    out: &mut [u8],
+    from: usize,
+    letter: u8,
+    types: &[u8],
+    vars: &[u16; FIELDS],
+    count: usize,
+) -> usize
     requires { ⌜ from ≤ countLimit ⌝ }
     requires { ⌜ TypedVars (now vars) count (length (now types)) ⌝ }
     ensures { λ r. ⌜ Put (now (out .entry)) (now (out .exit)) (statementBytes letter (equalitiesAmong (now (types .entry)) (take count (now (vars .entry))))) from r ⌝ }
@@ -221,5 +235,17 @@ pub fn put_equalities(
         → Put (now (out .entry)) (now (out .exit)) (statementBytes letter (definition.equalities sig table (sideIn (now (s .entry)) src row) target (pairsIn (now (s .entry)) m))) from r) ⌝ }
     ensures { λ r. ⌜ r ≤ countLimit ⌝ }
 {
-    put_kernel_pairs(out, from, letter, s, index, src, tgt, &row, m, types, merged)
+    put_kernel_pairs(
+        out,
+        from,
+        letter,
+        s,
+        index,
+        src,
+        tgt,
+        &row,
+        m,
+        types,
+        merged,
+    )
 }

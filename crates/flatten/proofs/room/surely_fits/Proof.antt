@@ -11,10 +11,10 @@ group-most-requires c κs = let p = c .before .before .pre in (p .0, c .most-ele
 
 returns : tie.Need-returns
 returns c = λ z. record {
-    els = c .before .most-elements .result;
-    most = c .before .most-elements .ensures;
-    enough = omega (arith, c .group-most .ensures, leb-true (c .group-most .result) (c .before .before .before .args .room) z);
-  }
+  els = c .before .most-elements .result;
+  most = c .before .most-elements .ensures;
+  enough = omega (arith, c .group-most .ensures, leb-true (c .group-most .result) (c .before .before .before .args .room) z);
+}
 
 pub surely-fits-spec : {M : Type 1} → statement M
 surely-fits-spec = tie.close (tie.spec most-elements-requires group-most-requires returns)

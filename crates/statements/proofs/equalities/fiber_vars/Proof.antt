@@ -64,10 +64,18 @@ loop-again : tie.Need-loop-again Inv-loop μ-loop
 loop-again c =
     let i = c .before .before .before .before .before .before .loop .inv in let w = c .before .before .before .before .before .before .before .before .pre in let l = c .before .before .before .before .if1 .taken in let f = w .0 .few in let a = i .1 in let n = i .0 in
     ⊎-elim
-    (λ x. (rw (x .7, length-set) n, rw (x .8) (omega arith), omega arith,
-      rw (x .7, x .8) (fiber-next (w .0) (i .3) l (sym (c .before .before .before .pair-image .ensures) ∙ x .0 .taken) (omega arith) (x .1 .ensures) (rw (x .4 .given .1) at (x .2 .ensures)))))
-    (λ x. (rw (x .1) n, rw (x .2) (omega arith), omega arith,
-      rw (x .1, x .2) (fiber-pass (w .0) (i .3) l (λ z. x .0 .left (c .before .before .before .pair-image .ensures ∙ z)))))
+    (λ x. (
+      rw (x .7, length-set) n,
+      rw (x .8) (omega arith),
+      omega arith,
+      rw (x .7, x .8) (fiber-next (w .0) (i .3) l (sym (c .before .before .before .pair-image .ensures) ∙ x .0 .taken) (omega arith) (x .1 .ensures) (rw (x .4 .given .1) at (x .2 .ensures))),
+    ))
+    (λ x. (
+      rw (x .1) n,
+      rw (x .2) (omega arith),
+      omega arith,
+      rw (x .1, x .2) (fiber-pass (w .0) (i .3) l (λ z. x .0 .left (c .before .before .before .pair-image .ensures ∙ z))),
+    ))
     (c .if2 .came)
 
 returns-2 : tie.Need-returns-2 Inv-loop μ-loop

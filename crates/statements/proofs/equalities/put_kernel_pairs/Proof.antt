@@ -19,7 +19,7 @@ use Rattle.statements.proofs.equalities.put_kernel_pairs.Tie as tie
 abbrev Inv-loop : tie.InvT-loop
 Inv-loop out₀ from letter s index src tgt row m types merged count at₀ j₀ out at j = (j ≤ count)
     × Writing out₀ out from at (overBytes letter (variableIn (sideIn s src row)) (pairsIn s m) types (numbersOf (structureIn s tgt)))
-      (overBytes letter (variableIn (sideIn s src row)) (pairsIn s m) types (drop j (numbersOf (structureIn s tgt))))
+    (overBytes letter (variableIn (sideIn s src row)) (pairsIn s m) types (drop j (numbersOf (structureIn s tgt))))
 
 abbrev μ-loop : tie.MeasureT-loop
 μ-loop out₀ from letter s index src tgt row m types merged count at₀ j₀ out at j = count - j
@@ -50,8 +50,11 @@ loop-again c =
     let l = c .before .before .before .before .before .before .before .before .pre .1 .0 .1 .at .laid in
     ⊎-elim
     (λ w. (search needs, rw (w .6, w .7) (wrote (c .before .before .before .loop .inv .1) (els-on _ _ l _ _ (c .before .before .before .before .element-count .ensures) (c .before .before .loop-test .taken) (w .1 .ensures)) (w .3 .ensures))))
-    (λ w. (search needs, rw (w .1, w .2) (passed (c .before .before .before .loop .inv .1) (els-pass _ _ l _ _ (c .before .before .before .before .element-count .ensures) (c .before .before .loop-test .taken)
-      (unflagged (c .before .before .before .before .before .before .before .before .pre .1 .1 .1) _ (place-in-numbers l (c .before .before .before .before .element-count .ensures) (c .before .before .loop-test .taken)) (sym (c .before .flag .ensures) ∙ w .0 .left))))))
+    (λ w. (
+      search needs,
+      rw (w .1, w .2) (passed (c .before .before .before .loop .inv .1) (els-pass _ _ l _ _ (c .before .before .before .before .element-count .ensures) (c .before .before .loop-test .taken)
+          (unflagged (c .before .before .before .before .before .before .before .before .pre .1 .1 .1) _ (place-in-numbers l (c .before .before .before .before .element-count .ensures) (c .before .before .loop-test .taken)) (sym (c .before .flag .ensures) ∙ w .0 .left)))),
+    ))
     (c .if1 .came)
 
 same-length : tie.Need-same-length Inv-loop μ-loop
