@@ -1,5 +1,5 @@
 -- The loop over all pairs: kinds as the table has them, and the walk's end.
-use Prim.Native.Nat.{ℕ, zero, suc, _+_, _-_, _*_, _<_}
+use Prim.Native.Nat.{ℕ, zero, suc, _+_, _-_, _*_, _≤_, _<_}
 use native.Mathlib.Omega.{arith}
 use native.Mathlib.Nat.{suc-mul}
 use mathlib.Core.Bool.{Bool, true, false}
@@ -11,7 +11,7 @@ use lib.ListN.{length, set, replicate, length-replicate}
 use lib.Seq.{sets}
 use borrow.Author.Tests.{ltb-true, ltb-false}
 use Rattle.definition.specs.Base.{refused}
-use Rattle.definition.specs.Limits.{variableLimit}
+use Rattle.definition.specs.Limits.{fieldLimit}
 use Rattle.definition.specs.Names.{numbered}
 use Rattle.definition.specs.Rule.{MorphismKind}
 use Rattle.definition.specs.Signature.{Signature}
@@ -137,11 +137,12 @@ ended-walk {sig} {s} {tb = tb} {next} {t} {u} gr e a g =
         g .rest ∙ rw z,
         record {
           ties = w .ties;
+          first-reached = w .first-reached;
           variables = rw c (w .variables ∙ news-none s tb t o);
           rules = rw c (w .rules ∙ ap (namedRules (groupName (ruleAt s)) 0) (emitted-none sig s tb (g .state) t o));
           few = omega arith;
           types-are = w .types-are;
-          types-long = w .types-long;
+          types-long = let l = w .types-long in omega arith;
         },
       );
     }
@@ -151,21 +152,23 @@ pub walked-all : {sig : Signature} {s index types : List ℕ} {tb : Tables} {nex
 walked-all On gr e a w f = rw f (ended-walk gr e a (w .is))
 walked-all (Refused n) gr e a w f = rw f (refused-walk n (w .is))
 
--- There is a type for each variable that may be given out.
-pub begun-long : {sources types : List ℕ} {masks vars : List (List ℕ)} → Begun sources masks vars types → length types ≡ variableLimit
-begun-long b = ap length (b .types-are) ∙ length-replicate {A = ℕ} variableLimit 0
+-- There is a place for the type of each variable that structure 0 gives out.
+pub first-typed : {sig : Signature} {s index : List ℕ} (types : List ℕ) {n : ℕ} → Ground sig s index → n ≡ length (ruleAt s .structures) → fieldLimit * n ≤ length types → fieldLimit ≤ length types
+first-typed types gr e h = let o = gr .some-one in omega arith
 
 -- The walk begins: of the structures only 0 has a row of variables.
-pub begin-walk : {sig : Signature} {s index : List ℕ} → Ground sig s index → {sources types types′ row : List ℕ} {masks vars : List (List ℕ)} {next : ℕ} → Begun sources masks vars types
+pub begin-walk : {sig : Signature} {s index : List ℕ} → Ground sig s index → {sources types types′ row : List ℕ} {masks vars : List (List ℕ)} {next n : ℕ} → Begun sources masks vars types
+    → n ≡ length (ruleAt s .structures) → fieldLimit * n ≤ length types
     → row ≡ rowOf (numbered 0 (nothingTaken (structureIn s 0))) → types′ ≡ sets types 0 (typesOf (newIn (structureIn s 0) 0 row)) → next ≡ countAt index 0
     → Under On sig s (tables sources masks (set vars 0 row)) types′ next 0 0
-begin-walk {sig} {s} gr {types′ = types′} {next = next} b e f c =
+begin-walk {sig} {s} gr {types = types} {types′ = types′} {next = next} {n = n} b a h e f c =
     let q : next ≡ length (structureIn s 0 .elements) = c ∙ sym (elements-are (first-laid gr)) in
-    let g : types′ ≡ sets (replicate variableLimit 0) 0 (typesOf (newIn (structureIn s 0) 0 (rowOf (numbered 0 (nothingTaken (structureIn s 0)))))) = f ∙ rw (b .types-are, e) in
+    let l : length types ≡ b .size = ap length (b .types-are) ∙ length-replicate {A = ℕ} (b .size) 0 in
+    let g : types′ ≡ sets (replicate (b .size) 0) 0 (typesOf (newIn (structureIn s 0) 0 (rowOf (numbered 0 (nothingTaken (structureIn s 0)))))) = f ∙ rw (b .types-are, e) in
     record {
       is = rw (q, b .sources-are, b .masks-are, b .vars-are, e) (record {
         state = initialState (ruleAt s);
-        walking = started sig s (first-rows gr) (gr .some-one) g;
+        walking = started sig s (first-rows gr) (gr .some-one) (b .size) (omega arith) g;
         rest = ap (walkFrom sig (ruleAt s) (initialState (ruleAt s))) (left-all s (gr .once) (gr .some-one));
       });
     }

@@ -98,6 +98,9 @@ module _ {sig : Signature} {s index types : List ℕ} {tb : Tables} {next t u nu
   pub room : next + fieldLimit ≤ variableLimit
   room = let f = o .going .walking .fewer (o .free) in let i = o .met .target-in in let l = o .ground .few in omega arith
 
+  pub typed-room : next + fieldLimit ≤ length types
+  typed-room = let f = o .going .walking .fewer (o .free) in let i = o .met .target-in in let l = o .going .walking .types-long in omega arith
+
   pub source-laid : Laid s index u
   source-laid = o .ground .sounds u (o .met .source-in) .laid
 
@@ -124,7 +127,7 @@ module _ {sig : Signature} {s index types : List ℕ} {tb : Tables} {next t u nu
   target-row = a ∙ rw b
 
   pub typed-read : GivenOut (structureIn s u) source (length types)
-  typed-read = let l = o .going .walking .types-long in let r = room o in rw source-row (given-more (omega arith) (source-given o))
+  typed-read = let r = typed-room o in rw source-row (given-more (omega arith) (source-given o))
 
   pub reaches : Reaches sig s index u t m source target next
   unfolding rowAt

@@ -5,19 +5,17 @@ use mathlib.Core.Bool.{false}
 use mathlib.Core.Path.{_≡_, refl, sym}
 use mathlib.Core.List.{List, [], List·Memᴰ·not-nil}
 use mathlib.Core.Option.{Option, none, some}
-use lib.Dec.{ltb}
 use lib.ListN.{length}
-use borrow.Author.Tests.{ltb-false}
-use Rattle.definition.specs.Base.{accepted, orDefault, _∈_}
-use Rattle.definition.specs.Limits.{ruleBytes, fieldLimit}
-use Rattle.definition.specs.Rule.{Rule, Pair, rowOf, readRule}
+use Rattle.definition.specs.Base.{orDefault, _∈_}
+use Rattle.definition.specs.Limits.{structureLimit, fieldLimit}
+use Rattle.definition.specs.Rule.{Pair, rowOf}
 use Rattle.definition.specs.Letters.{predicate, function}
 use Rattle.definition.specs.Records.{Field}
 use Rattle.definition.specs.Signature.{Signature}
 use Rattle.definition.specs.Names.{numbersOf}
 use Rattle.definition.specs.Walk.{pairsBetween, unmappedAuxiliary, unmappedKind, structureAt}
 use Rattle.theory.proofs.Lists.{length-each}
-use Rattle.theory.proofs.Sound.{sound-signature, read-within}
+use Rattle.theory.proofs.Sound.{sound-signature}
 use Rattle.signature.specs.Index.{signatureAt}
 use Rattle.signature.specs.declared.ids.Counts.{Counts}
 use Rattle.rule.specs.Lookup.{Ready, ruleAt}
@@ -40,11 +38,6 @@ use Rattle.flatten.proofs.Starting.{FewRows}
 abbrev pub AllMapped : List ℕ → Type 0
 AllMapped s = (unmappedAuxiliary (ruleAt s) ≡ false) × (unmappedKind (ruleAt s) ≡ false)
 
--- 1: an accepted rule is no longer than a rule may be.
-read-short : (sig : Signature) (s : List ℕ) {rule : Rule} → readRule sig s ≡ accepted rule → length s ≤ ruleBytes
-unfolding readRule
-read-short sig s e = ltb-false _ _ (read-within (ltb ruleBytes (length s)) _ e .0)
-
 module _ {sig arities s index : List ℕ} {counts : Counts} {n : ℕ} (w : Readable sig arities counts s index n) where
   pub ready : Ready s index
   ready = record { sig = signatureAt sig arities counts; count = n; indexed = w .rule-indexed }
@@ -52,6 +45,9 @@ module _ {sig arities s index : List ℕ} {counts : Counts} {n : ℕ} (w : Reada
   pub counted : n ≡ length (ruleAt s .structures)
   unfolding ready
   counted = sym (structures-are ready)
+
+  pub structures-within : n ≤ structureLimit
+  structures-within = let c = counted in omega (arith, structures-few ready)
 
   keyed : Keyed s
   unfolding pairsOn structureIn
@@ -78,7 +74,6 @@ module _ {sig arities s index : List ℕ} {counts : Counts} {n : ℕ} (w : Reada
     once = kinds-once ready;
     headed = headed (signatureAt sig arities counts) s (w .rule-read);
     types-few = sound-signature sig (w .signature-read) .types-few;
-    short = read-short (signatureAt sig arities counts) s (w .rule-read);
   }
 
 -- A type fits into a byte.

@@ -17,7 +17,7 @@ use Rattle.naming.specs.Structures.{structureIn}
 use Rattle.flatten.specs.Tables.{tables, unreached, sourceAt, rowAt, newsTo}
 use Rattle.flatten.specs.Ended.{Ended, Numbered}
 use Rattle.flatten.proofs.Reaching.{is-reached}
-use Rattle.flatten.proofs.Rules.{ruleBytes}
+use Rattle.flatten.proofs.Ruling.{ruleBytes}
 
 -- The new variables do not depend on the masks.
 news-unmasked : (s sources : List ℕ) (masks vars : List (List ℕ)) (t : ℕ) → newsTo s (tables sources [] vars) t ≡ newsTo s (tables sources masks vars) t

@@ -10,8 +10,8 @@ pub mod Going
 pub mod Doing
 pub mod Premises
 pub mod Ending
-pub mod Rules
+pub mod Ruling
+pub mod Measuring
 pub mod Groups
 pub mod Grounds
 pub mod Writing
-pub mod Lengths

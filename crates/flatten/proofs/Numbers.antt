@@ -79,12 +79,16 @@ module _ {out₀ out s index : List ℕ} {tb : Tables} {from at number t n : ℕ
   laid : Laid s index t
   laid = g .laid t inside
 
-  -- What the writer of its variables asks.
-  pub naming-asks : (at ≤ countLimit) × (Laid s index t × (number + fieldLimit ≤ variableLimit))
-  naming-asks = (omega (arith, w .put .size), (laid, let f = w .few in let k = g .few in let i = inside in omega arith))
-
   read : getD (tb .sources) t 0 ≡ sourceAt tb t
   read = let k = g .few in let i = inside in source-read tb t (g .long) (omega arith)
+
+  row-long : getD (tb .sources) t 0 < unreached → length (structureIn s t .elements) ≤ length (getD (tb .vars) t [])
+  unfolding rowAt
+  row-long b = g .rows t inside (rw read at b)
+
+  -- What the writer of its variables asks.
+  pub naming-asks : getD (tb .sources) t 0 < unreached → (at ≤ countLimit) × (Laid s index t × ((number + fieldLimit ≤ variableLimit) × (length (structureIn s t .elements) ≤ length (getD (tb .vars) t []))))
+  naming-asks b = (omega (arith, w .put .size), (laid, ((let f = w .few in let k = g .few in let i = inside in omega arith), row-long b)))
 
   pub naming-pass : unreached ≤ getD (tb .sources) t 0 → Naming out₀ out s tb from at number (t + 1)
   unfolding newsTo
@@ -93,24 +97,21 @@ module _ {out₀ out s index : List ℕ} {tb : Tables} {from at number t n : ℕ
       let u : ltb (sourceAt tb t) unreached ≡ false = le-ltb (sourceAt tb t) unreached (omega arith) in
       record { put = rw (q, u, append-nil) (w .put); count = rw (q, u, append-nil) (w .count); few = omega arith }
 
-  pub naming-next : {out′ row : List ℕ} {r more count : ℕ} → getD (tb .sources) t 0 < unreached → row ≡ getD (tb .vars) t [] → count ≡ countAt index t
-      → Put out out′ (recordBytes (each variableField (newIn (structureIn s t) number row))) at r
-      → more ≡ fresh (keptIn number count row) → Naming out₀ out′ s tb from r (number + more) (t + 1)
+  pub naming-next : {out′ : List ℕ} {r next : ℕ} → getD (tb .sources) t 0 < unreached
+      → Put out out′ (recordBytes (each variableField (newIn (structureIn s t) number (getD (tb .vars) t [])))) at r
+      → next ≡ number + length (newIn (structureIn s t) number (getD (tb .vars) t [])) → Naming out₀ out′ s tb from r next (t + 1)
   unfolding newsTo rowAt
-  naming-next {row = row} {more = more} {count = count} b x′ c p y =
-      let x : row ≡ rowAt tb t = x′ in
+  naming-next b p n =
       let f = w .few in
       let q : t + 1 ≡ suc t = omega arith in
       let z : sourceAt tb t < unreached = rw read at b in
-      let j = g .rows t inside z in
-      let a : count ≡ length (structureIn s t .elements) = c ∙ sym (elements-are laid) in
-      let m : more ≡ fresh (keptIn number (length (structureIn s t .elements)) (rowAt tb t)) = y ∙ rw (x, a) in
+      let j = row-long b in
       let v = new-count (structureIn s t) number (rowAt tb t) j in
       let k = fresh-few (keptIn number (length (structureIn s t .elements)) (rowAt tb t)) in
       let i = kept-length number (length (structureIn s t .elements)) (rowAt tb t) j in
       let o = element-few laid in
       record {
-        put = rw (q, lt-ltb (sourceAt tb t) unreached z, ← (w .count), each-append, record-append) (then (w .put) (rw x at p));
-        count = rw (q, lt-ltb (sourceAt tb t) unreached z, ← (w .count), length-append, v, ← (w .count), m);
+        put = rw (q, lt-ltb (sourceAt tb t) unreached z, ← (w .count), each-append, record-append) (then (w .put) p);
+        count = rw (q, lt-ltb (sourceAt tb t) unreached z, ← (w .count), length-append, ← (w .count)) n;
         few = omega arith;
       }

@@ -176,9 +176,6 @@ module _ {s index types : List ℕ} {kinds : List (List ℕ)} {tb : Tables} {t :
   unfolding mergedAt pairsOn
   merged-read l q o = rw (← o, q, source-is) (at-slot .2 .merged l)
 
-  pub pairs-in : 0 < t → length (pairsOn s (sourceAt tb t) t) ≤ length (structureIn s (sourceAt tb t) .elements)
-  pairs-in l = at-slot .2 .pairs-few l
-
   kernel-none : 0 < t → getD (getD (tb .masks) t []) 4 0 ≡ 0 → kernelPairs (pairsOn s (sourceAt tb t) t) (structureIn s t) ≡ []
   unfolding mergedAt
   kernel-none l q = none-merged (rw q at (at-slot .2 .merged l))

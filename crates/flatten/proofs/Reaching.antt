@@ -89,7 +89,6 @@ module _ {sig : Signature} {s index : List ℕ} {tb : Tables} {types : List ℕ}
         variables = rw (row-other tb t u ms row k d) (a .variables);
         given = rw (row-other tb t u ms row k d) (given-more l (a .given));
         merged = λ h. rw (x, merged-other tb t u ms row k d) (a .merged h);
-        pairs-few = λ h. rw x (a .pairs-few h);
         statements = rw (before-stays slots tb t u ms row r k d e, own-stays sig s (o .ground .keyed) table news tb t u ms row k d e g) (a .statements);
       }
 

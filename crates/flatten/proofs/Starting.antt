@@ -1,5 +1,5 @@
 -- Structure 0: its rows are all flagged, and the walk begins.
-use Prim.Native.Nat.{ℕ, zero, suc, _+_, _≤_, _<_}
+use Prim.Native.Nat.{ℕ, zero, suc, _+_, _*_, _≤_, _<_}
 use native.Mathlib.Omega.{arith}
 use native.Mathlib.Decide.{ℕ-discrete}
 use native.Mathlib.Nat.{zero-add}
@@ -10,7 +10,7 @@ use mathlib.Core.List.{List, [], _∷_, List·Memᴰ·head, List·Memᴰ·tail}
 use lib.ListN.{length, getD, set, replicate, length-set, length-replicate}
 use lib.Seq.{sets, length-sets, getD-set-same, getD-set-other}
 use Rattle.definition.specs.Base.{keep, each, all, span, placeFrom, _∈_}
-use Rattle.definition.specs.Limits.{structureLimit, fieldLimit, variableLimit}
+use Rattle.definition.specs.Limits.{structureLimit, fieldLimit}
 use Rattle.definition.specs.Rule.{Structure, Element}
 use Rattle.definition.specs.Group.{Variable}
 use Rattle.definition.specs.Signature.{Signature}
@@ -98,9 +98,9 @@ named-none : (group : List ℕ) → [] ≡ namedRules group 0 []
 unfolding namedRules
 named-none group = refl
 
-no-types : TypesOf [] (replicate variableLimit 0)
+no-types : (size : ℕ) → TypesOf [] (replicate size 0)
 unfolding typeIn
-no-types = record { same = λ v h. getD-default variableLimit v 0 }
+no-types size = record { same = λ v h. getD-default size v 0 }
 
 -- The tables at the start of the walk.
 abbrev pub firstTables : List ℕ → Tables
@@ -180,7 +180,6 @@ module _ (sig : Signature) (s : List ℕ) (rows : FewRows (structureIn s 0)) (so
         variables = rw first-row (sym (take-row (numbered 0 (nothingTaken st)) long));
         given = rw (first-row, ← c) (numbered-given st (nothingTaken st) (nothing-below st) (length-nothing st));
         merged = λ h. absurd (omega arith);
-        pairs-few = λ h. absurd (omega arith);
         statements = rw (before-is, own-is);
       }
 
@@ -208,8 +207,9 @@ module _ (sig : Signature) (s : List ℕ) (rows : FewRows (structureIn s 0)) (so
   unfolding emittedTo concludedAt reachedBy concludedBy each
   emitted-first = rw first-source
 
-  pub started : {types : List ℕ} → types ≡ sets (replicate variableLimit 0) 0 (typesOf (newIn st 0 row)) → Walking sig s tb types (length (st .elements)) 0 (initialState (ruleAt s))
-  started {types} e =
+  pub started : {types : List ℕ} (size : ℕ) → fieldLimit * length (ruleAt s .structures) ≤ size → types ≡ sets (replicate size 0) 0 (typesOf (newIn st 0 row))
+      → Walking sig s tb types (length (st .elements)) 0 (initialState (ruleAt s))
+  started {types} size h e =
       let n : newIn st 0 row ≡ news = new-row st (nothing-below st) (length-nothing st) in
       let c : length news ≡ length (st .elements) = count-nothing st in
       let f = rows .elements in
@@ -222,6 +222,6 @@ module _ (sig : Signature) (s : List ℕ) (rows : FewRows (structureIn s 0)) (so
         next-is = sym c;
         few = omega arith;
         fewer = λ x. let y = first-source in absurd (omega arith);
-        types-are = rw (e, n) (types-more no-types news (rw length-replicate (omega arith)));
-        types-long = rw e (length-sets (replicate variableLimit 0) 0 (typesOf (newIn st 0 row)) ∙ length-replicate {A = ℕ} variableLimit 0);
+        types-are = rw (e, n) (types-more (no-types size) news (rw length-replicate (omega (arith, some-one))));
+        types-long = rw (e, length-sets (replicate size 0) 0 (typesOf (newIn st 0 row)), length-replicate {A = ℕ} size 0) h;
       })

@@ -32,8 +32,7 @@ use Rattle.naming.specs.Maps.{takenOver}
 use Rattle.naming.proofs.Whole.{TakenBelow, take-row, length-numbered}
 use Rattle.naming.proofs.Carrying.{length-carried, taken-below}
 use Rattle.naming.proofs.News.{typesOf}
-use Rattle.naming.proofs.Placed.{length-numbers-of, numbers-rise, element-few}
-use Rattle.rows.proofs.KernelCount.{keys-few}
+use Rattle.naming.proofs.Placed.{length-numbers-of, element-few}
 use Rattle.naming.proofs.Reached.{new-row, types-more}
 use Rattle.statements.specs.Said.{saidBy, domainsBy}
 use Rattle.statements.specs.Structures.{sideIn}
@@ -217,12 +216,6 @@ module _ {sig : Signature} {s index : List ℕ} {tb : Tables} {types : List ℕ}
       counted : next + fresh taken ≡ length (state .variables ++ news)
       counted = let z = w .next-is in rw (length-append, count-news) (omega arith)
 
-      keys-in : length (pairsIn s m) ≤ length (structureIn s u .elements)
-      keys-in =
-          let l = o .ground .sounds u (o .met .source-in) .laid in
-          let a = keys-few (pairsIn s m) (numbersOf (structureIn s u)) (p .map-in .ascend) (numbers-rise l) (p .joins .keys .named) in
-          let b = length-numbers-of (structureIn s u) in omega arith
-
       new-one : Merged (getD ms 4 0) (structureIn s t) (pairsIn s m) → ReachedAt sig (state .variables ++ news) s more slots′ t after
       new-one g = record {
         source-in = rw source-is lower;
@@ -232,7 +225,6 @@ module _ {sig : Signature} {s index : List ℕ} {tb : Tables} {types : List ℕ}
         variables = rw row-is (sym (take-row (numbered next taken) (length-numbered next taken ∙ long)));
         given = rw (row-is, ← counted) (numbered-given (structureIn s t) taken below long);
         merged = λ h. rw (source-is, merged-is, ← (p .same)) g;
-        pairs-few = λ h. rw (source-is, ← (p .same)) keys-in;
         statements = rw (before-is, own-is);
       }
 
@@ -260,7 +252,7 @@ module _ {sig : Signature} {s index : List ℕ} {tb : Tables} {types : List ℕ}
           let z = w .next-is in let c = counted in
           let k = fresh-few taken in let l = long in let b = w .fewer (o .free) in
           let y : length (structureIn s t .elements) ≤ fieldLimit = element-few (o .ground .sounds t (o .met .target-in) .laid) in
-          let q = w .types-long in let i = in-limit in
+          let q = w .types-long in let i = o .met .target-in in
           let r : length (state .variables) + length news ≤ length types = rw count-news (omega arith) in
           let v : sets types next (typesOf news) ≡ sets types (length (state .variables)) (typesOf news) = ap (λ (i : ℕ). sets types i (typesOf news)) z in
           record {
@@ -273,7 +265,7 @@ module _ {sig : Signature} {s index : List ℕ} {tb : Tables} {types : List ℕ}
             few = omega arith;
             fewer = λ x. let y = source-is in let v = lower in absurd (omega arith);
             types-are = rw (f, new-is, v) (types-more (w .types-are) news r);
-            types-long = rw f (length-sets types next (typesOf (newIn (structureIn s t) next row)) ∙ q);
+            types-long = rw (f, length-sets types next (typesOf (newIn (structureIn s t) next row))) q;
           }
 
       -- It is what the definition reaches.

@@ -1,17 +1,16 @@
 -- The entry: what was measured and written, and what it means.
-use Prim.Native.Nat.{ℕ, zero, suc, _≤_, _<_, min}
+use Prim.Native.Nat.{ℕ, zero, suc, _*_, _≤_, _<_, min}
 use native.Mathlib.Omega.{arith}
-use native.Mathlib.Decide.{decLt}
 use native.Mathlib.Nat.{zero-add}
-use mathlib.Core.Bool.{Bool, true, false, not}
+use mathlib.Core.Bool.{true, false}
 use mathlib.Core.Path.{_≡_, refl, sym, _∙_}
 use mathlib.Core.List.{List, _++_}
-use lib.Dec.{leb}
-use lib.ListN.{length, take, drop, length-append, length-drop}
+use lib.ListN.{length, take, drop, replicate, length-append, length-drop, length-replicate}
 use lib.Seq.{take-at, drop-at}
-use borrow.Author.Tests.{lt-ltb, le-ltb, lt-leb, le-leb, leb-true, leb-false, not-true, not-false}
+use borrow.Author.Tests.{lt-ltb, le-ltb}
 use Rattle.definition.specs.Base.{Outcome, refused, accepted, onAccepted}
 use Rattle.definition.specs.Flatten.{groupLeft, fitted, flattenOf}
+use Rattle.definition.specs.Limits.{fieldLimit}
 use Rattle.definition.specs.Writer.{groupBytesOf}
 use Rattle.definition.specs.Rule.{Rule, readRule, ruleOf, rulePart}
 use Rattle.definition.specs.Signature.{Signature, readSignature}
@@ -26,43 +25,26 @@ use Rattle.reading.specs.Verdicts.{ruleRead}
 use Rattle.reading.specs.declared.RuleReading.{RuleReading}
 use Rattle.reading.specs.declared.RuleReading.the-variants as reading
 use Rattle.kinds.specs.Table.{Tabled}
-use Rattle.flatten.specs.Tables.{Tables, tables}
+use Rattle.flatten.specs.Tables.{Tables}
 use Rattle.flatten.specs.Ended.{Ground, Ended}
 use Rattle.flatten.specs.Went.{wholeWalk, Walks}
-use Rattle.flatten.specs.Room.{Sure}
-use Rattle.flatten.specs.Answers.{outcomeOf, sizeOf, Demanded, Writes, Readable, ruleOutcome, numberIn}
+use Rattle.flatten.specs.Answers.{outcomeOf, sizeOf, Demanded, Writes, Untyped, Readable, ruleOutcome, numberIn}
 use Rattle.flatten.proofs.Grounds.{AllMapped}
-use Rattle.flatten.proofs.Lengths.{group-few}
 use Rattle.flatten.specs.declared.entry.Flattened.{Flattened}
 use Rattle.flatten.specs.declared.entry.Flattened.the-variants.{Written, Refused}
 
--- There is room: the group can't be longer, or it was measured.
-pub surely : {s index types sources : List ℕ} {kinds masks vars : List (List ℕ)} {n room : ℕ} (e : Ended s index types kinds (tables sources masks vars)) → n ≡ length (ruleAt s .structures)
-    → Sure s index n room → true ≡ leb (length (groupBytesOf (groupLeft (ruleAt s) (e .state)))) room
-surely {s} {room = room} e m u =
-    let q = rw m at u in let f = group-few e (q .most) in let g = q .enough in
-    sym (le-leb (length (groupBytesOf (groupLeft (ruleAt s) (e .state)))) room (omega arith))
-
-pub measured : {none o p : List ℕ} {m room : ℕ} → Put none o p 0 m → room ≤ 65535 → leb m room ≡ leb (length p) room
-measured {p = p} {m} {room} h l = go (decLt room (length p))
-  where
-    go : Dec (room < length p) → leb m room ≡ leb (length p) room
-    go (yes x) = let y : room < m = omega (arith, h .size) in rw (lt-leb (length p) room x) (lt-leb m room y)
-    go (no x) = let y : m ≤ room = omega (arith, h .size) in rw (le-leb (length p) room (omega arith)) (le-leb m room y)
-
--- What is answered, by whether it fits.
-module _ (p out : List ℕ) {room : ℕ} {b : Bool} (u : room ≡ min (length out) 65535) (a : b ≡ leb (length p) room) where
-  pub no-room : not b ≡ true → Writes (Refused 31) out out (fitted (length out) p)
+-- What is answered, by how long the group was measured to be.
+module _ (p out : List ℕ) {none o : List ℕ} {room m : ℕ} (u : room ≡ min (length out) 65535) (a : Put none o p 0 m) where
+  pub no-room : room < m → Writes (Refused 31) out out (fitted (length out) p)
   unfolding fitted
-  no-room n =
-      let q : room < length p = leb-false (length p) room (sym a ∙ not-true b n) in
-      let r : min (length out) 65535 < length p = omega arith in
+  no-room h =
+      let r : min (length out) 65535 < length p = omega (arith, a .size) in
       rw (lt-ltb _ _ r) (record { answer = refl; fits = omega arith; rest = refl })
 
-  pub wrote-all : {fin : List ℕ} {k : ℕ} → not b ≡ false → Put out fin p 0 k → Writes (Written k) out fin (fitted (length out) p)
+  pub wrote-all : {fin : List ℕ} {k : ℕ} → m ≤ room → Put out fin p 0 k → Writes (Written k) out fin (fitted (length out) p)
   unfolding fitted
-  wrote-all {fin} {k} n w =
-      let l : length p ≤ room = leb-true (length p) room (sym a ∙ not-false b n) in
+  wrote-all {fin} {k} h w =
+      let l : length p ≤ room = omega (arith, a .size) in
       let x : length p ≡ k = omega (arith, w .size) in
       let f : fin ≡ p ++ drop k out = w .same (omega arith) (omega arith) ∙ rw (zero-add, x) in
       let q : length p ≤ min (length out) 65535 = omega arith in
@@ -115,6 +97,10 @@ module _ (sig : Signature) (s : List ℕ) (room : ℕ) where
         → ((e : Ended s index types kinds tb) → Writes q out₀ out (fitted room (groupBytesOf (groupLeft (ruleAt s) (e .state))))) → Writes q out₀ out (ruleOutcome sig s room)
     ended-writes {types = types} {tb = tb} gr td w e v =
         let w′ : Walks 0 sig s tb types = rw e at w in rw (walk-accepted (w′ .is .1)) (v (ending gr td w′))
+
+-- A table of types before the walk.
+pub untyped : (size : ℕ) {n : ℕ} → fieldLimit * n ≤ size → Untyped (replicate size 0) n
+untyped size h = record { size = size; zeros = refl; enough = rw length-replicate h }
 
 -- The reading.
 pub unread : (sig s : List ℕ) {k n : ℕ} (room : ℕ) (r : RuleReading) → ruleAnswer s r ≡ ruleRead sig s → r ≡ reading.Refused n → k ≡ numberIn r → flattenOf sig s room ≡ refused k

@@ -1,9 +1,10 @@
 -- What flatten answers.
 use mathlib.Core.List.{List}
 use mathlib.Core.Path.{_≡_}
-use Prim.Native.Nat.{ℕ, _≤_}
-use lib.ListN.{length, take, drop}
+use Prim.Native.Nat.{ℕ, _*_, _≤_}
+use lib.ListN.{length, take, drop, replicate}
 use Rattle.definition.specs.Base.{Outcome, refused, accepted, onAccepted}
+use Rattle.definition.specs.Limits.{fieldLimit}
 use Rattle.definition.specs.Signature.{Signature, readSignature}
 use Rattle.definition.specs.Rule.{readRule}
 use Rattle.definition.specs.Walk.{State, walkOf}
@@ -48,6 +49,12 @@ pub record Readable (sig arities : List ℕ) (counts : Counts) (s index : List �
   pub signature-indexed : Indexed sig arities counts
   pub rule-read : readRule (signatureAt sig arities counts) s ≡ accepted (ruleAt s)
   pub rule-indexed : rule.Indexed (signatureAt sig arities counts) s index n
+
+-- A table of types before any variable is given out, with a place for each element of so many structures.
+pub record Untyped (types : List ℕ) (n : ℕ) : Type 0 where
+  pub size : ℕ
+  pub zeros : types ≡ replicate size 0
+  pub enough : fieldLimit * n ≤ length types
 
 -- What flatten makes of an accepted rule.
 unfoldable pub ruleOutcome : Signature → List ℕ → ℕ → Outcome (List ℕ)

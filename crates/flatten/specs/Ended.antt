@@ -6,7 +6,7 @@ use mathlib.Core.Path.{_≡_}
 use Prim.Native.Nat.{ℕ, _≤_, _<_}
 use lib.ListN.{length}
 use Rattle.definition.specs.Base.{pick}
-use Rattle.definition.specs.Limits.{ruleBytes, structureLimit, variableLimit, symbolLimit}
+use Rattle.definition.specs.Limits.{structureLimit, variableLimit, symbolLimit}
 use Rattle.definition.specs.Rule.{MorphismKind}
 use Rattle.definition.specs.Group.{Variable}
 use Rattle.definition.specs.Signature.{Signature}
@@ -31,7 +31,6 @@ pub record Ground (sig : Signature) (s index : List ℕ) : Type 0 where
   pub once : Once (ruleAt s .kinds)
   pub headed : Headed s
   pub types-few : length (sig .types) ≤ symbolLimit
-  pub short : length s ≤ ruleBytes
 
 -- What the new variables ask: the structures' elements, a source for each, and a row where one was reached.
 pub record Numbered (s index : List ℕ) (tb : Tables) : Type 0 where
@@ -43,11 +42,12 @@ pub record Numbered (s index : List ℕ) (tb : Tables) : Type 0 where
 -- The state at the end of the walk, as the tables have it.
 pub record Finished (sig : Signature) (s : List ℕ) (tb : Tables) (types : List ℕ) (state : State) : Type 0 where
   pub ties : Ties sig (state .variables) s tb (state .slots)
+  pub first-reached : sourceAt tb 0 < unreached
   pub variables : state .variables ≡ newsTo s tb (length (ruleAt s .structures))
   pub rules : state .rules ≡ namedRules (groupName (ruleAt s)) 0 (emittedTo sig (state .variables) s tb (state .slots) (length (ruleAt s .structures)))
   pub few : length (state .variables) ≤ variableLimit
   pub types-are : TypesOf (state .variables) types
-  pub types-long : length types ≡ variableLimit
+  pub types-long : length (state .variables) ≤ length types
 
 pub record Ended (s index types : List ℕ) (kinds : List (List ℕ)) (tb : Tables) : Type 0 where
   pub sig : Signature

@@ -5,4 +5,3 @@ pub mod Left
 pub mod Ended
 pub mod Went
 pub mod Answers
-pub mod Room

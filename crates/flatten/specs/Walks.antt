@@ -4,7 +4,7 @@ use mathlib.Core.Option.{Option, none, some}
 use mathlib.Core.Path.{_≡_}
 use Prim.Native.Nat.{ℕ, suc, _*_, _≤_, _<_}
 use lib.ListN.{length, getD}
-use Rattle.definition.specs.Limits.{structureLimit, fieldLimit, variableLimit}
+use Rattle.definition.specs.Limits.{structureLimit, fieldLimit}
 use Rattle.definition.specs.Group.{Variable}
 use Rattle.definition.specs.Signature.{Signature}
 use Rattle.definition.specs.Walk.{Reached, State, groupName, namedRules}
@@ -15,8 +15,7 @@ use Rattle.naming.specs.Variables.{variablesIn, GivenOut}
 use Rattle.flatten.specs.Tables.{Tables, unreached, sourceAt, rowAt, mergedAt, pairsOn, ownAt, before, newsTo, emittedTo}
 
 -- A structure that was reached: its source is below it and was reached, its variables were given out, its elements that are images of
--- several keys are flagged, of which there are at most as many as its source has elements, and its statements are those of its source
--- and its own.
+-- several keys are flagged, and its statements are those of its source and its own.
 pub record ReachedAt (sig : Signature) (table : List Variable) (s : List ℕ) (tb : Tables) (slots : List (Option Reached)) (k : ℕ) (r : Reached) : Type 0 where
   pub source-in : sourceAt tb k < unreached
   pub source-down : 0 < k → sourceAt tb k < k
@@ -25,7 +24,6 @@ pub record ReachedAt (sig : Signature) (table : List Variable) (s : List ℕ) (t
   pub variables : r .variables ≡ variablesIn (structureIn s k) (rowAt tb k)
   pub given : GivenOut (structureIn s k) (rowAt tb k) (length table)
   pub merged : 0 < k → Merged (mergedAt tb k) (structureIn s k) (pairsOn s (sourceAt tb k) k)
-  pub pairs-few : 0 < k → length (pairsOn s (sourceAt tb k) k) ≤ length (structureIn s (sourceAt tb k) .elements)
   pub statements : r .statements ≡ before slots tb k ++ ownAt sig table s tb k
 
 abbrev pub Tie : Signature → List Variable → List ℕ → Tables → List (Option Reached) → ℕ → Option Reached → Type 0
@@ -52,4 +50,4 @@ pub record Walking (sig : Signature) (s : List ℕ) (tb : Tables) (types : List 
   pub few : next ≤ fieldLimit * suc t
   pub fewer : sourceAt tb t ≡ unreached → next ≤ fieldLimit * t
   pub types-are : TypesOf (state .variables) types
-  pub types-long : length types ≡ variableLimit
+  pub types-long : fieldLimit * length (ruleAt s .structures) ≤ length types

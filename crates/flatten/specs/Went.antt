@@ -6,7 +6,7 @@ use mathlib.Core.Option.{Option, none, some}
 use mathlib.Core.Path.{_≡_}
 use Prim.Native.Nat.{ℕ, zero, suc, _≤_, _<_}
 use lib.ListN.{length, getD, set, replicate}
-use Rattle.definition.specs.Limits.{structureLimit, variableLimit}
+use Rattle.definition.specs.Limits.{structureLimit}
 use Rattle.definition.specs.Base.{Outcome, refused, accepted}
 use Rattle.definition.specs.Rule.{MorphismKind}
 use Rattle.definition.specs.Group.{Variable, Statement}
@@ -98,7 +98,8 @@ pub record Begun (sources : List ℕ) (masks vars : List (List ℕ)) (types : Li
   pub sources-are : sources ≡ set (replicate structureLimit unreached) 0 0
   pub masks-are : masks ≡ set (replicate structureLimit noMasks) 0 allMasks
   pub vars-are : vars ≡ noRows
-  pub types-are : types ≡ replicate variableLimit 0
+  pub size : ℕ
+  pub types-are : types ≡ replicate size 0
 
 -- All maps walked, or the walk is refused with a number, which is not 0.
 abbrev WalksAs : ℕ → Signature → List ℕ → Tables → List ℕ → Type 0

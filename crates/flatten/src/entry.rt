@@ -9,9 +9,8 @@ ghost use Rattle.rule.specs.Lookup.{ruleAt};
 ghost use Rattle.signature.specs.Index.{signatureAt};
 ghost use Rattle.flatten.specs.Tables.{tables};
 ghost use Rattle.flatten.specs.Ended.{Ended};
-ghost use Rattle.flatten.specs.Answers.{Readable, Writes, outcomeOf, sizeOf, Demanded, ruleOutcome, numberIn};
+ghost use Rattle.flatten.specs.Answers.{Untyped, Readable, Writes, outcomeOf, sizeOf, Demanded, ruleOutcome, numberIn};
 use crate::output::put_group;
-use crate::room::fits;
 use crate::tables::SORTS;
 use crate::tables::UNREACHED;
 use crate::tables::initial_matching_stmts;
@@ -33,6 +32,11 @@ use signature::ids::INDEX;
 // At most so many bytes of a buffer are used.
 pub const ANSWER: usize = 65535;
 
+// Most rules have few structures, and so few variables: for them a small table of types is cleared, not one for the largest rule.
+const FEW_STRUCTURES: usize = 4;
+
+const FEW_VARIABLES: usize = FIELDS * FEW_STRUCTURES;
+
 // So many bytes were written, or document 01's number.
 pub enum Flattened {
     Written(usize),
@@ -49,7 +53,7 @@ fn usable(len: usize) -> usize
     len
 }
 
-// The group, written where it fits; whether it does is settled first. The walk is over: its variables are handed over for good.
+// The group, measured first, then written where it fits. The walk is over: its variables are handed over for good.
 fn write_group(
     out: &mut [u8],
     s: &[u8],
@@ -59,7 +63,7 @@ fn write_group(
     sources: &[u8; STRUCTURES],
     masks: &[[u64; SORTS]; STRUCTURES],
     vars: [[u16; FIELDS]; STRUCTURES],
-    types: &[u8; VARIABLES],
+    types: &[u8],
 ) -> Flattened
     requires { ⌜ n ≡ length (ruleAt (now s) .structures) ⌝ }
     requires { ⌜ Ended (now s) (now index) (now types) (now kinds) (tables (now sources) (now masks) vars) ⌝ }
@@ -67,23 +71,26 @@ fn write_group(
         → Writes r (now (out .entry)) (now (out .exit)) (fitted (length (now (out .entry))) (groupBytesOf (groupLeft (ruleAt (now (s .entry))) (e .state))))) ⌝ }
 {
     let room = usable(out.len());
-    // A refusal leaves the buffer as it was, so it comes before the first byte.
-    if !fits(s, index, n, kinds, sources, masks, &vars, types, room) {
+    // A refusal leaves the buffer as it was, so it comes before the first byte: in a buffer without a byte the group is only counted.
+    let mut nothing = [0u8; 0];
+    if room < put_group(&mut nothing, s, index, n, kinds, sources, masks, &vars, types) {
         return Flattened::Refused(31);
     }
     Flattened::Written(put_group(out, s, index, n, kinds, sources, masks, &vars, types))
 }
 
-// An accepted rule, with its index and that of its signature.
-pub fn flatten_rule(
+// An accepted rule, with its index and that of its signature. The table of its variables' types is lent, with a place for each element.
+fn flatten_rule(
     sig: &[u8],
     arities: &[u16; INDEX],
     counts: Counts,
     s: &[u8],
     index: &[u16; RULE_INDEX],
     n: usize,
+    types: &mut [u8],
     out: &mut [u8],
 ) -> Flattened
+    requires { ⌜ Untyped (now types) n ⌝ }
     requires { ⌜ Readable (now sig) (now arities) counts (now s) (now index) n ⌝ }
     ensures { λ r. ⌜ Writes r (now (out .entry)) (now (out .exit)) (ruleOutcome (signatureAt (now (sig .entry)) (now (arities .entry)) counts) (now (s .entry)) (length (now (out .entry)))) ⌝ }
 {
@@ -99,15 +106,14 @@ pub fn flatten_rule(
     sources[0] = 0;
     let mut masks = [[0u64; SORTS]; STRUCTURES];
     masks[0] = initial_matching_stmts();
-    let mut types = [0u8; VARIABLES];
     let mut refused: u8 = 0;
     let vars = flatten_morphisms(
-        sig, arities, counts, s, index, n, &kinds, no_el_vars(), &mut sources, &mut masks, &mut types, &mut refused,
+        sig, arities, counts, s, index, n, &kinds, no_el_vars(), &mut sources, &mut masks, types, &mut refused,
     );
     if refused != 0 {
         return Flattened::Refused(refused);
     }
-    write_group(out, s, index, n, &kinds, &sources, &masks, vars, &types)
+    write_group(out, s, index, n, &kinds, &sources, &masks, vars, types)
 }
 
 // The number of a refused reading.
@@ -132,5 +138,10 @@ pub fn flatten(sig: &[u8], rule: &[u8], out: &mut [u8]) -> Flattened
     let RuleReading::Sound { counts, structures } = r else {
         return Flattened::Refused(number(r));
     };
-    flatten_rule(sig, &symbols, counts, rule, &index, structures, out)
+    if structures <= FEW_STRUCTURES {
+        let mut types = [0u8; FEW_VARIABLES];
+        return flatten_rule(sig, &symbols, counts, rule, &index, structures, &mut types, out);
+    }
+    let mut types = [0u8; VARIABLES];
+    flatten_rule(sig, &symbols, counts, rule, &index, structures, &mut types, out)
 }

@@ -21,7 +21,6 @@ use kinds::table::IF;
 use kinds::table::NO_KIND;
 use kinds::table::NOOP;
 use kinds::table::SURJ_THEN;
-use naming::variables::VARIABLES;
 use rule::ids::FIELDS;
 use rule::ids::RULE_INDEX;
 use rule::ids::STRUCTURES;
@@ -51,7 +50,7 @@ fn put_map_equalities(
     sources: &[u8; STRUCTURES],
     masks: &[[u64; SORTS]; STRUCTURES],
     vars: &[[u16; FIELDS]; STRUCTURES],
-    types: &[u8; VARIABLES],
+    types: &[u8],
     t: usize,
 ) -> usize
     requires { ⌜ (from ≤ countLimit) × ((0 < t) × (found (pairsBetween (ruleAt (now s) .maps) (getD (now sources) t 0) t) ≡ true)) ⌝ }
@@ -82,7 +81,7 @@ pub fn put_both(
     sources: &[u8; STRUCTURES],
     masks: &[[u64; SORTS]; STRUCTURES],
     vars: &[[u16; FIELDS]; STRUCTURES],
-    types: &[u8; VARIABLES],
+    types: &[u8],
     t: usize,
 ) -> usize
     requires { ⌜ (from ≤ countLimit) × ((0 < t) × (found (pairsBetween (ruleAt (now s) .maps) (getD (now sources) t 0) t) ≡ true)) ⌝ }
@@ -98,7 +97,7 @@ pub fn put_both(
 }
 
 // What a structure adds to the statements of its source: a map of SurjThen adds nothing.
-fn put_own(
+pub fn put_own(
     out: &mut [u8],
     from: usize,
     s: &[u8],
@@ -107,7 +106,7 @@ fn put_own(
     sources: &[u8; STRUCTURES],
     masks: &[[u64; SORTS]; STRUCTURES],
     vars: &[[u16; FIELDS]; STRUCTURES],
-    types: &[u8; VARIABLES],
+    types: &[u8],
     t: usize,
 ) -> usize
     requires { ⌜ from ≤ countLimit ⌝ }
@@ -137,7 +136,7 @@ pub fn put_premise(
     sources: &[u8; STRUCTURES],
     masks: &[[u64; SORTS]; STRUCTURES],
     vars: &[[u16; FIELDS]; STRUCTURES],
-    types: &[u8; VARIABLES],
+    types: &[u8],
     t: usize,
 ) -> usize
     requires { ⌜ from ≤ countLimit ⌝ }

@@ -10,9 +10,7 @@ ghost use Rattle.rule.specs.Lookup.{ruleAt};
 ghost use Rattle.flatten.specs.Tables.{tables, newsTo};
 ghost use Rattle.flatten.specs.Ended.{Numbered};
 use crate::tables::UNREACHED;
-use naming::variables::fresh;
 use naming::writer::put_variables;
-use rule::elements::element_count;
 use rule::ids::FIELDS;
 use rule::ids::RULE_INDEX;
 use rule::ids::STRUCTURES;
@@ -36,9 +34,7 @@ pub fn put_all_variables(
     let mut t: usize = 0;
     while t < n {
         if sources[t] < UNREACHED {
-            let row = vars[t];
-            at = put_variables(out, at, s, index, t, row, number);
-            number += fresh(row, element_count(index, t), number);
+            at = put_variables(out, at, s, index, t, &vars[t], &mut number);
         }
         t += 1;
     }

@@ -2,7 +2,7 @@
 ghost use mathlib.Core.List.{List};
 ghost use mathlib.Core.Option.{some};
 ghost use mathlib.Core.Path.{_≡_};
-ghost use Prim.Native.Nat.{_<_};
+ghost use Prim.Native.Nat.{_*_, _≤_, _<_};
 ghost use lib.ListN.{length, set};
 ghost use lib.Seq.{sets};
 ghost use Rattle.definition.specs.Base.{each};
@@ -10,7 +10,7 @@ ghost use Rattle.definition.specs.Group as definition;
 ghost use Rattle.definition.specs.Rule as rules;
 ghost use Rattle.definition.specs.Names.{numbered};
 ghost use Rattle.definition.specs.Walk.{completed, nothingTaken};
-ghost use Rattle.definition.specs.Limits.{structureLimit, variableLimit};
+ghost use Rattle.definition.specs.Limits.{structureLimit, fieldLimit};
 ghost use Rattle.signature.specs.Index.{signatureAt, Indexed};
 ghost use Rattle.rule.specs.Lookup.{ruleAt};
 ghost use Rattle.rows.specs.Kernel.{TypesOf, Merged};
@@ -32,7 +32,6 @@ use kinds::table::SURJ_THEN;
 use naming::assign::assign_el_vars;
 use naming::assign::initial_el_vars;
 use naming::types::type_variables;
-use naming::variables::VARIABLES;
 use naming::variables::fresh;
 use rows::kernel::merged_els;
 use rows::maps::Map;
@@ -81,7 +80,7 @@ fn flatten_map(
     source: [u16; FIELDS],
     target: [u16; FIELDS],
     first: u16,
-    types: &[u8; VARIABLES],
+    types: &[u8],
     merged: u64,
 ) -> Step
     requires { ⌜ Indexed (now sig) (now arities) counts ⌝ }
@@ -130,7 +129,7 @@ fn walk_map(
     source: [u16; FIELDS],
     sources: &mut [u8; STRUCTURES],
     masks: &mut [[u64; SORTS]; STRUCTURES],
-    types: &mut [u8; VARIABLES],
+    types: &mut [u8],
     next: &mut u16,
 ) -> MapWalked
     requires { ⌜ (u < structureLimit) × (t < structureLimit) ⌝ }
@@ -161,9 +160,9 @@ fn walk_map(
 }
 
 // The variables of structure 0, with their types.
-fn first_row(types: &mut [u8; VARIABLES], s: &[u8], index: &[u16; RULE_INDEX]) -> [u16; FIELDS]
+fn first_row(types: &mut [u8], s: &[u8], index: &[u16; RULE_INDEX]) -> [u16; FIELDS]
     requires { ⌜ Laid (now s) (now index) 0 × ByteTypes (structureIn (now s) 0) ⌝ }
-    requires { ⌜ length (now types) ≡ variableLimit ⌝ }
+    requires { ⌜ fieldLimit ≤ length (now types) ⌝ }
     ensures { λ r. ⌜ r ≡ rowOf (numbered 0 (nothingTaken (structureIn (now (s .entry)) 0))) ⌝ }
     ensures { λ r. ⌜ now (types .exit) ≡ sets (now (types .entry)) 0 (each (λ (v : definition.Variable). v .type) (newIn (structureIn (now (s .entry)) 0) 0 r)) ⌝ }
 {
@@ -202,11 +201,11 @@ pub fn flatten_morphisms(
     mut vars: [[u16; FIELDS]; STRUCTURES],
     sources: &mut [u8; STRUCTURES],
     masks: &mut [[u64; SORTS]; STRUCTURES],
-    types: &mut [u8; VARIABLES], refused: &mut u8,
+    types: &mut [u8], refused: &mut u8,
 ) -> [[u16; FIELDS]; STRUCTURES]
     requires { ⌜ Indexed (now sig) (now arities) counts × Ground (signatureAt (now sig) (now arities) counts) (now s) (now index) ⌝ }
     requires { ⌜ (n ≡ length (ruleAt (now s) .structures)) × Tabled (now kinds) (completed (ruleAt (now s) .maps) (ruleAt (now s) .kinds) (ruleAt (now s) .auxiliaries)) ⌝ }
-    requires { ⌜ Begun (now sources) (now masks) vars (now types) ⌝ }
+    requires { ⌜ Begun (now sources) (now masks) vars (now types) × (fieldLimit * n ≤ length (now types)) ⌝ }
     ensures { λ r. ⌜ Walks (now (refused .exit)) (signatureAt (now (sig .entry)) (now (arities .entry)) counts) (now (s .entry))
         (tables (now (sources .exit)) (now (masks .exit)) r) (now (types .exit)) ⌝ }
 {

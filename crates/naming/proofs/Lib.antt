@@ -7,6 +7,5 @@ pub mod Seeking
 pub mod Carrying
 pub mod News
 pub mod Printing
-pub mod Lengths
 pub mod Opening
 pub mod Reached

@@ -48,10 +48,6 @@ module _ {s index : List ℕ} {k : ℕ} (l : Laid s index k) where
   pub element-few : length (structureIn s k .elements) ≤ fieldLimit
   element-few = rw elements-are (l .elements .elements .few)
 
-  -- They fit into a row.
-  pub row-holds : (row : List ℕ) → length row ≡ fieldLimit → length (structureIn s k .elements) ≤ length row
-  row-holds row e = let f = element-few in omega arith
-
   pub element-get : (i : ℕ) → i < countAt index k → getD (structureIn s k .elements) i noElement ≡ elementIn s index k i
   element-get i h = rw (l .same) (elements-get s index k i h)
 

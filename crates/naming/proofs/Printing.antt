@@ -6,15 +6,15 @@ use mathlib.Core.Path.{_≡_, refl, sym}
 use lib.ListN.{length, getD, length-append}
 use Rattle.definition.specs.Base.{pick, each, joined, empty}
 use Rattle.definition.specs.Letters.{letterW}
-use Rattle.definition.specs.Limits.{fieldLimit, nameBytes, numberDigits}
+use Rattle.definition.specs.Limits.{nameBytes, numberDigits}
 use Rattle.definition.specs.Rule.{Structure, Element}
 use Rattle.definition.specs.Names.{el, decimal, baseName, newVariable}
 use Rattle.definition.specs.Walk.{groupName, anonymousRule}
 use Rattle.definition.specs.Writer.{twoBytes, variableField, fieldBytes, recordBytes}
 use Rattle.records.specs.Places.{twoAt, stretch}
-use Rattle.records.specs.Buffer.{Put, capped, headBytes}
+use Rattle.records.specs.Buffer.{Put, capped, countLimit, headBytes}
 use Rattle.records.proofs.Numbers.{length-stretch}
-use Rattle.records.proofs.Tail.{counted}
+use Rattle.records.proofs.Tail.{Writing, begin, wrote, passed, finish, counted}
 use Rattle.theory.proofs.NameLaws.{digits-few}
 use Rattle.rule.specs.Elements.{countAt}
 use Rattle.rows.specs.Elements.{elementIn}
@@ -24,7 +24,7 @@ use Rattle.naming.specs.Variables.{newIn}
 use Rattle.naming.specs.Bases.{baseBytes, Fits, variableBytes}
 use Rattle.naming.specs.declared.bases.Base.{Base}
 use Rattle.naming.specs.declared.bases.Base.the-variants.{Name, El}
-use Rattle.naming.proofs.Placed.{row-holds, element-get, below-count, at-count, past-count}
+use Rattle.naming.proofs.Placed.{element-get, below-count, at-count, past-count}
 use Rattle.naming.proofs.News.{newFrom, new-all, new-on, new-pass, new-end}
 
 -- How many bytes a base has that fits in a record.
@@ -55,24 +55,47 @@ variable-bytes s k number base e b n t = rw (t, b, n)
 unfoldable pub fieldsFrom : Structure → ℕ → List ℕ → ℕ → ℕ → List ℕ
 fieldsFrom st first row number i = recordBytes (each variableField (newFrom st first row number i))
 
-pub fields-all : (st : Structure) (first : ℕ) (row : List ℕ) → recordBytes (each variableField (newIn st first row)) ≡ fieldsFrom st first row first 0
+fields-all : (st : Structure) (first : ℕ) (row : List ℕ) → recordBytes (each variableField (newIn st first row)) ≡ fieldsFrom st first row first 0
 unfolding fieldsFrom
 fields-all st first row = rw (new-all st first row)
 
-module _ {s index : List ℕ} {k : ℕ} (l : Laid s index k) (first : ℕ) (row : List ℕ) (number : ℕ) {count i : ℕ} (e : count ≡ countAt index k) (long : length row ≡ fieldLimit) where
-  pub fields-on : i < count → first ≤ getD row i 0
-      → fieldsFrom (structureIn s k) first row number i
-      ≡ fieldBytes (variableField (newVariable (structureIn s k) number (elementIn s index k i))) ++ fieldsFrom (structureIn s k) first row (number + 1) (i + 1)
-  unfolding fieldsFrom recordBytes joined each
-  fields-on h g = rw (new-on (structureIn s k) first row number (row-holds l row long) (below-count l e h) g, element-get l i (at-count l e h))
+-- A loop along the elements: the fields of the new variables before one are put, and numbers are given up to one.
+pub record Printing (out₀ out : List ℕ) (st : Structure) (first : ℕ) (row : List ℕ) (from at number i : ℕ) : Type 0 where
+  pub few : number ≤ first + i
+  pub left : number + length (newFrom st first row number i) ≡ first + length (newIn st first row)
+  pub writing : Writing out₀ out from at (fieldsFrom st first row first 0) (fieldsFrom st first row number i)
 
-  pub fields-pass : i < count → getD row i 0 < first → fieldsFrom (structureIn s k) first row number i ≡ fieldsFrom (structureIn s k) first row number (i + 1)
+pub printing : (out : List ℕ) (st : Structure) (first : ℕ) (row : List ℕ) (from : ℕ) → from ≤ countLimit → Printing out out st first row from from first 0
+printing out st first row from h = record { few = omega arith; left = rw (new-all st first row); writing = begin out from h }
+
+module _ {s index : List ℕ} {k : ℕ} (l : Laid s index k) {out₀ out : List ℕ} {first : ℕ} {row : List ℕ} {from at number count i : ℕ} (e : count ≡ countAt index k)
+    (long : length (structureIn s k .elements) ≤ length row) (w : Printing out₀ out (structureIn s k) first row from at number i) where
+  pub printing-on : i < count → first ≤ getD row i 0 → {out′ : List ℕ} {r : ℕ}
+      → Put out out′ (fieldBytes (variableField (newVariable (structureIn s k) number (elementIn s index k i)))) at r → Printing out₀ out′ (structureIn s k) first row from r (number + 1) (i + 1)
+  unfolding fieldsFrom recordBytes joined each
+  printing-on h g p =
+      let f = w .few in let q = w .left in
+      let n = new-on (structureIn s k) first row number long (below-count l e h) g in
+      let x : length (newFrom (structureIn s k) first row number i) ≡ suc (length (newFrom (structureIn s k) first row (number + 1) (i + 1))) = rw n in
+      record { few = omega arith; left = omega arith; writing = wrote (w .writing) (rw (n, element-get l i (at-count l e h))) p }
+
+  pub printing-pass : i < count → getD row i 0 < first → Printing out₀ out (structureIn s k) first row from at number (i + 1)
   unfolding fieldsFrom
-  fields-pass h g = rw (new-pass (structureIn s k) first row number (row-holds l row long) (below-count l e h) g)
+  printing-pass h g =
+      let f = w .few in
+      let n = new-pass (structureIn s k) first row number long (below-count l e h) g in
+      record { few = omega arith; left = rw (← n) (w .left); writing = passed (w .writing) (rw n) }
 
-  pub fields-end : count ≤ i → fieldsFrom (structureIn s k) first row number i ≡ []
-  unfolding fieldsFrom recordBytes joined each
-  fields-end h = rw (new-end (structureIn s k) first row number (row-holds l row long) (past-count l e h))
+  module _ (h : count ≤ i) where
+    none-left : newFrom (structureIn s k) first row number i ≡ []
+    none-left = new-end (structureIn s k) first row number long (past-count l e h)
+
+    pub printing-end : Put out₀ out (recordBytes (each variableField (newIn (structureIn s k) first row))) from at
+    unfolding fieldsFrom recordBytes joined each
+    printing-end = rw fields-all (finish (w .writing) (rw none-left))
+
+    pub printing-count : number ≡ first + length (newIn (structureIn s k) first row)
+    printing-count = let z : length (newFrom (structureIn s k) first row number i) ≡ 0 = rw none-left in let q = w .left in omega arith
 
 -- The group's name.
 module _ {s : List ℕ} (h : Headed s) where

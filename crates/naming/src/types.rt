@@ -5,10 +5,9 @@ ghost use lib.ListN.{length};
 ghost use lib.Seq.{sets};
 ghost use Rattle.definition.specs.Base.{each};
 ghost use Rattle.definition.specs.Group as definition;
-ghost use Rattle.definition.specs.Limits.{fieldLimit, variableLimit};
+ghost use Rattle.definition.specs.Limits.{fieldLimit};
 ghost use Rattle.naming.specs.Structures.{structureIn, Laid, ByteTypes};
 ghost use Rattle.naming.specs.Variables.{newIn};
-use crate::variables::VARIABLES;
 use records::fields::place;
 use rows::elements::read_element;
 use rule::elements::element_count;
@@ -17,7 +16,7 @@ use rule::ids::RULE_INDEX;
 
 // The new variables of a numbered row, those from `first` on, get the types of their elements.
 pub fn type_variables(
-    types: &mut [u8; VARIABLES],
+    types: &mut [u8],
     s: &[u8],
     index: &[u16; RULE_INDEX],
     k: usize,
@@ -26,7 +25,7 @@ pub fn type_variables(
 )
     requires { ⌜ Laid (now s) (now index) k ⌝ }
     requires { ⌜ ByteTypes (structureIn (now s) k) ⌝ }
-    requires { ⌜ (first + fieldLimit ≤ variableLimit) × (length (now types) ≡ variableLimit) ⌝ }
+    requires { ⌜ first + fieldLimit ≤ length (now types) ⌝ }
     ensures { λ r. ⌜ now (types .exit) ≡ sets (now (types .entry)) first (each (λ (v : definition.Variable). v .type) (newIn (structureIn (now (s .entry)) k) first row)) ⌝ }
 {
     let count = element_count(index, k);

@@ -117,21 +117,23 @@ fn put_new_variable(
     past(at, len)
 }
 
-// The W fields of a structure's new variables, those of its row from `first` on.
+// The W fields of a structure's new variables, those of its row from `next` on, which is then the number behind the last of them.
 pub fn put_variables(
     out: &mut [u8],
     from: usize,
     s: &[u8],
     index: &[u16; RULE_INDEX],
     k: usize,
-    row: [u16; FIELDS],
-    first: u16,
+    row: &[u16; FIELDS],
+    next: &mut u16,
 ) -> usize
     requires { ⌜ from ≤ countLimit ⌝ }
     requires { ⌜ Laid (now s) (now index) k ⌝ }
-    requires { ⌜ first + fieldLimit ≤ variableLimit ⌝ }
-    ensures { λ r. ⌜ Put (now (out .entry)) (now (out .exit)) (recordBytes (each variableField (newIn (structureIn (now (s .entry)) k) first row))) from r ⌝ }
+    requires { ⌜ (now next + fieldLimit ≤ variableLimit) × (length (structureIn (now s) k .elements) ≤ length (now row)) ⌝ }
+    ensures { λ r. ⌜ Put (now (out .entry)) (now (out .exit)) (recordBytes (each variableField (newIn (structureIn (now (s .entry)) k) (now (next .entry)) (now (row .entry))))) from r ⌝ }
+    ensures { λ r. ⌜ now (next .exit) ≡ now (next .entry) + length (newIn (structureIn (now (s .entry)) k) (now (next .entry)) (now (row .entry))) ⌝ }
 {
+    let first = *next;
     let count = element_count(index, k);
     let mut at = from;
     let mut number = first;
@@ -143,6 +145,7 @@ pub fn put_variables(
         }
         i += 1;
     }
+    *next = number;
     at
 }
 

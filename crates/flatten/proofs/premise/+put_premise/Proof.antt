@@ -30,7 +30,7 @@ called t =
 
 put-premise-put-own-requires : (t : ℕ) → put-premise-lts.Need-put-own-requires (called t) (put-premise-at t) put-premise.Post
 put-premise-put-own-requires t c κs =
-    let w = c .before .before .before .before .pre .1 in let z = c .before .if1 .taken in
+    let w = c .before .before .before .before .before .pre .1 in let z = c .before .if1 .taken in
     (w .0, (w .1 .0, rw (← z) (w .1 .1)))
 
 put-premise-same-length : (t : ℕ) → put-premise-lts.Need-same-length (called t) (put-premise-at t) put-premise.Post
@@ -39,23 +39,23 @@ put-premise-same-length t c = search needs
 put-premise-returns : (t : ℕ) → put-premise-lts.Need-returns (called t) (put-premise-at t) put-premise.Post
 put-premise-returns t c =
     let a = c .before .before .before .before in let o = c .before .before .put-own .ensures in let z = a .if1 .taken in
-    (λ e. premise-first e (a .before .before .before .pre .1 .1 .1) z (rw z (o .0 e)), o .1)
+    (λ e. premise-first e (a .before .before .before .before .pre .1 .1 .1) z (rw z (o .0 e)), o .1)
 
 put-premise-element-copy-out-place : (t : ℕ) → put-premise-lts.Need-element-copy-out-place (called t) (put-premise-at t) put-premise.Post
-put-premise-element-copy-out-place t c = let w = c .before .before .before .pre .1 .1 in let p = place-small (w .0) (w .1) in search needs
+put-premise-element-copy-out-place t c = let w = c .before .before .before .before .pre .1 .1 in let p = place-small (w .0) (w .1) in search needs
 
 put-premise-place-requires : (t : ℕ) → put-premise-lts.Need-place-requires (called t) (put-premise-at t) put-premise.Post
 put-premise-place-requires t c κs = search needs
 
 put-premise-put-premise-requires : (t : ℕ) → put-premise-lts.Need-put-premise-requires (called t) (put-premise-at t) put-premise.Post
 put-premise-put-premise-requires t c κs =
-    let w = c .before .before .before .before .before .before .pre in let e = w .1 .1 .0 in let r = w .1 .1 .1 in let p = c .before .place .ensures .0 in
+    let w = c .before .before .before .before .before .before .before .pre in let e = w .1 .1 .0 in let r = w .1 .1 .1 in let p = c .before .place .ensures .0 in
     let l = source-below e r p (c .before .before .before .if1 .left) in
     (omega (arith, w .0), (w .1 .0, (e, source-reaching e r p)))
 
 put-premise-put-own-requires-2 : (t : ℕ) → put-premise-lts.Need-put-own-requires-2 (called t) (put-premise-at t) put-premise.Post
 put-premise-put-own-requires-2 t c κs =
-    let a = c .before .before .before .before .before in let w = a .before .before .before .before .before .pre .1 .1 in
+    let a = c .before .before .before .before .before in let w = a .before .before .before .before .before .before .pre .1 .1 in
     let k = source-reaching (w .0) (w .1) (a .place .ensures .0) in search needs
 
 put-premise-same-length-2 : (t : ℕ) → put-premise-lts.Need-same-length-2 (called t) (put-premise-at t) put-premise.Post
@@ -64,7 +64,7 @@ put-premise-same-length-2 t c = search needs
 put-premise-returns-2 : (t : ℕ) → put-premise-lts.Need-returns-2 (called t) (put-premise-at t) put-premise.Post
 put-premise-returns-2 t c =
     let a = c .before .before .before .before .before .before .before .before in let o = c .before .before .put-own2 .ensures in
-    (λ e. premise-later e (a .before .before .before .before .before .pre .1 .1 .1) (a .before .before .if1 .left) (a .place .ensures .0)
+    (λ e. premise-later e (a .before .before .before .before .before .before .pre .1 .1 .1) (a .before .before .if1 .left) (a .place .ensures .0)
       (c .before .before .before .before .before .before .put-premise .ensures .0 e) (o .0 e), o .1)
 
 pub +put-premise-spec : {M : Type 1} → statement M

@@ -6,35 +6,35 @@ use Rattle.flatten.proofs.premise.put_map_equalities.Statement.{stateme
 use Rattle.flatten.proofs.premise.put_map_equalities.Tie as tie
 
 mul-row : tie.Need-mul-row
-mul-row c = let w = c .before .before .pre .1 in let p = place-small (w .0) (w .1) in search needs
+mul-row c = let w = c .before .before .before .pre .1 in let p = place-small (w .0) (w .1) in search needs
 
 element-copy-out-row : tie.Need-element-copy-out-row
-element-copy-out-row c = let w = c .before .before .pre .1 in let p = place-small (w .0) (w .1) in search needs
+element-copy-out-row c = let w = c .before .before .before .pre .1 in let p = place-small (w .0) (w .1) in search needs
 
 array-read-merged : tie.Need-array-read-merged
 array-read-merged c = search needs
 
 returns : tie.Need-returns
-returns c = let w = c .before .before .before .before .pre in (λ e. unsaid _ _ (unmerged-none e (w .1 .1) (w .0 .1 .0) (c .if1 .taken)) (w .0 .0), w .0 .0)
+returns c = let w = c .before .before .before .before .before .pre in (λ e. unsaid _ _ (unmerged-none e (w .1 .1) (w .0 .1 .0) (c .if1 .taken)) (w .0 .0), w .0 .0)
 
 element-copy-out-place : tie.Need-element-copy-out-place
-element-copy-out-place c = let w = c .before .before .before .before .pre .1 in let p = place-small (w .0) (w .1) in search needs
+element-copy-out-place c = let w = c .before .before .before .before .before .pre .1 in let p = place-small (w .0) (w .1) in search needs
 
 place-requires : tie.Need-place-requires
 place-requires c κs = search needs
 
 map-between-requires : tie.Need-map-between-requires
-map-between-requires c κs = let w = c .before .before .before .before .before .before .pre in (w .1 .0 .ground .ready, rw (c .place .ensures .0) (w .0 .1 .1))
+map-between-requires c κs = let w = c .before .before .before .before .before .before .before .pre in (w .1 .0 .ground .ready, rw (c .place .ensures .0) (w .0 .1 .1))
 
 mul-put-equalities : tie.Need-mul-put-equalities
-mul-put-equalities c = let w = c .before .before .before .before .before .before .before .before .pre .1 in let p = source-small (w .0) (w .1) in let q = c .before .before .place .ensures .0 in search needs
+mul-put-equalities c = let w = c .before .before .before .before .before .before .before .before .before .pre .1 in let p = source-small (w .0) (w .1) in let q = c .before .before .place .ensures .0 in search needs
 
 element-copy-out-put-equalities : tie.Need-element-copy-out-put-equalities
-element-copy-out-put-equalities c = let w = c .before .before .before .before .before .before .before .before .pre .1 in let p = source-small (w .0) (w .1) in let q = c .before .before .place .ensures .0 in search needs
+element-copy-out-put-equalities c = let w = c .before .before .before .before .before .before .before .before .before .pre .1 in let p = source-small (w .0) (w .1) in let q = c .before .before .place .ensures .0 in search needs
 
 put-equalities-requires : tie.Need-put-equalities-requires
 put-equalities-requires c κs =
-    let p = c .before .before .before .before in let m = c .before .before .before .map-between .ensures in let w = c .before .before .before .before .before .before .before .before .before .before .pre in let e = w .1 .0 in let g = source-reaching e (w .1 .1) (p .place .ensures .0) in
+    let p = c .before .before .before in let m = c .before .before .map-between .ensures in let w = c .before .before .before .before .before .before .before .before .before .before .pre in let e = w .1 .0 in let g = source-reaching e (w .1 .1) (p .place .ensures .0) in
     (w .0 .0, ((stands-at e g, stands-at e (w .1 .1)), (m .1, (row-given e g refl, merged-read e (w .1 .1) (w .0 .1 .0) (p .place .ensures .0) (m .0)))))
 
 same-length : tie.Need-same-length
@@ -42,7 +42,7 @@ same-length c = search needs
 
 returns-2 : tie.Need-returns-2
 returns-2 c =
-    let q = c .before .before in let m = c .before .before .before .before .before .before in let w = c .before .before .before .before .before .before .before .before .before .before .before .before .before .pre in
+    let q = c .before .before in let m = c .before .before .before .before .before in let w = c .before .before .before .before .before .before .before .before .before .before .before .before .before .pre in
     (λ e. map-put e (w .1 .1) _ (m .before .place .ensures .0) refl (m .map-between .ensures .0) (q .put-equalities .ensures .0), q .put-equalities .ensures .1)
 
 pub put-map-equalities-spec : {M : Type 1} → statement M

@@ -7,7 +7,7 @@ flatten-surj-then-requires : tie.Need-flatten-surj-then-requires
 flatten-surj-then-requires c κs = search needs
 
 returns : tie.Need-returns
-returns c = λ table k y h. surj-does _ _ _ _ _ _ _ _ _ (c .flatten-surj-then .ensures table y) (c .before .before .if1 .taken) h
+returns c = λ table k y h. surj-does _ _ _ _ _ _ _ _ _ (c .flatten-surj-then .ensures table y) (c .before .if1 .taken) h
 
 flatten-non-surj-then-requires : tie.Need-flatten-non-surj-then-requires
 flatten-non-surj-then-requires c κs = search needs
@@ -21,7 +21,7 @@ flatten-if-arbitrary-requires c κs = search needs
 returns-3 : tie.Need-returns-3
 returns-3 c =
     λ table k y h. let d = c .flatten-if-arbitrary .ensures table y in
-    if-does _ _ _ _ _ _ _ _ _ _ (d .0) (d .1) (c .before .before .before .if1 .left) (c .before .before .if2 .left) h
+    if-does _ _ _ _ _ _ _ _ _ _ (d .0) (d .1) (c .before .before .if1 .left) (c .before .if2 .left) h
 
 pub flatten-map-spec : {M : Type 1} → statement M
 flatten-map-spec =

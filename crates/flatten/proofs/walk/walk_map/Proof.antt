@@ -6,14 +6,14 @@ use Rattle.naming.proofs.Placed.{numbers-are}
 use Rattle.flatten.proofs.Grounds.{byte-types}
 use Rattle.flatten.proofs.Numbers.{count-small, fresh-room}
 use Rattle.flatten.proofs.Walkable.{Walkable, map-at}
-use Rattle.flatten.proofs.Going.{ends-stop, walkable, room, source-laid, target-laid, given-read, typed-read, reaches, went-refused, went-on}
+use Rattle.flatten.proofs.Going.{ends-stop, walkable, room, typed-room, source-laid, target-laid, given-read, typed-read, reaches, went-refused, went-on}
 use borrow.Author.Needs.{needs}
 use Rattle.flatten.proofs.walk.walk_map.Statement.{statement}
 use Rattle.flatten.proofs.walk.walk_map.Tie as tie
 
 -- From a place behind `ends` to the start, and from the last calls back to it.
 abbrev S : tie.After-enum-told → tie.Start
-S c = c .before .before .before .before .before .before
+S c = c .before .before .before .before .before .before .before
 
 abbrev T : tie.After-type-variables-arg → tie.After-enum-told
 T c = c .before .before .before .before .before .before .before .before .before .before
@@ -33,7 +33,7 @@ abbrev here : (c : tie.After-enum-told) → From (S c)
 here c = S c .pre .1 .1 .1
 
 ends-requires : tie.Need-ends-requires
-ends-requires c κs = c .before .before .before .pre .0
+ends-requires c κs = c .before .before .before .before .pre .0
 
 enum-told : tie.Need-enum-told
 enum-told c = search needs
@@ -43,7 +43,7 @@ enum-told-2 c = search needs
 
 returns : tie.Need-returns
 returns c =
-    let w = c .before .before .before .before .before .before .pre .1 in
+    let w = c .before .before .before .before .before .before .before .pre .1 in
     λ g. ends-stop (w .0 .1) (w .1 .0) (g .going) _ (c .before .before .ends .ensures) (c .enum-told2 .given .1)
 
 map-between-requires : tie.Need-map-between-requires
@@ -73,6 +73,9 @@ enum-told-3 c = search needs
 number-requires : tie.Need-number-requires
 number-requires c κs = search needs
 
+same-length : tie.Need-same-length
+same-length c = search needs
+
 returns-2 : tie.Need-returns-2
 returns-2 c =
     let f = c .before .before .before in let a = f .before .before .before in let m = a .before .before in
@@ -80,36 +83,39 @@ returns-2 c =
       (f .flatten-map .ensures) (c .before .enum-told3 .given .1) (c .number .ensures)
 
 type-variables-requires : tie.Need-type-variables-requires
-type-variables-requires c κs = let o = can (T c) (here (T c)) in (target-laid o, (byte-types (o .ground) _ (o .met .target-in), (room o, o .going .walking .types-long)))
+type-variables-requires c κs = let o = can (T c) (here (T c)) in (target-laid o, (byte-types (o .ground) _ (o .met .target-in), typed-room o))
 
 cast-sources : tie.Need-cast-sources
-cast-sources c = let h = S (T (c .before)) .pre .0 in search needs
+cast-sources c = let h = S (T (c .before .before .before)) .pre .0 in search needs
 
 element-write-sources : tie.Need-element-write-sources
-element-write-sources c = let h = S (T (c .before)) .pre .0 in search needs
+element-write-sources c = let h = S (T (c .before .before .before)) .pre .0 in search needs
 
-mul-t31 : tie.Need-mul-t31
-mul-t31 c = let h = S (T (c .before)) .pre .0 in search needs
+mul-t33 : tie.Need-mul-t33
+mul-t33 c = let h = S (T (c .before .before .before)) .pre .0 in search needs
 
 element-set-from-masks : tie.Need-element-set-from-masks
-element-set-from-masks c = let h = S (T (c .before)) .pre .0 in search needs
+element-set-from-masks c = let h = S (T (c .before .before .before)) .pre .0 in search needs
 
 element-count-requires : tie.Need-element-count-requires
-element-count-requires c κs = let h = S (T (c .before)) .pre .0 in search needs
+element-count-requires c κs = let h = S (T (c .before .before .before)) .pre .0 in search needs
 
 fresh-requires : tie.Need-fresh-requires
-fresh-requires c κs = let e = T (c .before .before) in count-small (target-laid (can e (here e))) (c .element-count .ensures)
+fresh-requires c κs = let e = T (c .before .before .before .before) in count-small (target-laid (can e (here e))) (c .element-count .ensures)
 
 add-next : tie.Need-add-next
 add-next c =
-    let e = T (c .before .before .before) in let o = can e (here e) in
+    let e = T (c .before .before .before .before .before) in let o = can e (here e) in
     let h = fresh-room _ _ (c .fresh .ensures) (count-small (target-laid o) (c .before .element-count .ensures)) (room o) in search needs
+
+same-length-2 : tie.Need-same-length-2
+same-length-2 c = search needs
 
 returns-3 : tie.Need-returns-3
 returns-3 c =
-    let r = c .before .before .before .before .before in let f = r .before .before in let l = f .before .before in let a = l .before in let m = a .before .before in
+    let r = c .before .before .before .before .before .before .before in let f = r .before .before in let l = f .before .before in let a = l .before in let m = a .before .before in
     λ g. let o = can (m .before) g in let p = map-at (m .map-between .ensures) in went-on o p (g .row) (a .assign-el-vars .ensures)
-      (f .flatten-map .ensures) (r .r .given .1) (c .fresh .ensures) (c .before .element-count .ensures) (c .before .before .type-variables .ensures) refl refl
+      (f .flatten-map .ensures) (r .r .given .1) (c .fresh .ensures) (c .before .element-count .ensures) (c .before .before .before .before .type-variables .ensures) refl refl
       (l .merged-els .ensures _ (numbers-are (target-laid o)) (p .joins .images)) refl refl
 
 pub walk-map-spec : {M : Type 1} → statement M
@@ -127,13 +133,15 @@ walk-map-spec =
     enum-known-r
     enum-told-3
     number-requires
+    same-length
     returns-2
     type-variables-requires
     cast-sources
     element-write-sources
-    mul-t31
+    mul-t33
     element-set-from-masks
     element-count-requires
     fresh-requires
     add-next
+    same-length-2
     returns-3)

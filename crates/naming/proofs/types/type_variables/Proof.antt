@@ -29,15 +29,15 @@ array-read-if1 : tie.Need-array-read-if1 Inv-loop μ-loop
 array-read-if1 c = search needs
 
 read-element-requires : tie.Need-read-element-requires Inv-loop μ-loop
-read-element-requires c κs = ((c .before .before .before .before .before .before .pre .0 .few, search needs), c .before .before .before .before .before .before .pre .0 .elements)
+read-element-requires c κs = ((c .before .before .before .before .before .before .before .pre .0 .few, search needs), c .before .before .before .before .before .before .before .pre .0 .elements)
 
 cast-types : tie.Need-cast-types Inv-loop μ-loop
 cast-types c =
-    let r = c .before .before in let p = r .before .before .before .before .before .before .before .pre in
+    let r = c .before .before in let p = r .before .before .before .before .before .before .before .before .pre in
     let h = type-byte (p .0) (p .1 .0) (r .read-element .result) _ (search needs) (r .read-element .ensures .0) in search needs
 
-element-write-types : tie.Need-element-write-types Inv-loop μ-loop
-element-write-types c = search needs
+slice-write-types : tie.Need-slice-write-types Inv-loop μ-loop
+slice-write-types c = search needs
 
 add-number : tie.Need-add-number Inv-loop μ-loop
 add-number c = search needs
@@ -49,10 +49,13 @@ loop-less : tie.Need-loop-less Inv-loop μ-loop
 loop-less c = search needs
 
 loop-again : tie.Need-loop-again Inv-loop μ-loop
-loop-again c = ⊎-elim (λ w. (search needs, rw (w .4, w .5) (type-on (c .before .before .loop .inv .1) (let f = element-few (c .before .before .before .before .before .before .pre .0) in search needs) (below-count (c .before .before .before .before .before .before .pre .0) (c .before .before .before .before .element-count .ensures) (c .before .loop-test .taken)) (w .0 .taken) (type-read (c .before .before .before .before .before .before .pre .0) (w .1 .result) _ (search needs) (w .1 .ensures .0))))) (λ w. (search needs, rw (w .1, w .2) (type-pass (c .before .before .loop .inv .1) (let f = element-few (c .before .before .before .before .before .before .pre .0) in search needs) (below-count (c .before .before .before .before .before .before .pre .0) (c .before .before .before .before .element-count .ensures) (c .before .loop-test .taken)) (w .0 .left)))) (c .if1 .came)
+loop-again c = ⊎-elim (λ w. (search needs, rw (w .4, w .5) (type-on (c .before .before .loop .inv .1) (let f = element-few (c .before .before .before .before .before .before .before .pre .0) in search needs) (below-count (c .before .before .before .before .before .before .before .pre .0) (c .before .before .before .before .element-count .ensures) (c .before .loop-test .taken)) (w .0 .taken) (type-read (c .before .before .before .before .before .before .before .pre .0) (w .1 .result) _ (search needs) (w .1 .ensures .0))))) (λ w. (search needs, rw (w .1, w .2) (type-pass (c .before .before .loop .inv .1) (let f = element-few (c .before .before .before .before .before .before .before .pre .0) in search needs) (below-count (c .before .before .before .before .before .before .before .pre .0) (c .before .before .before .before .element-count .ensures) (c .before .loop-test .taken)) (w .0 .left)))) (c .if1 .came)
+
+same-length : tie.Need-same-length Inv-loop μ-loop
+same-length c = c .before .loop .inv .1 .long
 
 returns : tie.Need-returns Inv-loop μ-loop
-returns c = type-end (c .before .loop .inv .1) (let f = element-few (c .before .before .before .before .before .pre .0) in search needs) (past-count (c .before .before .before .before .before .pre .0) (c .before .before .before .element-count .ensures) (c .loop-test .left))
+returns c = type-end (c .before .loop .inv .1) (let f = element-few (c .before .before .before .before .before .before .pre .0) in search needs) (past-count (c .before .before .before .before .before .before .pre .0) (c .before .before .before .element-count .ensures) (c .loop-test .left))
 
 pub type-variables-spec : {M : Type 1} → statement M
 type-variables-spec =
@@ -67,9 +70,10 @@ type-variables-spec =
     array-read-if1
     read-element-requires
     cast-types
-    element-write-types
+    slice-write-types
     add-number
     add-i
     loop-less
     loop-again
+    same-length
     returns)

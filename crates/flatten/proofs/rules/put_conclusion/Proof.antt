@@ -1,16 +1,16 @@
 use Rattle.flatten.proofs.Premises.{both-small, stands-at, surj-mapped}
-use Rattle.flatten.proofs.Rules.{surj-put, rows-put}
+use Rattle.flatten.proofs.Ruling.{surj-put, rows-put}
 use borrow.Author.Needs.{needs}
 use native.Mathlib.Omega.{arith}
-use Rattle.flatten.proofs.output.put_conclusion.Statement.{statement}
-use Rattle.flatten.proofs.output.put_conclusion.Tie as tie
+use Rattle.flatten.proofs.rules.put_conclusion.Statement.{statement}
+use Rattle.flatten.proofs.rules.put_conclusion.Tie as tie
 
 reached-by-requires : tie.Need-reached-by-requires
-reached-by-requires c κs = let w = c .before .before .pre .1 in both-small (w .0) (w .1)
+reached-by-requires c κs = let w = c .before .before .before .pre .1 in both-small (w .0) (w .1)
 
 put-both-requires : tie.Need-put-both-requires
 put-both-requires c κs =
-    let w = c .before .before .before .before .before .pre in
+    let w = c .before .before .before .before .before .before .pre in
     ((w .0, surj-mapped (w .1 .0) (w .1 .1) (c .before .before .reached-by .ensures) (c .before .if1 .taken)), w .1)
 
 same-length : tie.Need-same-length
@@ -19,7 +19,7 @@ same-length c = search needs
 returns : tie.Need-returns
 returns c =
     let a = c .before .before .before .before in let o = c .before .before .put-both .ensures in
-    (λ e x q. surj-put e (a .before .before .before .before .pre .1 .1) (a .before .reached-by .ensures) (a .if1 .taken) q (o .0 e), o .1)
+    (λ e x q. surj-put e (a .before .before .before .before .before .pre .1 .1) (a .before .reached-by .ensures) (a .if1 .taken) q (o .0 e), o .1)
 
 mul-row : tie.Need-mul-row
 mul-row c = search needs
@@ -37,7 +37,7 @@ array-read-put-domains : tie.Need-array-read-put-domains
 array-read-put-domains c = search needs
 
 put-domains-requires : tie.Need-put-domains-requires
-put-domains-requires c κs = let w = c .before .before .before .before .before .before .before .pre in (w .0, stands-at (w .1 .0) (w .1 .1))
+put-domains-requires c κs = let w = c .before .before .before .before .before .before .before .before .pre in (w .0, stands-at (w .1 .0) (w .1 .1))
 
 same-length-2 : tie.Need-same-length-2
 same-length-2 c = search needs
@@ -45,7 +45,7 @@ same-length-2 c = search needs
 returns-2 : tie.Need-returns-2
 returns-2 c =
     let a = c .before .before .before .before .before .before in let o = c .before .before .put-domains .ensures in
-    (λ e x q. rows-put e (a .before .before .before .before .pre .1 .1) (a .before .reached-by .ensures) (a .if1 .left) q o, omega (arith, o .size))
+    (λ e x q. rows-put e (a .before .before .before .before .before .pre .1 .1) (a .before .reached-by .ensures) (a .if1 .left) q o, omega (arith, o .size))
 
 pub put-conclusion-spec : {M : Type 1} → statement M
 put-conclusion-spec =

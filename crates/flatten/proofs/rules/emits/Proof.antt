@@ -1,8 +1,8 @@
-use Rattle.flatten.proofs.Rules.{emits-surj, emits-rows, emits-none}
+use Rattle.flatten.proofs.Ruling.{emits-surj, emits-rows, emits-none}
 use mathlib.Core.Path.{refl}
 use borrow.Author.Needs.{needs}
-use Rattle.flatten.proofs.output.emits.Statement.{statement}
-use Rattle.flatten.proofs.output.emits.Tie as tie
+use Rattle.flatten.proofs.rules.emits.Statement.{statement}
+use Rattle.flatten.proofs.rules.emits.Tie as tie
 
 reached-by-requires : tie.Need-reached-by-requires
 reached-by-requires c κs = search needs

@@ -207,8 +207,11 @@ module _ {out₀ out s index types : List ℕ} {kinds : List (List ℕ)} {tb : T
   same-rules q = let f = w .few in record { put = λ e. rw (q e) (w .put e); so-many = λ e. rw (q e) (w .so-many e); few = omega arith; small = w .small }
 
   -- A structure that was not reached.
+  pub ruling-read : unreached ≤ getD (tb .sources) t 0 → unreached ≤ sourceAt tb t
+  ruling-read d = rw read at d
+
   pub ruling-pass : unreached ≤ getD (tb .sources) t 0 → Ruling out₀ out s index types kinds tb from at count (t + 1)
-  ruling-pass d = same-rules (λ e. rules-pass e t (rw read at d))
+  ruling-pass d = same-rules (λ e. rules-pass e t (ruling-read d))
 
   -- One that was reached.
   pub ruling-reaching : getD (tb .sources) t 0 < unreached → Reaching s tb t
