@@ -14,20 +14,16 @@ use Rattle.definition.specs.Walk.{groupName}
 use Rattle.definition.specs.Writer.{recordBytes, flatRuleFields}
 use Rattle.theory.proofs.ByteForm.{statementBytes}
 use Rattle.records.specs.Buffer.{Put, capped, countLimit, headBytes}
-use Rattle.records.proofs.Tail.{nothing, counted}
 use Rattle.rule.specs.Lookup.{ruleAt}
+use Rattle.statements.proofs.Counting.{beyond}
 use Rattle.flatten.specs.Tables.{Tables, unreached, sourceAt, ownAt, emittedRule, statementsAt}
 use Rattle.flatten.specs.Ended.{Ended, Reaching}
 use Rattle.flatten.proofs.Premises.{place-small, source-reaching, source-below, premise-first, premise-later}
 use Rattle.flatten.proofs.Ruling.{rule-put}
 
--- Nothing of a part fits, and it is only counted: in a buffer without a byte that is so of every part.
-pub counted-only : (out p : List ℕ) {at r : ℕ} → r ≡ capped (at + length p) → length out ≤ at → at ≤ countLimit → Put out out p at r
-counted-only out [] {at} {r} e l h = let q : r ≡ at = omega arith in rw q (nothing out at h)
-counted-only out (x ∷ xs) {at} e l h = counted out (x ∷ xs) at e (omega arith)
-
+-- Nothing of a part fits into a buffer without a byte: it is only counted.
 sized : (p : List ℕ) {at r : ℕ} → r ≡ capped (at + length p) → at ≤ countLimit → Put [] [] p at r
-sized p e h = counted-only [] p e (omega arith) h
+sized p e h = beyond p e (omega arith) h
 
 pub told : {out₀ out p : List ℕ} {at r : ℕ} → Put out₀ out p at r → at ≤ countLimit → Put [] [] p at r
 told {p = p} w h = sized p (w .size) h

@@ -67,7 +67,7 @@ fn put_map_equalities(
     }
     let u = place(sources[t]);
     let m = map_between(s, index, u, t);
-    put_equalities(out, from, letter, s, index, u, t, vars[u], m, types, merged)
+    put_equalities(out, from, letter, s, index, u, t, &vars[u], m, types, merged)
 }
 
 // Equality per kernel pair of the map that reached a structure, then what the structure's masks mean.
@@ -93,7 +93,7 @@ pub fn put_both(
     ensures { λ r. ⌜ r ≤ countLimit ⌝ }
 {
     let at = put_map_equalities(out, from, letter, s, index, kinds, sources, masks, vars, types, t);
-    put_said(out, at, letter, s, index, t, vars[t], masks_at(masks, t))
+    put_said(out, at, letter, s, index, t, &vars[t], masks_at(masks, t))
 }
 
 // What a structure adds to the statements of its source: a map of SurjThen adds nothing.
@@ -123,7 +123,7 @@ pub fn put_own(
     if kind == IF || kind == NOOP {
         return put_both(out, from, b'B', s, index, kinds, sources, masks, vars, types, t);
     }
-    put_said(out, from, b'B', s, index, t, vars[t], masks_at(masks, t))
+    put_said(out, from, b'B', s, index, t, &vars[t], masks_at(masks, t))
 }
 
 // The statements of a structure: those of its source, then its own.

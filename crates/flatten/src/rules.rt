@@ -86,7 +86,7 @@ pub fn put_conclusion(
         );
     }
     let row = masks[t];
-    put_domains(out, from, b'H', s, index, t, vars[t], row[1])
+    put_domains(out, from, b'H', s, index, t, &vars[t], row[1])
 }
 
 // A rule: its name, the statements of the map's source, and the conclusion.

@@ -2,7 +2,6 @@
 pub mod MapLaws
 pub mod KernelLaws
 pub mod Several
-pub mod KernelCount
 pub mod Ascending
 pub mod Parts
 pub mod Sections

@@ -96,7 +96,7 @@ module _ {s index : List ℕ} {k : ℕ} (w : Stands s index k) {i : ℕ} (h : i 
         let a : e .ty .0 ≡ elementIn s index k i .type = ap (λ (x : Element). x .type) q in
         rw (store-more vars (e .parents) (getD row i 0) few, t, own-variable row, each-append, parents-are, a)
 
-    parents-count : length (elementIn s index k i .parents) ≡ e .parents
+    pub parents-count : length (elementIn s index k i .parents) ≡ e .parents
     parents-count = rw parents-are (count-in s (e .start) (e .parents) (b .inside))
 
     pub element-many : (row : List ℕ) (kind : ℕ) → length (elementStatement (variableBy st row) kind (elementIn s index k i) .variables) ≡ e .parents + 1
@@ -134,6 +134,9 @@ module _ {s index : List ℕ} {k : ℕ} (w : Stands s index k) {count i : ℕ} (
   pub few-places : i < fieldLimit
   few-places = let f = w .at .laid .elements .elements .few in omega arith
 
+  pub elements-left : drop i (structureIn s k .elements) ≡ elementIn s index k i ∷ drop (i + 1) (structureIn s k .elements)
+  elements-left = rw (w .at .laid .same) (elements-on s index k i in-place)
+
 -- The TypeSets of the flagged elements, from a place on.
 unfoldable pub typesFrom : ℕ → (ℕ → ℕ) → ℕ → List Element → ℕ → List ℕ
 typesFrom letter variable mask els i = statementBytes letter (typeSets variable (flaggedFrom mask i (drop i els)))
@@ -148,19 +151,16 @@ types-cons variable e es = go (empty (e .parents))
     go false = refl
 
 module _ {s index : List ℕ} {k : ℕ} (w : Stands s index k) (letter : ℕ) (row : List ℕ) (mask : ℕ) {count i : ℕ} (c : count ≡ countAt index k) where
-  elements-left : i < count → drop i (structureIn s k .elements) ≡ elementIn s index k i ∷ drop (i + 1) (structureIn s k .elements)
-  elements-left h = rw (w .at .laid .same) (elements-on s index k i (rw (← c) h))
-
   module _ (h : i < count) where
     pub types-on : flagAt mask i ≡ true → typesFrom letter (variableBy (structureIn s k) row) mask (structureIn s k .elements) i
         ≡ statementBytes letter (typeSets (variableBy (structureIn s k) row) (elementIn s index k i ∷ [])) ++ typesFrom letter (variableBy (structureIn s k) row) mask (structureIn s k .elements) (i + 1)
     unfolding typesFrom
-    types-on f = rw (flagged-on mask (structureIn s k .elements) i (elements-left h) f, types-cons _ (elementIn s index k i), statements-append)
+    types-on f = rw (flagged-on mask (structureIn s k .elements) i (elements-left w c h) f, types-cons _ (elementIn s index k i), statements-append)
 
     pub types-pass : flagAt mask i ≡ false → typesFrom letter (variableBy (structureIn s k) row) mask (structureIn s k .elements) i
         ≡ typesFrom letter (variableBy (structureIn s k) row) mask (structureIn s k .elements) (i + 1)
     unfolding typesFrom
-    types-pass f = rw (flagged-pass mask (structureIn s k .elements) i (elements-left h) f)
+    types-pass f = rw (flagged-pass mask (structureIn s k .elements) i (elements-left w c h) f)
 
   pub types-end : count ≤ i → typesFrom letter (variableBy (structureIn s k) row) mask (structureIn s k .elements) i ≡ []
   unfolding typesFrom typeSets keep each statementBytes recordBytes joined

@@ -4,6 +4,6 @@ pub mod Elements
 pub mod Unsaid
 pub mod Rows
 pub mod Whole
-pub mod Lengths
+pub mod Counting
 pub mod Fibers
 pub mod KernelPairs

@@ -5,7 +5,7 @@ use native.Mathlib.Decide.{ℕ-discrete}
 use mathlib.Core.Bool.{true, false}
 use mathlib.Core.List.{List, [], _∷_, _++_, List·Memᴰ·head, List·Memᴰ·tail, Memᴰ·append-left}
 use mathlib.Core.Path.{_≡_, refl, _∙_, ap}
-use lib.ListN.{length, getD, take, drop, take-append-drop}
+use lib.ListN.{length, getD, take, drop, length-append, take-append-drop}
 use borrow.Author.Tests.{eq-eqb, ne-eqb}
 use Rattle.definition.specs.Base.{each, joined, _∈_}
 use Rattle.definition.specs.Letters.{predicate, function}
@@ -29,6 +29,7 @@ use Rattle.statements.specs.Said.{flaggedFrom}
 use Rattle.statements.specs.Structures.{Stands}
 use Rattle.statements.specs.Parts.{variableBy, NamedIn, placeR, placeA, rowsAt, partStatement, chosenStatements, Chooses}
 use Rattle.statements.specs.declared.sections.Chosen.{Chosen}
+use Rattle.statements.proofs.Variables.{stretch-many}
 use Rattle.statements.proofs.Elements.{statements-cons, flagged-on, flagged-pass}
 
 -- A loop along a section stands at a field, behind the first i rows.
@@ -113,6 +114,10 @@ module _ {s : List ℕ} {st : Structure} {rows : List Row} {omitted field end i 
   pub row-wide : omitted ≤ len / 2 - 1
   row-wide = let c = content in rw (count-in s (start + 2) (len / 2 - 1) (c .0)) at (rw (c .1) at (r .wide _ first))
 
+  -- It is said in so many variables.
+  pub row-many : (variable : ℕ → ℕ) → length (each variable (numbers (stretch s (start + 2) (2 * (len / 2 - 1 - omitted))))) ≡ len / 2 - 1 - omitted
+  row-many variable = stretch-many s (start + 2) (len / 2 - 1 - omitted) (omega (arith, content .0)) variable
+
   pub row-named : NamedIn st (numbers (stretch s (start + 2) (2 * (len / 2 - 1 - omitted))))
   row-named =
       let c = content in
@@ -153,6 +158,12 @@ module _ {s : List ℕ} {st : Structure} {rows : List Row} {omitted field end i 
         ++ rowsFrom letter variable c rows (i + 1)
     unfolding rowsFrom each
     rows-on f = rw (flagged-on (c .mask) rows i rows-left f, part-is) (statements-cons letter _ _)
+
+    -- By so much what is left is longer.
+    pub rows-longer : flagAt (c .mask) i ≡ true → length (rowsFrom letter variable c rows i)
+        ≡ length (fieldBytes (statementField letter (record { kind = c .kind; symbol = twoAt s start; variables = each variable (numbers (stretch s (start + 2) (2 * (len / 2 - 1 - c .omitted)))) })))
+        + length (rowsFrom letter variable c rows (i + 1))
+    rows-longer f = rw (rows-on f, length-append)
 
     pub rows-pass : flagAt (c .mask) i ≡ false → rowsFrom letter variable c rows i ≡ rowsFrom letter variable c rows (i + 1)
     unfolding rowsFrom

@@ -15,9 +15,9 @@ use Rattle.definition.specs.Writer.{twoBytes, numberBytes, statementField, fiel
 use Rattle.theory.proofs.Lists.{never, mem-has, each-append, length-each, getD-each}
 use Rattle.theory.proofs.Numbers.{length-numbers-written}
 use Rattle.records.specs.Places.{twoAt, stretch}
-use Rattle.records.specs.Buffer.{Put, capped}
+use Rattle.records.specs.Buffer.{Put}
 use Rattle.records.proofs.Link.{one-more}
-use Rattle.records.proofs.Tail.{counted, then}
+use Rattle.records.proofs.Tail.{then}
 use Rattle.rule.specs.Elements.{elementNumbers, Finds}
 use Rattle.rule.specs.declared.elements.Found.the-variants.{At, Nothing}
 use Rattle.rule.proofs.Finding.{numbers-length}
@@ -128,11 +128,7 @@ pub statement-put : (letter : ℕ) (x : Statement) {out₀ out₁ out : List ℕ
     → Put out₁ out (varsFrom (x .variables) 0) at r → Put out₀ out (fieldBytes (statementField letter x)) 0 r
 statement-put letter x h a b = rw (← (statement-parts letter x h)) (then a b)
 
--- A statement by its length. Where nothing of it fits, it is counted.
-module _ (letter : ℕ) (x : Statement) where
-  pub statement-long : length (fieldBytes (statementField letter x)) ≡ 6 + 2 * length (x .variables)
-  unfolding fieldBytes statementField numberBytes
-  statement-long = let n = length-numbers-written (x .symbol ∷ x .variables) in omega arith
-
-  pub beyond : {out : List ℕ} {from r : ℕ} → r ≡ capped (from + length (fieldBytes (statementField letter x))) → length out ≤ from → Put out out (fieldBytes (statementField letter x)) from r
-  beyond {out} {from} e h = let n = statement-long in counted out (fieldBytes (statementField letter x)) from e (omega arith)
+-- A statement by its length.
+pub statement-long : (letter : ℕ) (x : Statement) → length (fieldBytes (statementField letter x)) ≡ 6 + 2 * length (x .variables)
+unfolding fieldBytes statementField numberBytes
+statement-long letter x = let n = length-numbers-written (x .symbol ∷ x .variables) in omega arith

@@ -21,7 +21,7 @@ use Rattle.naming.specs.Variables.{variablesIn}
 use Rattle.naming.proofs.Choices.{each-same}
 use Rattle.statements.specs.Said.{flaggedFrom, flagged, memberFlag, appsBy, saidBy, domainsBy}
 use Rattle.statements.specs.Structures.{Stands}
-use Rattle.statements.specs.Parts.{variableBy, placeR, placeA, partStatement, chosenStatements}
+use Rattle.statements.specs.Parts.{variableBy, placeA, partStatement, chosenStatements, predsBy, funcsBy}
 use Rattle.statements.specs.declared.masks.Masks.{Masks}
 
 flagged-mem : {A : Type 0} (mask i : ℕ) (xs : List A) {a : A} → a ∈ flaggedFrom mask i xs → a ∈ xs
@@ -58,17 +58,17 @@ module _ {s index : List ℕ} {k : ℕ} (w : Stands s index k) (row : List ℕ) 
       → each (partStatement (variableBy st row) kind 0) (flagged mask rows) ≡ each (rowStatement (variableBy st row)) (flagged mask rows)
   rows-whole kind mask rows h = each-on _ _ (flagged mask rows) (λ r m. whole-row (variableBy st row) kind r (h r (flagged-mem mask 0 rows m)))
 
-  preds-whole : (mask : ℕ) → chosenStatements st row (record { place = placeR; mask = mask; kind = predicate; omitted = 0 }) ≡ each (rowStatement (variableBy st row)) (flagged mask (st .predRows))
+  preds-whole : (mask : ℕ) → chosenStatements st row (predsBy mask) ≡ each (rowStatement (variableBy st row)) (flagged mask (st .predRows))
   unfolding chosenStatements
   preds-whole mask = rows-whole predicate mask (st .predRows) (λ r m. w .at .sound .preds-sound r m .0)
 
-  funcs-whole : (mask : ℕ) → chosenStatements st row (record { place = placeA; mask = mask; kind = function; omitted = 0 }) ≡ each (rowStatement (variableBy st row)) (flagged mask (st .funcRows))
+  funcs-whole : (mask : ℕ) → chosenStatements st row (funcsBy mask) ≡ each (rowStatement (variableBy st row)) (flagged mask (st .funcRows))
   unfolding chosenStatements
   funcs-whole mask = rows-whole function mask (st .funcRows) (λ r m. w .at .sound .funcs-sound r m .0)
 
   pub apps-parts : (letter : ℕ) (masks : Masks) → statementBytes letter (appsBy st (variablesIn st row) masks)
-      ≡ statementBytes letter (chosenStatements st row (record { place = placeR; mask = masks .preds; kind = predicate; omitted = 0 }))
-      ++ statementBytes letter (chosenStatements st row (record { place = placeA; mask = masks .funcs; kind = function; omitted = 0 }))
+      ≡ statementBytes letter (chosenStatements st row (predsBy (masks .preds)))
+      ++ statementBytes letter (chosenStatements st row (funcsBy (masks .funcs)))
       ++ statementBytes letter (each (rowStatement (variableBy st row)) (keep (memberFlag st (masks .members)) (members st)))
   apps-parts letter masks = rw (preds-whole (masks .preds), funcs-whole (masks .funcs), each-append, each-append, statements-append, statements-append)
 

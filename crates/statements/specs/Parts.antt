@@ -4,7 +4,7 @@ use Prim.Native.Nat.{ℕ, _+_, _-_, _*_, _≤_}
 use lib.Dec.{eqb}
 use lib.ListN.{length, take}
 use Rattle.definition.specs.Base.{pick, keep, each, _∈_}
-use Rattle.definition.specs.Letters.{typeSet}
+use Rattle.definition.specs.Letters.{predicate, function, typeSet}
 use Rattle.definition.specs.Records.{numbers}
 use Rattle.definition.specs.Rule.{Structure, Element, Row}
 use Rattle.definition.specs.Group.{Statement}
@@ -61,6 +61,13 @@ chosenStatements st row c = each (partStatement (variableBy st row) (c .kind) (c
 pub record Chooses (c : Chosen) : Type 0 where
   pub least : placeR + c .omitted ≤ c .place
   pub most : c .place ≤ placeA
+
+-- The flagged R rows, and the flagged A rows, each taken whole.
+abbrev pub predsBy : ℕ → Chosen
+predsBy mask = record { place = placeR; mask = mask; kind = predicate; omitted = 0 }
+
+abbrev pub funcsBy : ℕ → Chosen
+funcsBy mask = record { place = placeA; mask = mask; kind = function; omitted = 0 }
 
 -- An element as a statement of a kind: its type, its parents and itself.
 unfoldable pub elementStatement : (ℕ → ℕ) → ℕ → Element → Statement

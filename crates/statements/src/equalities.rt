@@ -22,11 +22,11 @@ ghost use Rattle.naming.specs.Variables.{GivenOut};
 ghost use Rattle.statements.specs.Structures.{Stands, sideIn};
 ghost use Rattle.statements.specs.Equalities.{equalityOf, equalitiesAmong, equalitiesOver, TypedVars, KeysGiven};
 use crate::statement::Statement;
-use crate::statement::counted;
 use crate::statement::put_statement;
 use flags::flag;
 use records::fields::place;
 use records::fields::short;
+use records::write::past;
 use rows::maps::Map;
 use rows::maps::pair_image;
 use rows::maps::pair_key;
@@ -47,10 +47,6 @@ fn put_equality(out: &mut [u8], from: usize, letter: u8, types: &[u8], v: u16, w
     requires { ⌜ (from ≤ countLimit) × (v < length (now types)) ⌝ }
     ensures { λ r. ⌜ Put (now (out .entry)) (now (out .exit)) (fieldBytes (statementField letter (equalityOf (now (types .entry)) v w))) from r ⌝ }
 {
-    // Nothing of it fits: its length is enough.
-    if out.len() <= from {
-        return counted(from, EQUALITY_VARS);
-    }
     let symbol = short(types[place(v)]);
     let vars = [v, w, 0, 0, 0, 0, 0, 0];
     put_statement(
@@ -131,6 +127,9 @@ fn put_later(
     at
 }
 
+// The bytes of an Equality for each of its two variables: of n variables each stands in n - 1 Equalities.
+const EQUALITY_SHARE: usize = 5;
+
 // Equalities of each two of some variables.
 fn put_among(
     out: &mut [u8],
@@ -144,6 +143,10 @@ fn put_among(
     requires { ⌜ TypedVars (now vars) count (length (now types)) ⌝ }
     ensures { λ r. ⌜ Put (now (out .entry)) (now (out .exit)) (statementBytes letter (equalitiesAmong (now (types .entry)) (take count (now (vars .entry))))) from r ⌝ }
 {
+    // Nothing of them fits: their length is enough.
+    if out.len() <= from {
+        return past(from, EQUALITY_SHARE * (count * count - count));
+    }
     let mut at = from;
     let mut i: usize = 0;
     while i < count {
@@ -221,7 +224,7 @@ pub fn put_equalities(
     index: &[u16; RULE_INDEX],
     src: usize,
     tgt: usize,
-    row: [u16; FIELDS],
+    row: &[u16; FIELDS],
     m: Map,
     types: &[u8],
     merged: u64,
@@ -229,23 +232,11 @@ pub fn put_equalities(
     requires { ⌜ from ≤ countLimit ⌝ }
     requires { ⌜ Stands (now s) (now index) src × Stands (now s) (now index) tgt ⌝ }
     requires { ⌜ MapIn (now s) m × Joins (now s) src tgt m ⌝ }
-    requires { ⌜ GivenOut (structureIn (now s) src) row (length (now types)) ⌝ }
+    requires { ⌜ GivenOut (structureIn (now s) src) (now row) (length (now types)) ⌝ }
     requires { ⌜ Merged merged (structureIn (now s) tgt) (pairsIn (now s) m) ⌝ }
     ensures { λ r. ⌜ ((sig : Signature) (table : List Variable) (target : Side) → TypesOf table (now (types .entry)) → target .structure ≡ structureIn (now (s .entry)) tgt
-        → Put (now (out .entry)) (now (out .exit)) (statementBytes letter (definition.equalities sig table (sideIn (now (s .entry)) src row) target (pairsIn (now (s .entry)) m))) from r) ⌝ }
+        → Put (now (out .entry)) (now (out .exit)) (statementBytes letter (definition.equalities sig table (sideIn (now (s .entry)) src (now (row .entry))) target (pairsIn (now (s .entry)) m))) from r) ⌝ }
     ensures { λ r. ⌜ r ≤ countLimit ⌝ }
 {
-    put_kernel_pairs(
-        out,
-        from,
-        letter,
-        s,
-        index,
-        src,
-        tgt,
-        &row,
-        m,
-        types,
-        merged,
-    )
+    put_kernel_pairs(out, from, letter, s, index, src, tgt, row, m, types, merged)
 }

@@ -1,5 +1,6 @@
 // Statements as bytes.
 pub mod equalities;
+pub mod lengths;
 pub mod masks;
 pub mod members;
 pub mod sections;

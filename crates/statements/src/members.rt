@@ -12,7 +12,6 @@ ghost use Rattle.statements.specs.Structures.{Stands};
 ghost use Rattle.statements.specs.Parts.{elementSaid, membersSaid, typeSetOf, typesSaid};
 use crate::sections::vars_of;
 use crate::statement::Statement;
-use crate::statement::counted;
 use crate::statement::put_statement;
 use crate::statement::put_statement_head;
 use flags::flag;
@@ -50,10 +49,6 @@ fn put_element(
 {
     let e = read_element(s, index, k, i);
     let n = e.parents;
-    // Nothing of it fits: its length is enough.
-    if out.len() <= from {
-        return counted(from, n + 1);
-    }
     let ty = e.ty;
     let parents = vars_of(s, index, k, row, e.start, n);
     let mut vars = parents;
@@ -130,10 +125,6 @@ fn put_type_set(
     let e = read_element(s, index, k, i);
     if e.parents != 0 {
         return from;
-    }
-    // Nothing of it fits: its length is enough.
-    if out.len() <= from {
-        return counted(from, TYPE_SET_VARS);
     }
     let rest = rest_at(from, out.len());
     let len = write_type_set(&mut out[rest..], letter, e.ty, row[i]);

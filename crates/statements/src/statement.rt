@@ -65,6 +65,7 @@ const BEFORE_VARS: usize = 6;
 pub fn counted(from: usize, count: usize) -> usize
     requires { ⌜ (from ≤ countLimit) × (count ≤ columnLimit) ⌝ }
     ensures { λ r. ⌜ ((letter : ℕ) (x : definition.Statement) → length (x .variables) ≡ count → r ≡ capped (from + length (fieldBytes (statementField letter x)))) ⌝ }
+    ensures { λ r. ⌜ r ≤ countLimit ⌝ }
 {
     past(from, BEFORE_VARS + 2 * count)
 }

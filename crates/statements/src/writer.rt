@@ -6,18 +6,18 @@ ghost use Rattle.naming.specs.Structures.{structureIn};
 ghost use Rattle.naming.specs.Variables.{variablesIn};
 ghost use Rattle.statements.specs.Said.{appsBy, saidBy, domainsBy};
 ghost use Rattle.statements.specs.Structures.{Stands};
+use crate::lengths::said_length;
 use crate::masks::Masks;
 use crate::members::put_members;
 use crate::members::put_type_sets;
 use crate::sections::Chosen;
+use crate::sections::flagged_funcs;
+use crate::sections::flagged_preds;
 use crate::sections::put_rows;
 use rule::ids::FIELDS;
 use rule::ids::PLACE_A;
-use rule::ids::PLACE_R;
 use rule::ids::RULE_INDEX;
 use signature::ids::FUNC_DOMAIN;
-use signature::ids::FUNCTION;
-use signature::ids::PREDICATE;
 
 // The flagged R rows, A rows and member rows of a structure.
 pub fn put_flat_rel_apps(
@@ -34,20 +34,26 @@ pub fn put_flat_rel_apps(
     requires { ⌜ Stands (now s) (now index) k ⌝ }
     ensures { λ r. ⌜ Put (now (out .entry)) (now (out .exit)) (statementBytes letter (appsBy (structureIn (now (s .entry)) k) (variablesIn (structureIn (now (s .entry)) k) (now (row .entry))) masks)) from r ⌝ }
 {
-    let preds = Chosen {
-        place: PLACE_R,
-        mask: masks.preds,
-        kind: PREDICATE,
-        omitted: 0,
-    };
-    let funcs = Chosen {
-        place: PLACE_A,
-        mask: masks.funcs,
-        kind: FUNCTION,
-        omitted: 0,
-    };
-    let behind_preds = put_rows(out, from, letter, s, index, k, row, preds);
-    let behind_funcs = put_rows(out, behind_preds, letter, s, index, k, row, funcs);
+    let behind_preds = put_rows(
+        out,
+        from,
+        letter,
+        s,
+        index,
+        k,
+        row,
+        flagged_preds(masks.preds),
+    );
+    let behind_funcs = put_rows(
+        out,
+        behind_preds,
+        letter,
+        s,
+        index,
+        k,
+        row,
+        flagged_funcs(masks.funcs),
+    );
     put_members(out, behind_funcs, letter, s, index, k, row, masks.members)
 }
 
@@ -59,15 +65,19 @@ pub fn put_said(
     s: &[u8],
     index: &[u16; RULE_INDEX],
     k: usize,
-    row: [u16; FIELDS],
+    row: &[u16; FIELDS],
     masks: Masks,
 ) -> usize
     requires { ⌜ from ≤ countLimit ⌝ }
     requires { ⌜ Stands (now s) (now index) k ⌝ }
-    ensures { λ r. ⌜ Put (now (out .entry)) (now (out .exit)) (statementBytes letter (saidBy (structureIn (now (s .entry)) k) (variablesIn (structureIn (now (s .entry)) k) row) masks)) from r ⌝ }
+    ensures { λ r. ⌜ Put (now (out .entry)) (now (out .exit)) (statementBytes letter (saidBy (structureIn (now (s .entry)) k) (variablesIn (structureIn (now (s .entry)) k) (now (row .entry))) masks)) from r ⌝ }
 {
-    let behind_apps = put_flat_rel_apps(out, from, letter, s, index, k, &row, masks);
-    put_type_sets(out, behind_apps, letter, s, index, k, &row, masks.free)
+    // Nothing of it fits: its length is enough.
+    if out.len() <= from {
+        return said_length(from, s, index, k, masks);
+    }
+    let behind_apps = put_flat_rel_apps(out, from, letter, s, index, k, row, masks);
+    put_type_sets(out, behind_apps, letter, s, index, k, row, masks.free)
 }
 
 // FuncDomain of each flagged A row: the row without its result.
@@ -78,12 +88,12 @@ pub fn put_domains(
     s: &[u8],
     index: &[u16; RULE_INDEX],
     k: usize,
-    row: [u16; FIELDS],
+    row: &[u16; FIELDS],
     mask: u64,
 ) -> usize
     requires { ⌜ from ≤ countLimit ⌝ }
     requires { ⌜ Stands (now s) (now index) k ⌝ }
-    ensures { λ r. ⌜ Put (now (out .entry)) (now (out .exit)) (statementBytes letter (domainsBy (structureIn (now (s .entry)) k) (variablesIn (structureIn (now (s .entry)) k) row) mask)) from r ⌝ }
+    ensures { λ r. ⌜ Put (now (out .entry)) (now (out .exit)) (statementBytes letter (domainsBy (structureIn (now (s .entry)) k) (variablesIn (structureIn (now (s .entry)) k) (now (row .entry))) mask)) from r ⌝ }
 {
     let domains = Chosen {
         place: PLACE_A,
@@ -91,5 +101,5 @@ pub fn put_domains(
         kind: FUNC_DOMAIN,
         omitted: 1,
     };
-    put_rows(out, from, letter, s, index, k, &row, domains)
+    put_rows(out, from, letter, s, index, k, row, domains)
 }

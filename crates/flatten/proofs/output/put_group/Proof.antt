@@ -1,5 +1,5 @@
 use Rattle.flatten.proofs.Groups.{ended-numbered, group-put}
-use Rattle.flatten.proofs.Measuring.{counted-only}
+use Rattle.statements.proofs.Counting.{beyond}
 use borrow.Author.Needs.{needs}
 use native.Mathlib.Omega.{arith}
 use Rattle.flatten.proofs.output.put_group.Statement.{statement}
@@ -29,7 +29,7 @@ returns : tie.Need-returns
 returns c =
     let v = c .before .before .before .before in let n = v .before .before .before .before in let h = n .before .before .before .before in
     (λ e. group-put e (h .before .before .before .before .before .before .pre .0) (h .before .group-name-length .ensures .0) (h .put-field-head .ensures) (n .put-group-name .ensures) (v .put-all-variables .ensures)
-      (counted-only _ _ (c .rules-length .ensures .0 e .size) (c .before .if1 .taken) (omega (arith, v .put-all-variables .ensures .size))), c .rules-length .ensures .1)
+      (beyond _ (c .rules-length .ensures .0 e .size) (c .before .if1 .taken) (omega (arith, v .put-all-variables .ensures .size))), c .rules-length .ensures .1)
 
 put-rules-requires : tie.Need-put-rules-requires
 put-rules-requires c κs = search needs

@@ -10,8 +10,8 @@ put-map-equalities-requires c κs = search needs
 mul-put-said : tie.Need-mul-put-said
 mul-put-said c = let w = c .before .before .before .before .before .before .before .before .pre .1 in let p = place-small (w .0) (w .1) in search needs
 
-element-copy-out-put-said : tie.Need-element-copy-out-put-said
-element-copy-out-put-said c = let w = c .before .before .before .before .before .before .before .before .pre .1 in let p = place-small (w .0) (w .1) in search needs
+index-1-put-said : tie.Need-index-1-put-said
+index-1-put-said c = let w = c .before .before .before .before .before .before .before .before .pre .1 in let p = place-small (w .0) (w .1) in search needs
 
 masks-at-requires : tie.Need-masks-at-requires
 masks-at-requires c κs = let w = c .before .before .before .before .before .before .before .before .before .pre .1 in place-small (w .0) (w .1)
@@ -33,7 +33,7 @@ put-both-spec =
     (tie.spec
     put-map-equalities-requires
     mul-put-said
-    element-copy-out-put-said
+    index-1-put-said
     masks-at-requires
     put-said-requires
     same-length

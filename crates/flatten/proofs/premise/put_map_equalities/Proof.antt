@@ -29,8 +29,8 @@ map-between-requires c κs = let w = c .before .before .before .before .before .
 mul-put-equalities : tie.Need-mul-put-equalities
 mul-put-equalities c = let w = c .before .before .before .before .before .before .before .before .before .pre .1 in let p = source-small (w .0) (w .1) in let q = c .before .before .place .ensures .0 in search needs
 
-element-copy-out-put-equalities : tie.Need-element-copy-out-put-equalities
-element-copy-out-put-equalities c = let w = c .before .before .before .before .before .before .before .before .before .pre .1 in let p = source-small (w .0) (w .1) in let q = c .before .before .place .ensures .0 in search needs
+index-1-put-equalities : tie.Need-index-1-put-equalities
+index-1-put-equalities c = let w = c .before .before .before .before .before .before .before .before .before .pre .1 in let p = source-small (w .0) (w .1) in let q = c .before .before .place .ensures .0 in search needs
 
 put-equalities-requires : tie.Need-put-equalities-requires
 put-equalities-requires c κs =
@@ -57,7 +57,7 @@ put-map-equalities-spec =
     place-requires
     map-between-requires
     mul-put-equalities
-    element-copy-out-put-equalities
+    index-1-put-equalities
     put-equalities-requires
     same-length
     returns-2)

@@ -30,8 +30,8 @@ returns-2 c =
 mul-put-said : tie.Need-mul-put-said
 mul-put-said c = let w = c .before .before .before .before .before .before .before .before .pre .1 in let p = place-small (w .0) (w .1) in search needs
 
-element-copy-out-put-said : tie.Need-element-copy-out-put-said
-element-copy-out-put-said c = let w = c .before .before .before .before .before .before .before .before .pre .1 in let p = place-small (w .0) (w .1) in search needs
+index-1-put-said : tie.Need-index-1-put-said
+index-1-put-said c = let w = c .before .before .before .before .before .before .before .before .pre .1 in let p = place-small (w .0) (w .1) in search needs
 
 masks-at-requires : tie.Need-masks-at-requires
 masks-at-requires c κs = let w = c .before .before .before .before .before .before .before .before .before .pre .1 in place-small (w .0) (w .1)
@@ -58,7 +58,7 @@ put-own-spec =
     same-length
     returns-2
     mul-put-said
-    element-copy-out-put-said
+    index-1-put-said
     masks-at-requires
     put-said-requires
     same-length-2

@@ -30,8 +30,8 @@ element-copy-out-row c = search needs
 mul-put-domains : tie.Need-mul-put-domains
 mul-put-domains c = search needs
 
-element-copy-out-put-domains : tie.Need-element-copy-out-put-domains
-element-copy-out-put-domains c = search needs
+index-1-put-domains : tie.Need-index-1-put-domains
+index-1-put-domains c = search needs
 
 array-read-put-domains : tie.Need-array-read-put-domains
 array-read-put-domains c = search needs
@@ -58,7 +58,7 @@ put-conclusion-spec =
     mul-row
     element-copy-out-row
     mul-put-domains
-    element-copy-out-put-domains
+    index-1-put-domains
     array-read-put-domains
     put-domains-requires
     same-length-2

@@ -1,16 +1,7 @@
-use Rattle.statements.proofs.Variables.{beyond}
-use mathlib.Core.Path.{refl}
 use Rattle.statements.specs.Equalities.{equalityOf}
 use borrow.Author.Needs.{needs}
 use Rattle.statements.proofs.equalities.put_equality.Statement.{statement}
 use Rattle.statements.proofs.equalities.put_equality.Tie as tie
-
-counted-requires : tie.Need-counted-requires
-counted-requires c κs = search needs
-
-returns : tie.Need-returns
-unfolding equalityOf
-returns c = beyond _ _ (c .counted .ensures _ _ refl) (c .before .if1 .taken)
 
 place-requires : tie.Need-place-requires
 place-requires c κs = search needs
@@ -27,21 +18,17 @@ put-statement-requires c κs = search needs
 same-length : tie.Need-same-length
 same-length c = search needs
 
-returns-2 : tie.Need-returns-2
+returns : tie.Need-returns
 unfolding equalityOf
-returns-2 c =
-    let n = c .before .before .before .before in
-    rw (n .short .ensures .0, n .before .before .place .ensures .0) at (c .before .before .put-statement .ensures)
+returns c = let n = c .before .before .before .before in rw (n .short .ensures .0, n .before .before .place .ensures .0) at (c .before .before .put-statement .ensures)
 
 pub put-equality-spec : {M : Type 1} → statement M
 put-equality-spec =
     tie.close
     (tie.spec
-    counted-requires
-    returns
     place-requires
     shared-slice-read-short
     short-requires
     put-statement-requires
     same-length
-    returns-2)
+    returns)

@@ -1,7 +1,6 @@
-use Rattle.statements.proofs.Variables.{beyond}
-use Rattle.statements.proofs.Elements.{parents-named, element-said, element-many}
-use lib.ListN.{length}
 use mathlib.Core.Path.{_≡_}
+use lib.ListN.{length}
+use Rattle.statements.proofs.Elements.{parents-named, element-said}
 use borrow.Author.Needs.{needs}
 use native.Mathlib.Omega.{arith}
 use Rattle.statements.proofs.members.put_element.Statement.{statement}
@@ -10,17 +9,8 @@ use Rattle.statements.proofs.members.put_element.Tie as tie
 read-element-requires : tie.Need-read-element-requires
 read-element-requires c κs = search needs
 
-add-counted : tie.Need-add-counted
-add-counted c = search needs
-
-counted-requires : tie.Need-counted-requires
-counted-requires c κs = search needs
-
-returns : tie.Need-returns
-returns c = beyond _ _ (c .counted .ensures _ _ (element-many (c .before .before .before .before .before .pre .1) (c .before .before .before .before .before .pre .0 .1) (c .before .before .read-element .ensures .0) (c .before .before .read-element .ensures .1) _ _)) (c .before .if1 .taken)
-
 vars-of-requires : tie.Need-vars-of-requires
-vars-of-requires c κs = (c .before .before .before .before .before .pre .1 .at .laid, ((search needs, search needs), parents-named (c .before .before .before .before .before .pre .1) (c .before .before .before .before .before .pre .0 .1) (c .before .before .read-element .ensures .0) (c .before .before .read-element .ensures .1)))
+vars-of-requires c κs = (c .before .before .before .before .pre .1 .at .laid, ((search needs, search needs), parents-named (c .before .before .before .before .pre .1) (c .before .before .before .before .pre .0 .1) (c .before .read-element .ensures .0) (c .before .read-element .ensures .1)))
 
 mul-vars : tie.Need-mul-vars
 mul-vars c = search needs
@@ -43,17 +33,14 @@ put-statement-requires c κs = search needs
 same-length : tie.Need-same-length
 same-length c = search needs
 
-returns-2 : tie.Need-returns-2
-returns-2 c = let n : length (c .before .before .before .before .before .vars-of .result) ≡ 8 = search needs in rw (← (element-said (c .before .before .before .before .before .before .before .before .before .before .before .pre .1) (c .before .before .before .before .before .before .before .before .before .before .before .pre .0 .1) (c .before .before .before .before .before .before .before .before .read-element .ensures .0) (c .before .before .before .before .before .before .before .before .read-element .ensures .1) _ _ _ (omega (arith, c .before .before .before .before .before .before .before .before .read-element .ensures .1 .few)) (c .before .before .before .before .before .vars-of .ensures))) (c .before .before .put-statement .ensures)
+returns : tie.Need-returns
+returns c = let n : length (c .before .before .before .before .before .vars-of .result) ≡ 8 = search needs in rw (← (element-said (c .before .before .before .before .before .before .before .before .before .before .pre .1) (c .before .before .before .before .before .before .before .before .before .before .pre .0 .1) (c .before .before .before .before .before .before .before .read-element .ensures .0) (c .before .before .before .before .before .before .before .read-element .ensures .1) _ _ _ (omega (arith, c .before .before .before .before .before .before .before .read-element .ensures .1 .few)) (c .before .before .before .before .before .vars-of .ensures))) (c .before .before .put-statement .ensures)
 
 pub put-element-spec : {M : Type 1} → statement M
 put-element-spec =
     tie.close
     (tie.spec
     read-element-requires
-    add-counted
-    counted-requires
-    returns
     vars-of-requires
     mul-vars
     element-copy-out-vars
@@ -62,4 +49,4 @@ put-element-spec =
     add-t15
     put-statement-requires
     same-length
-    returns-2)
+    returns)

@@ -1,8 +1,5 @@
-use mathlib.Core.Path.{refl}
-use Rattle.statements.specs.Parts.{typeSetOf}
-use Rattle.statements.proofs.Elements.{type-said, type-unsaid}
-use Rattle.statements.proofs.Variables.{beyond}
 use Rattle.records.proofs.Tail.{nothing, lent}
+use Rattle.statements.proofs.Elements.{type-said, type-unsaid}
 use borrow.Author.Needs.{needs}
 use Rattle.statements.proofs.members.put_type_set.Statement.{statement}
 use Rattle.statements.proofs.members.put_type_set.Tie as tie
@@ -12,13 +9,6 @@ read-element-requires c κs = search needs
 
 returns : tie.Need-returns
 returns c = rw (← (type-unsaid (c .before .before .before .before .before .pre .1) (c .before .before .before .before .before .pre .0 .1) (c .before .before .read-element .ensures .0) (c .before .before .read-element .ensures .1) _ _ (c .if1 .taken))) (nothing _ _ (c .before .before .before .before .before .pre .0 .0))
-
-counted-requires : tie.Need-counted-requires
-counted-requires c κs = search needs
-
-returns-2 : tie.Need-returns-2
-unfolding typeSetOf
-returns-2 c = rw (type-said (c .before .before .before .before .before .before .before .pre .1) (c .before .before .before .before .before .before .before .pre .0 .1) (c .before .before .before .before .read-element .ensures .0) (c .before .before .before .before .read-element .ensures .1) _ _ (c .before .before .if1 .left)) (beyond _ _ (c .counted .ensures _ _ refl) (c .before .if2 .taken))
 
 rest-at-requires : tie.Need-rest-at-requires
 rest-at-requires c κs = search needs
@@ -47,8 +37,8 @@ past-requires c κs = search needs
 same-length : tie.Need-same-length
 same-length c = search needs
 
-returns-3 : tie.Need-returns-3
-returns-3 c = rw (type-said (c .before .before .before .before .before .before .before .before .before .before .before .before .before .pre .1) (c .before .before .before .before .before .before .before .before .before .before .before .before .before .pre .0 .1) (c .before .before .before .before .before .before .before .before .before .before .read-element .ensures .0) (c .before .before .before .before .before .before .before .before .before .before .read-element .ensures .1) _ _ (c .before .before .before .before .before .before .before .before .if1 .left)) (lent (c .before .before .before .before .before .before .rest-at .ensures) (c .before .before .before .write-type-set .ensures) (c .past .ensures) (c .before .before .before .before .before .before .before .before .before .before .before .before .before .pre .0 .0))
+returns-2 : tie.Need-returns-2
+returns-2 c = rw (type-said (c .before .before .before .before .before .before .before .before .before .before .before .before .pre .1) (c .before .before .before .before .before .before .before .before .before .before .before .before .pre .0 .1) (c .before .before .before .before .before .before .before .before .before .read-element .ensures .0) (c .before .before .before .before .before .before .before .before .before .read-element .ensures .1) _ _ (c .before .before .before .before .before .before .before .if1 .left)) (lent (c .before .before .before .before .before .before .rest-at .ensures) (c .before .before .before .write-type-set .ensures) (c .past .ensures) (c .before .before .before .before .before .before .before .before .before .before .before .before .pre .0 .0))
 
 pub put-type-set-spec : {M : Type 1} → statement M
 put-type-set-spec =
@@ -56,8 +46,6 @@ put-type-set-spec =
     (tie.spec
     read-element-requires
     returns
-    counted-requires
-    returns-2
     rest-at-requires
     sub-write-type-set
     part-write-type-set-start
@@ -67,4 +55,4 @@ put-type-set-spec =
     write-type-set-requires
     past-requires
     same-length
-    returns-3)
+    returns-2)

@@ -1,14 +1,7 @@
-use Rattle.statements.proofs.Variables.{stretch-many, beyond}
 use Rattle.records.proofs.Tail.{lent}
 use borrow.Author.Needs.{needs}
 use Rattle.statements.proofs.sections.put_row.Statement.{statement}
 use Rattle.statements.proofs.sections.put_row.Tie as tie
-
-counted-requires : tie.Need-counted-requires
-counted-requires c κs = search needs
-
-returns : tie.Need-returns
-returns c = beyond _ _ (c .counted .ensures _ _ (stretch-many _ _ _ (c .before .before .before .before .pre .0 .1) _)) (c .before .if1 .taken)
 
 rest-at-requires : tie.Need-rest-at-requires
 rest-at-requires c κs = search needs
@@ -31,15 +24,13 @@ past-requires c κs = search needs
 same-length : tie.Need-same-length
 same-length c = search needs
 
-returns-2 : tie.Need-returns-2
-returns-2 c = lent (c .before .before .before .before .before .rest-at .ensures) (c .before .before .before .write-row .ensures) (c .past .ensures) (c .before .before .before .before .before .before .before .before .before .pre .0 .0)
+returns : tie.Need-returns
+returns c = lent (c .before .before .before .before .before .rest-at .ensures) (c .before .before .before .write-row .ensures) (c .past .ensures) (c .before .before .before .before .before .before .before .before .pre .0 .0)
 
 pub put-row-spec : {M : Type 1} → statement M
 put-row-spec =
     tie.close
     (tie.spec
-    counted-requires
-    returns
     rest-at-requires
     sub-write-row
     part-write-row-start
@@ -47,4 +38,4 @@ put-row-spec =
     write-row-requires
     past-requires
     same-length
-    returns-2)
+    returns)

@@ -14,7 +14,7 @@ past-requires : tie.Need-past-requires
 past-requires c κs = search needs
 
 returns : tie.Need-returns
-returns c = λ letter x q. let n = statement-long letter x in omega (arith, c .past .ensures)
+returns c = (λ letter x q. let n = statement-long letter x in omega (arith, c .past .ensures), search needs)
 
 pub counted-spec : {M : Type 1} → statement M
 counted-spec = tie.close (tie.spec mul-past add-past past-requires returns)

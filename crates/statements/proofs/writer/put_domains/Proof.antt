@@ -10,7 +10,7 @@ same-length : tie.Need-same-length
 same-length c = search needs
 
 returns : tie.Need-returns
-returns c = rw (← (domains-are (c .before .before .before .before .before .before .before .pre .1) _ _ _)) (c .before .before .put-rows .ensures)
+returns c = rw (← (domains-are (c .before .before .before .before .before .before .pre .1) _ _ _)) (c .before .before .put-rows .ensures)
 
 pub put-domains-spec : {M : Type 1} → statement M
 put-domains-spec = tie.close (tie.spec put-rows-requires same-length returns)
