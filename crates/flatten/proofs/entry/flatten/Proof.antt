@@ -1,7 +1,8 @@
+use Prim.Native.Nat.{_*_}
 use mathlib.Core.Path.{refl, sym}
 use Rattle.flatten.proofs.Writing.{untyped, unread, readable, flatten-read, all-said}
 use Rattle.flatten.proofs.Grounds.{structures-within}
-use Rattle.definition.specs.Limits.{variableLimit}
+use Rattle.definition.specs.Limits.{fieldLimit, variableLimit}
 use borrow.Author.Needs.{needs}
 use native.Mathlib.Omega.{arith}
 use Rattle.flatten.proofs.entry.flatten.Statement.{statement}
@@ -30,7 +31,7 @@ slice-aggregate-flatten-rule c = search needs
 flatten-rule-requires : tie.Need-flatten-rule-requires
 flatten-rule-requires c κs =
     let r = c .before .before .before .before .before .before in let w = r .before .before .read-rule-into .ensures in let h = c .before .before .before .before .if1 .taken in
-    (untyped 256 (omega arith), readable _ _ _ _ _ (w .0) (w .1) (r .r .given .1))
+    (untyped (fieldLimit * 4) (omega arith), readable _ _ _ _ _ (w .0) (w .1) (r .r .given .1))
 
 same-length : tie.Need-same-length
 same-length c = search needs
