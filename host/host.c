@@ -242,7 +242,7 @@ static void flatten_chain(void)
 }
 
 /*
- * At most 28 KB of stack: the tables, each once. A copy of the variables (4 KB), which the code by value leaves to the compiler to
+ * At most 24 KB of stack: the tables, each once. A copy of the variables (4 KB), which the code by value leaves to the compiler to
  * spare, would show here. Called once before, so that nothing is linked meanwhile.
  */
 static bool shallow(void)
@@ -252,7 +252,7 @@ static bool shallow(void)
     const size_t used = stack_used(flatten_chain);
     printf("host: flatten of 32 structures in a chain: refused %u, %zu bytes written, %zu bytes of stack\n",
            (unsigned)last.refused, last.written, used);
-    return last.refused == 0 && last.written != 0 && used != 0 && used <= 28 * 1024;
+    return last.refused == 0 && last.written != 0 && used != 0 && used <= 24 * 1024;
 }
 #endif
 

@@ -3,7 +3,7 @@
 use std::time::Instant;
 
 use crate::library::{self, FlattenAnswer};
-use crate::records;
+use crate::records::{self, Style, PLAIN};
 
 /// Nanoseconds per byte of a call: the least of many short rounds, so that other work on the machine shows little.
 fn time(bytes: usize, mut call: impl FnMut()) -> f64 {
@@ -84,13 +84,31 @@ fn of_flatten(signature: &[u8], title: &str, rule: &[u8]) -> Result<String, Stri
 pub fn report() -> Result<String, String> {
     let signature = records::signature();
     let mut report = of_rules(&signature) + &of_groups(&signature)?;
+    let named = Style {
+        named: true,
+        ..PLAIN
+    };
+    let sparse = Style { stride: 7, ..PLAIN };
     for (title, rule) in [
-        ("2 structures, 4 elements", records::grown(2, 4)),
-        ("8 structures, 12 elements", records::grown(8, 12)),
-        ("32 structures, 33 elements", records::grown(32, 33)),
+        ("2 structures, 4 elements", records::grown(2, 4, PLAIN)),
+        ("8 structures, 12 elements", records::grown(8, 12, PLAIN)),
+        ("32 structures, 33 elements", records::grown(32, 33, PLAIN)),
         ("12 elements sent to one", records::merged(12, 1)),
         ("38 elements sent to one", records::merged(38, 1)),
         ("64 elements sent to one thrice", records::merged(64, 3)),
+        (
+            "2 structures, 4 elements with names",
+            records::grown(2, 4, named),
+        ),
+        (
+            "2 structures, 4 elements with sparse numbers",
+            records::grown(2, 4, sparse),
+        ),
+        (
+            "8 structures, 12 elements with names",
+            records::grown(8, 12, named),
+        ),
+        ("2 structures, from 4 elements to 3", records::shrunk(2, 4)),
         (
             "8 structures, from 12 elements to 5",
             records::shrunk(8, 12),

@@ -24,9 +24,9 @@ fn numbers(numbers: &[u16]) -> Vec<u8> {
 }
 
 /// A structure of so many elements, and rows of the predicate.
-fn related(elements: u16, rows: impl Iterator<Item = (u16, u16)>) -> Vec<u8> {
-    let elements = (0..elements).map(|e| field(b'E', &numbers(&[e, 0])));
-    let rows = rows.map(|(a, b)| field(b'R', &numbers(&[0, a, b])));
+fn related(elements: u16, style: Style, rows: impl Iterator<Item = (u16, u16)>) -> Vec<u8> {
+    let elements = (0..elements).map(|e| field(b'E', &numbers(&[style.number(e), 0])));
+    let rows = rows.map(|(a, b)| field(b'R', &numbers(&[0, style.number(a), style.number(b)])));
     std::iter::once(field(b'S', &[]))
         .chain(elements)
         .chain(rows)
@@ -36,7 +36,7 @@ fn related(elements: u16, rows: impl Iterator<Item = (u16, u16)>) -> Vec<u8> {
 
 /// 64 elements and 64 rows: 1,027 bytes.
 fn structure() -> Vec<u8> {
-    related(64, (0..64).map(|e| (e, 63 - e)))
+    related(64, PLAIN, (0..64).map(|e| (e, 63 - e)))
 }
 
 /// A rule of so many such structures and no map.
@@ -90,19 +90,47 @@ fn walked(structures: impl Iterator<Item = Vec<u8>>, maps: &[Walked]) -> Vec<u8>
         .collect()
 }
 
+/// How the elements of a structure are told: how far apart their numbers are, and whether each has a V name.
+#[derive(Clone, Copy)]
+pub struct Style {
+    pub stride: u16,
+    pub named: bool,
+}
+
+/// Numbers without a gap, and no names.
+pub const PLAIN: Style = Style {
+    stride: 1,
+    named: false,
+};
+
+impl Style {
+    fn number(self, element: u16) -> u16 {
+        self.stride * element
+    }
+
+    fn names(self, elements: u16) -> Vec<u8> {
+        let named = if self.named { elements } else { 0 };
+        let name = |e: u16| [b'a' + (e / 26) as u8, b'a' + (e % 26) as u8];
+        (0..named)
+            .flat_map(|e| field(b'V', &[&numbers(&[self.number(e)]), &name(e)[..]].concat()))
+            .collect()
+    }
+}
+
 /// Structures of so many elements, one after another by identities, SurjThen and If in turn. Each element but the last has a row
 /// with itself; the last has one for each structure before its own.
-pub fn grown(structures: u16, elements: u16) -> Vec<u8> {
+pub fn grown(structures: u16, elements: u16, style: Style) -> Vec<u8> {
     let last = elements - 1;
     let at = |k| {
         let own = (0..last).map(|e| (e, e));
-        related(elements, own.chain((0..k).map(|e| (last, e))))
+        let rows = own.chain((0..k).map(|e| (last, e)));
+        [related(elements, style, rows), style.names(elements)].concat()
     };
     let maps: Vec<Walked> = (1..structures)
         .map(|k| Walked {
             source: k - 1,
             target: k,
-            pairs: (0..elements).flat_map(|e| [e, e]).collect(),
+            pairs: (0..elements).flat_map(|e| [style.number(e); 2]).collect(),
             kind: u8::from(k % 2 == 1),
         })
         .collect();
@@ -120,7 +148,10 @@ pub fn merged(elements: u16, targets: u16) -> Vec<u8> {
         })
         .collect();
     let sizes = std::iter::once(elements).chain(maps.iter().map(|_| 1));
-    walked(sizes.map(|size| related(size, std::iter::empty())), &maps)
+    walked(
+        sizes.map(|size| related(size, PLAIN, std::iter::empty())),
+        &maps,
+    )
 }
 
 /// Structures one after another, SurjThen and If in turn, each with an element fewer than the one before, whose last two are sent to its
@@ -137,6 +168,6 @@ pub fn shrunk(structures: u16, elements: u16) -> Vec<u8> {
             }
         })
         .collect();
-    let structure = |k| related(elements - k, std::iter::empty());
+    let structure = |k| related(elements - k, PLAIN, std::iter::empty());
     walked((0..structures).map(structure), &maps)
 }

@@ -28,7 +28,7 @@ use Rattle.flags.specs.Flags.{flagAt}
 use Rattle.statements.specs.Said.{flaggedFrom}
 use Rattle.statements.specs.Structures.{Stands}
 use Rattle.statements.specs.Parts.{variableBy, NamedIn, placeR, placeA, rowsAt, partStatement, chosenStatements, Chooses}
-use Rattle.statements.specs.declared.sections.Chosen.{Chosen}
+use Rattle.statements.specs.declared.masks.Chosen.{Chosen}
 use Rattle.statements.proofs.Variables.{stretch-many}
 use Rattle.statements.proofs.Elements.{statements-cons, flagged-on, flagged-pass}
 

@@ -12,7 +12,7 @@ use Rattle.records.proofs.Tail.{nothing}
 use Rattle.flags.proofs.Bits.{no-flag}
 use Rattle.statements.specs.Said.{flaggedFrom, flagged, memberFlag}
 use Rattle.statements.specs.Parts.{chosenStatements, membersSaid, typesSaid}
-use Rattle.statements.specs.declared.sections.Chosen.{Chosen}
+use Rattle.statements.specs.declared.masks.Chosen.{Chosen}
 use Rattle.statements.proofs.Elements.{statements-none}
 
 -- No statements: no bytes.

@@ -18,7 +18,7 @@ use Rattle.naming.specs.Structures.{structureIn}
 use Rattle.naming.specs.Variables.{variablesIn}
 use Rattle.statements.specs.Said.{flagged, memberFlag}
 use Rattle.statements.specs.declared.statement.Statement as put
-use Rattle.statements.specs.declared.sections.Chosen.{Chosen}
+use Rattle.statements.specs.declared.masks.Chosen.{Chosen}
 
 -- A statement that was put together, as the definition's.
 abbrev pub statementOf : put.Statement → Statement

@@ -11,8 +11,9 @@ ghost use Rattle.records.specs.Places.{stretch};
 ghost use Rattle.records.specs.Buffer.{Put, countLimit};
 ghost use Rattle.naming.specs.Structures.{structureIn, Laid};
 ghost use Rattle.statements.specs.Structures.{Stands};
-ghost use Rattle.statements.specs.Parts.{variableBy, NamedIn, rowSaid, chosenStatements, Chooses, predsBy, funcsBy};
+ghost use Rattle.statements.specs.Parts.{variableBy, NamedIn, rowSaid, chosenStatements, Chooses};
 use crate::lengths::rows_length;
+use crate::masks::Chosen;
 use crate::statement::put_statement_head;
 use flags::flag;
 use records::fields::Field;
@@ -26,47 +27,9 @@ use rule::elements::find_element;
 use rule::ids::ElId;
 use rule::ids::FIELDS;
 use rule::ids::LETTERS;
-use rule::ids::PLACE_A;
-use rule::ids::PLACE_R;
 use rule::ids::RULE_INDEX;
 use rule::reader::bound;
 use signature::ids::COLUMNS;
-use signature::ids::FUNCTION;
-use signature::ids::PREDICATE;
-
-// Which rows of a structure are meant: the place of their letter, and a flag for each. And what statements they become: the kind, and
-// how many of a row's last elements are left out, so that a function's row is also its domain.
-pub struct Chosen {
-    pub place: usize,
-    pub mask: u64,
-    pub kind: u8,
-    pub omitted: usize,
-}
-
-// The flagged R rows, and the flagged A rows, each taken whole.
-pub fn flagged_preds(mask: u64) -> Chosen
-    ensures { λ r. ⌜ r ≡ predsBy mask ⌝ }
-    ensures { λ r. ⌜ Chooses r ⌝ }
-{
-    Chosen {
-        place: PLACE_R,
-        mask,
-        kind: PREDICATE,
-        omitted: 0,
-    }
-}
-
-pub fn flagged_funcs(mask: u64) -> Chosen
-    ensures { λ r. ⌜ r ≡ funcsBy mask ⌝ }
-    ensures { λ r. ⌜ Chooses r ⌝ }
-{
-    Chosen {
-        place: PLACE_A,
-        mask,
-        kind: FUNCTION,
-        omitted: 0,
-    }
-}
 
 // The variables of the elements that stand in a stretch; `row` has those of the structure's elements, by their places.
 pub fn vars_of(
