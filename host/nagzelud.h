@@ -7,7 +7,7 @@
  * What every function promises: it ends, it reads only the bytes it is given and writes none but those of the buffer that
  * nagzelud_flatten is lent, it allocates nothing and keeps nothing, and its answer depends on its arguments alone. So any number of
  * threads may call it at once, each with a buffer of its own. (Measured, not proved: a call takes less than 6 KB of stack,
- * nagzelud_flatten less than 32 KB.)
+ * nagzelud_flatten less than 24 KB.)
  *
  * What every function asks: each pointer is to as many readable bytes as the length behind it says, is not null (also where that
  * length is 0), and nobody changes the bytes during the call. No length may be above PTRDIFF_MAX. Nothing is asked of the bytes:
