@@ -14,7 +14,7 @@ use Rattle.definition.specs.Limits.{answerBytes, numberDigits}
 use Rattle.definition.specs.Names.{decimal}
 use Rattle.records.specs.Buffer.{Put}
 use Rattle.records.specs.Places.{twoAt}
-use Rattle.theory.proofs.NameLaws.{digits-few}
+use Rattle.laws.proofs.NameLaws.{digits-few}
 
 -- Missing input: not even the length, or less than it tells of.
 pub short : (s : List ℕ) → length s < 2 → deskOf s ≡ printed (refused 2)

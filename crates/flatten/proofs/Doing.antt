@@ -8,7 +8,7 @@ use mathlib.Core.Option.{some}
 use Rattle.definition.specs.Rule.{MorphismKind, If, SurjThen, NonSurjThen, Noop}
 use Rattle.definition.specs.Group.{Variable, Statement}
 use Rattle.definition.specs.Signature.{Signature}
-use Rattle.theory.proofs.StepForm.{own, conclusions}
+use Rattle.laws.proofs.StepForm.{own, conclusions}
 use Rattle.rows.specs.declared.maps.Map.{Map}
 use Rattle.kinds.specs.Table.{kindIn}
 use Rattle.steps.specs.Steps.{IfDoes, SurjDoes, NonSurjDoes}

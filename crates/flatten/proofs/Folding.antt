@@ -9,7 +9,7 @@ use Rattle.definition.specs.Base.{refused, accepted, onAccepted, joined, span}
 use Rattle.definition.specs.Rule.{Kind, MorphismKind}
 use Rattle.definition.specs.Signature.{Signature}
 use Rattle.definition.specs.Walk.{State, groupName, namedRules, walkFrom, walkedKinds}
-use Rattle.theory.proofs.KindTable.{kindsOf, Once, walked-table}
+use Rattle.laws.proofs.KindTable.{kindsOf, Once, walked-table}
 use Rattle.rule.specs.Lookup.{ruleAt}
 use Rattle.flatten.specs.Tables.{Tables, unreached, sourceAt, kindOn, pairsOn}
 use Rattle.flatten.specs.Walks.{Walking}

@@ -14,7 +14,7 @@ use Rattle.definition.specs.Group.{Variable}
 use Rattle.definition.specs.Signature.{Signature}
 use Rattle.definition.specs.Names.{numbered}
 use Rattle.definition.specs.Walk.{State, Reached}
-use Rattle.theory.proofs.Numbering.{fresh}
+use Rattle.laws.proofs.Numbering.{fresh}
 use Rattle.rule.specs.Elements.{countAt}
 use Rattle.rule.specs.Lookup.{ruleAt}
 use Rattle.rows.specs.Kernel.{TypesOf, Merged}

@@ -14,8 +14,8 @@ use Rattle.definition.specs.Records.{Field}
 use Rattle.definition.specs.Signature.{Signature}
 use Rattle.definition.specs.Names.{numbersOf}
 use Rattle.definition.specs.Walk.{pairsBetween, unmappedAuxiliary, unmappedKind, structureAt}
-use Rattle.theory.proofs.Lists.{length-each}
-use Rattle.theory.proofs.Sound.{sound-signature}
+use Rattle.laws.proofs.Lists.{length-each}
+use Rattle.laws.proofs.Sound.{sound-signature}
 use Rattle.signature.specs.Index.{signatureAt}
 use Rattle.signature.specs.declared.ids.Counts.{Counts}
 use Rattle.rule.specs.Lookup.{Ready, ruleAt}

@@ -9,7 +9,7 @@ use Rattle.definition.specs.Letters.{letterG}
 use Rattle.definition.specs.Writer.{recordBytes, variableField, groupBytesOf}
 use Rattle.definition.specs.Walk.{groupName}
 use Rattle.definition.specs.Flatten.{groupLeft}
-use Rattle.theory.proofs.ByteForm.{group-bytes}
+use Rattle.laws.proofs.ByteForm.{group-bytes}
 use Rattle.records.specs.Buffer.{Put, headBytes}
 use Rattle.records.proofs.Tail.{then, field-bytes}
 use Rattle.rule.specs.Lookup.{ruleAt}

@@ -13,7 +13,7 @@ use Rattle.definition.specs.Names.{numbered}
 use Rattle.definition.specs.Kinds.{Side, Step, unless}
 use Rattle.definition.specs.Walk as walk
 use Rattle.definition.specs.Walk.{Reached, State, sideOf, structureAt, reach, walkMap}
-use Rattle.theory.proofs.StepForm.{stepFault, own, conclusions, stepWith, step-form}
+use Rattle.laws.proofs.StepForm.{stepFault, own, conclusions, stepWith, step-form}
 use Rattle.rule.specs.Lookup.{ruleAt}
 use Rattle.rows.specs.Maps.{pairsIn}
 use Rattle.rows.specs.declared.maps.Map.{Map}

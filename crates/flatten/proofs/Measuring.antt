@@ -12,7 +12,7 @@ use Rattle.definition.specs.Limits.{structureLimit}
 use Rattle.definition.specs.Names.{decimal}
 use Rattle.definition.specs.Walk.{groupName}
 use Rattle.definition.specs.Writer.{recordBytes, flatRuleFields}
-use Rattle.theory.proofs.ByteForm.{statementBytes}
+use Rattle.laws.proofs.ByteForm.{statementBytes}
 use Rattle.records.specs.Buffer.{Put, capped, countLimit, headBytes}
 use Rattle.rule.specs.Lookup.{ruleAt}
 use Rattle.statements.proofs.Counting.{beyond}

@@ -12,9 +12,9 @@ use Rattle.definition.specs.Base.{each, joined}
 use Rattle.definition.specs.Limits.{structureLimit, fieldLimit, variableLimit}
 use Rattle.definition.specs.Rule.{Structure}
 use Rattle.definition.specs.Writer.{recordBytes, variableField}
-use Rattle.theory.proofs.Lists.{each-append, length-each}
-use Rattle.theory.proofs.Numbering.{fresh, fresh-few, new-length}
-use Rattle.theory.proofs.ByteForm.{record-append}
+use Rattle.laws.proofs.Lists.{each-append, length-each}
+use Rattle.laws.proofs.Numbering.{fresh, fresh-few, new-length}
+use Rattle.laws.proofs.ByteForm.{record-append}
 use Rattle.records.specs.Buffer.{Put, countLimit}
 use Rattle.records.proofs.Tail.{nothing, then}
 use Rattle.rule.specs.Elements.{countAt}

@@ -19,7 +19,7 @@ use Rattle.definition.specs.Signature.{Signature}
 use Rattle.definition.specs.Kinds.{Side, equalities}
 use Rattle.definition.specs.Walk.{Reached, pairsBetween, found, completed}
 use Rattle.definition.specs.Writer.{recordBytes}
-use Rattle.theory.proofs.ByteForm.{statementBytes, statements-append}
+use Rattle.laws.proofs.ByteForm.{statementBytes, statements-append}
 use Rattle.records.specs.Buffer.{Put, countLimit}
 use Rattle.records.proofs.Tail.{nothing, then}
 use Rattle.definition.specs.Rows.{kernelPairs}

@@ -16,7 +16,7 @@ use Rattle.definition.specs.Rule.{Structure}
 use Rattle.definition.specs.Group.{Variable}
 use Rattle.definition.specs.Signature.{Signature}
 use Rattle.definition.specs.Walk.{Reached, State}
-use Rattle.theory.proofs.StepForm.{emitted}
+use Rattle.laws.proofs.StepForm.{emitted}
 use Rattle.rule.specs.Lookup.{ruleAt}
 use Rattle.naming.specs.Structures.{structureIn}
 use Rattle.naming.specs.Variables.{GivenOut, newIn}

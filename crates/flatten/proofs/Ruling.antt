@@ -18,9 +18,9 @@ use Rattle.definition.specs.Kinds.{Emitted}
 use Rattle.definition.specs.Names.{decimal}
 use Rattle.definition.specs.Walk.{groupName, namedRules}
 use Rattle.definition.specs.Writer.{recordBytes, flatRuleFields}
-use Rattle.theory.proofs.Lists.{joined-append}
-use Rattle.theory.proofs.StepForm.{emitted}
-use Rattle.theory.proofs.ByteForm.{statementBytes, rule-bytes, named-append}
+use Rattle.laws.proofs.Lists.{joined-append}
+use Rattle.laws.proofs.StepForm.{emitted}
+use Rattle.laws.proofs.ByteForm.{statementBytes, rule-bytes, named-append}
 use Rattle.records.specs.Buffer.{Put, countLimit, headBytes}
 use Rattle.records.proofs.Tail.{nothing, then, field-bytes}
 use Rattle.rule.specs.Lookup.{ruleAt}

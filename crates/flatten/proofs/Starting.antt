@@ -18,9 +18,9 @@ use Rattle.definition.specs.Names.{numbersOf, numbered, newVariables}
 use Rattle.definition.specs.Rows.{members, rowsOf, lastElement}
 use Rattle.definition.specs.Kinds.{typeIn, initialStatements}
 use Rattle.definition.specs.Walk.{Reached, State, sideOf, reach, nothingTaken, initialState, namedRules, groupName}
-use Rattle.theory.proofs.Lists.{all-mem, each-mem, length-each, getD-each}
-use Rattle.theory.proofs.Numbering.{fresh, new-length, place-in}
-use Rattle.theory.proofs.RowLaws.{members-mem}
+use Rattle.laws.proofs.Lists.{all-mem, each-mem, length-each, getD-each}
+use Rattle.laws.proofs.Numbering.{fresh, new-length, place-in}
+use Rattle.laws.proofs.RowLaws.{members-mem}
 use Rattle.rule.specs.Lookup.{ruleAt}
 use Rattle.rows.specs.Kernel.{TypesOf}
 use Rattle.rows.proofs.Kept.{member-last}

@@ -15,7 +15,7 @@ use Rattle.definition.specs.Writer.{groupBytesOf}
 use Rattle.definition.specs.Rule.{Rule, readRule, ruleOf, rulePart}
 use Rattle.definition.specs.Signature.{Signature, readSignature}
 use Rattle.definition.specs.Walk.{State, walkOf, unmappedAuxiliary, unmappedKind, completed}
-use Rattle.theory.proofs.Theorems.{demand-3}
+use Rattle.theorems.proofs.Theorems.{demand-3}
 use Rattle.records.specs.Buffer.{Put}
 use Rattle.signature.specs.Index.{signatureAt}
 use Rattle.signature.specs.declared.ids.Counts.{Counts}

@@ -11,7 +11,7 @@ use Rattle.definition.specs.Rule.{MorphismKind}
 use Rattle.definition.specs.Group.{Variable}
 use Rattle.definition.specs.Signature.{Signature}
 use Rattle.definition.specs.Walk.{State, groupName, namedRules, pairsBetween, found, completed}
-use Rattle.theory.proofs.KindTable.{Once}
+use Rattle.laws.proofs.KindTable.{Once}
 use Rattle.rule.specs.Lookup.{Ready, ruleAt}
 use Rattle.rows.specs.Kernel.{TypesOf}
 use Rattle.naming.specs.Structures.{structureIn, Laid, Headed}

@@ -7,7 +7,7 @@ use Rattle.definition.specs.Base.{joined, span}
 use Rattle.definition.specs.Rule.{Kind}
 use Rattle.definition.specs.Signature.{Signature}
 use Rattle.definition.specs.Walk.{State, walkFrom, initialState, walkedKinds}
-use Rattle.theory.proofs.KindTable.{kindsOf}
+use Rattle.laws.proofs.KindTable.{kindsOf}
 use Rattle.rule.specs.Lookup.{ruleAt}
 use Rattle.flatten.specs.Tables.{Tables, kindOn}
 use Rattle.flatten.specs.Walks.{Walking}

@@ -13,8 +13,8 @@ use Rattle.definition.specs.Signature.{Signature}
 use Rattle.definition.specs.Names.{numbersOf, decimal}
 use Rattle.definition.specs.Kinds.{Emitted, equalities}
 use Rattle.definition.specs.Walk.{Reached, groupName, pairsBetween, completed}
-use Rattle.theory.proofs.KindTable.{kindAt}
-use Rattle.theory.proofs.StepForm.{emitted}
+use Rattle.laws.proofs.KindTable.{kindAt}
+use Rattle.laws.proofs.StepForm.{emitted}
 use Rattle.rule.specs.Lookup.{ruleAt}
 use Rattle.naming.specs.Structures.{structureIn}
 use Rattle.naming.specs.Variables.{noVar, variablesIn, newIn}

@@ -13,7 +13,7 @@ use Rattle.definition.specs.Group.{Variable, Statement}
 use Rattle.definition.specs.Signature.{Signature}
 use Rattle.definition.specs.Kinds.{equalities}
 use Rattle.definition.specs.Walk.{State, walkFrom, initialState, walkedKinds}
-use Rattle.theory.proofs.StepForm.{stepFault, own, conclusions}
+use Rattle.laws.proofs.StepForm.{stepFault, own, conclusions}
 use Rattle.rule.specs.Lookup.{ruleAt}
 use Rattle.rows.specs.Maps.{pairsIn}
 use Rattle.rows.specs.declared.maps.Map.{Map}

@@ -7,7 +7,7 @@ ghost use Rattle.definition.specs.Base.{joined};
 ghost use Rattle.definition.specs.Group as definition;
 ghost use Rattle.definition.specs.Letters.{letterB};
 ghost use Rattle.definition.specs.Writer.{recordBytes, flatRuleFields};
-ghost use Rattle.theory.proofs.ByteForm.{statementBytes};
+ghost use Rattle.laws.proofs.ByteForm.{statementBytes};
 ghost use Rattle.records.specs.Buffer.{Put, countLimit};
 ghost use Rattle.rule.specs.Lookup.{ruleAt};
 ghost use Rattle.flatten.specs.Tables.{tables, ownAt, concludedAt, emittedRule, statementsAt};

@@ -7,7 +7,7 @@ ghost use lib.ListN.{getD};
 ghost use Rattle.definition.specs.Letters.{letterB};
 ghost use Rattle.definition.specs.Walk.{pairsBetween, found};
 ghost use Rattle.definition.specs.Limits.{structureLimit};
-ghost use Rattle.theory.proofs.ByteForm.{statementBytes};
+ghost use Rattle.laws.proofs.ByteForm.{statementBytes};
 ghost use Rattle.records.specs.Buffer.{Put, countLimit};
 ghost use Rattle.rule.specs.Lookup.{ruleAt};
 ghost use Rattle.flatten.specs.Tables.{tables, equalitiesAt, saidAt, ownAt, statementsAt};

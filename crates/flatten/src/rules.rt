@@ -8,7 +8,7 @@ ghost use Rattle.definition.specs.Group as definition;
 ghost use Rattle.definition.specs.Letters.{letterH};
 ghost use Rattle.definition.specs.Writer.{recordBytes, flatRuleFields};
 ghost use Rattle.definition.specs.Limits.{structureLimit};
-ghost use Rattle.theory.proofs.ByteForm.{statementBytes};
+ghost use Rattle.laws.proofs.ByteForm.{statementBytes};
 ghost use Rattle.records.specs.Buffer.{Put, countLimit};
 ghost use Rattle.rule.specs.Lookup.{ruleAt};
 ghost use Rattle.flatten.specs.Tables.{tables, concludedAt, emittedRule};

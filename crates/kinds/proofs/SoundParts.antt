@@ -14,11 +14,11 @@ use Rattle.definition.specs.Limits.{structureLimit}
 use Rattle.definition.specs.Records.{Field}
 use Rattle.definition.specs.Rule.{Map, Pair, Kind, Auxiliary, mapOf, kindOf, auxiliaryOf, namedIn, rulePart, ruleOf}
 use Rattle.definition.specs.Walk.{sourceInto, incomingSource, mapOfPair, pairsBetween}
-use Rattle.theory.proofs.KindTable.{Once, ascending-once}
-use Rattle.theory.proofs.Lists.{and-left, and-right, mem-each, first-mem, picked}
-use Rattle.theory.proofs.Sound.{among-mem, SoundMap}
-use Rattle.theory.proofs.SoundOrder.{ordered}
-use Rattle.theory.proofs.SoundRule.{map-passed, kind-passed, auxiliary-passed, named-at, named-length, rule-parts}
+use Rattle.laws.proofs.KindTable.{Once, ascending-once}
+use Rattle.laws.proofs.Lists.{and-left, and-right, mem-each, first-mem, picked}
+use Rattle.laws.proofs.Sound.{among-mem, SoundMap}
+use Rattle.laws.proofs.SoundOrder.{ordered}
+use Rattle.laws.proofs.SoundRule.{map-passed, kind-passed, auxiliary-passed, named-at, named-length, rule-parts}
 use Rattle.rule.specs.Lookup.{Ready, ruleAt}
 use Rattle.rule.proofs.Saying.{structures-are}
 

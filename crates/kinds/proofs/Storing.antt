@@ -11,7 +11,7 @@ use Rattle.definition.specs.Walk.{incomingSource, auxiliaryKind, addPair, compl
 use Rattle.records.specs.Places.{fieldAt, fieldOf}
 use Rattle.records.specs.declared.fields.Field.the-variants.{Got}
 use Rattle.rule.specs.Lookup.{Ready, ruleAt}
-use Rattle.theory.proofs.KindTable.{kindAt, kindOfPair, added-at}
+use Rattle.laws.proofs.KindTable.{kindAt, kindOfPair, added-at}
 use Rattle.kinds.specs.Table.{kindIn, Tabled, Adds}
 use Rattle.kinds.proofs.Scanning.{Values, values-end, values-next}
 use Rattle.kinds.proofs.SoundParts.{sound-kind, sound-auxiliary, structures-few}

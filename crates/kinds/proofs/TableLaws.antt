@@ -14,8 +14,8 @@ use Rattle.definition.specs.Base.{pick, orElse, firstOf}
 use Rattle.definition.specs.Limits.{structureLimit}
 use Rattle.definition.specs.Rule.{Kind, MorphismKind, If, SurjThen, NonSurjThen, Noop}
 use Rattle.definition.specs.Walk.{ofPair, addPair}
-use Rattle.theory.proofs.KindTable.{kindAt, added-at}
-use Rattle.theory.proofs.Lists.{and-left, and-right}
+use Rattle.laws.proofs.KindTable.{kindAt, added-at}
+use Rattle.laws.proofs.Lists.{and-left, and-right}
 use Rattle.kinds.specs.Table.{kindIn, entryAt, Tabled}
 
 -- A number below 4 is that of a kind, another is not.

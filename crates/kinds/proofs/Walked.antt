@@ -14,8 +14,8 @@ use Rattle.definition.specs.Limits.{structureLimit}
 use Rattle.definition.specs.Rows.{given}
 use Rattle.definition.specs.Rule.{Map, Pair, Kind, MorphismKind, Auxiliary, Rule}
 use Rattle.definition.specs.Walk.{sourceInto, incomingSource, mapOfPair, pairsBetween, found, unmappedAuxiliary, unmappedKind, ofPair, addPair, completed, walkedKinds}
-use Rattle.theory.proofs.KindTable.{kindAt, kindOfPair, kindsOf, walked-table}
-use Rattle.theory.proofs.Lists.{and-left, and-right, not-false, any-false, first-mem, picked}
+use Rattle.laws.proofs.KindTable.{kindAt, kindOfPair, kindsOf, walked-table}
+use Rattle.laws.proofs.Lists.{and-left, and-right, not-false, any-false, first-mem, picked}
 use Rattle.rule.specs.Lookup.{Ready, ruleAt}
 use Rattle.kinds.specs.Table.{kindIn, entryAt, Tabled}
 use Rattle.kinds.proofs.SourceLaws.{noSource, noMap}

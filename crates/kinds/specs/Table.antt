@@ -7,7 +7,7 @@ use lib.ListN.{length, getD}
 use Rattle.definition.specs.Limits.{structureLimit}
 use Rattle.definition.specs.Rule.{Kind, MorphismKind, If, SurjThen, NonSurjThen, Noop}
 use Rattle.definition.specs.Walk.{addPair}
-use Rattle.theory.proofs.KindTable.{kindAt}
+use Rattle.laws.proofs.KindTable.{kindAt}
 
 -- The kind of a number: 0 to 3 as in a K field; another says that there is none.
 unfoldable pub kindIn : ℕ → Option MorphismKind

@@ -15,7 +15,7 @@ use Rattle.records.specs.Places.{twoAt, stretch}
 use Rattle.records.specs.Buffer.{Put, capped, countLimit, headBytes}
 use Rattle.records.proofs.Numbers.{length-stretch}
 use Rattle.records.proofs.Tail.{Writing, begin, wrote, passed, finish, counted}
-use Rattle.theory.proofs.NameLaws.{digits-few}
+use Rattle.laws.proofs.NameLaws.{digits-few}
 use Rattle.rule.specs.Elements.{countAt}
 use Rattle.rows.specs.Elements.{elementIn}
 use Rattle.rule.specs.Lookup.{ruleAt}

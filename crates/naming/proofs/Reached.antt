@@ -13,8 +13,8 @@ use Rattle.definition.specs.Kinds.{typeIn}
 use Rattle.definition.specs.Names.{numbersOf, variableAt, carried, numbered, newVariables}
 use Rattle.definition.specs.Rows.{given, inImage}
 use Rattle.definition.specs.Rule.{Structure}
-use Rattle.theory.proofs.Lists.{trichotomy}
-use Rattle.theory.proofs.Numbering.{fresh, new-length}
+use Rattle.laws.proofs.Lists.{trichotomy}
+use Rattle.laws.proofs.Numbering.{fresh, new-length}
 use Rattle.rows.specs.Kernel.{TypesOf}
 use Rattle.rows.specs.Maps.{pairsIn}
 use Rattle.rows.specs.declared.maps.Map.{Map}

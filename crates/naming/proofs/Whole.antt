@@ -10,7 +10,7 @@ use borrow.Author.Tests.{ne-eqb, lt-ltb, le-ltb}
 use Rattle.definition.specs.Base.{each, _∈_}
 use Rattle.definition.specs.Limits.{fieldLimit}
 use Rattle.definition.specs.Names.{numbered}
-use Rattle.theory.proofs.Lists.{length-each}
+use Rattle.laws.proofs.Lists.{length-each}
 use Rattle.naming.specs.Variables.{noVar, entryOf, rowOf, takenBy, takenIn, keptBy, keptIn}
 
 -- What elements take over is below a number.

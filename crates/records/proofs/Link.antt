@@ -12,7 +12,7 @@ use lib.Seq.{drop-cons, drop-drop}
 use borrow.Author.Tests.{ltb-false, ltb-true, le-leb, lt-leb}
 use Rattle.definition.specs.Base.{pick}
 use Rattle.definition.specs.Records.{end, bad, _▸_, cut, fieldsOf}
-use Rattle.theory.proofs.Numbers.{cut-same}
+use Rattle.laws.proofs.Numbers.{cut-same}
 use Rattle.records.specs.Places.{twoAt, stretch, fieldAt, fieldsAt, fieldOf}
 use Rattle.records.specs.declared.fields.Field as read
 use Rattle.records.specs.declared.fields.Field.the-variants.{Got, Bad}

@@ -15,9 +15,9 @@ use Rattle.definition.specs.Records.{Field, numbers, numberAt, odd, notNumbers,
 use Rattle.definition.specs.Rule.{elementOf, rowOf, pairsOf, mapOf, structureOf, keysAscend, elementFault, rowFault, bodyFault, namedElements, rulePart}
 use Rattle.definition.specs.Rows.{memberRow}
 use Rattle.definition.specs.Signature.{Signature, Symbol, noSymbol, symbolOf, columnsOf, parentCount, columnCount, predOf, funcOf, typeParents, typeFault, symbolFault, signatureFault, signatureOf, signaturePart, readSignature}
-use Rattle.theory.proofs.Lists.{or-left, or-right, or-else-none, not-false, lowest-none, mem-keep, mem-each, length-each, getD-each}
-use Rattle.theory.proofs.Sound.{read-part, read-within, among-mem, among-few}
-use Rattle.theory.proofs.SoundRule.{body-parts, structure-bodies, rule-parts}
+use Rattle.laws.proofs.Lists.{or-left, or-right, or-else-none, not-false, lowest-none, mem-keep, mem-each, length-each, getD-each}
+use Rattle.laws.proofs.Sound.{read-part, read-within, among-mem, among-few}
+use Rattle.laws.proofs.SoundRule.{body-parts, structure-bodies, rule-parts}
 use Rattle.records.specs.Places.{stretch, fieldOf, Run}
 use Rattle.records.specs.Held.{fieldIn}
 use Rattle.records.proofs.Index.{length-held, held-get}

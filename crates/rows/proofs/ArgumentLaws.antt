@@ -17,8 +17,8 @@ use Rattle.definition.specs.Records.{Field, numbers}
 use Rattle.definition.specs.Rule.{Structure, Row, rowOf}
 use Rattle.definition.specs.Rows.{arguments, constrained}
 use Rattle.definition.specs.Signature.{Signature}
-use Rattle.theory.proofs.Lists.{never, has-mem, length-each, getD-each, each-append, joined-append, trichotomy}
-use Rattle.theory.proofs.Numbering.{place-in}
+use Rattle.laws.proofs.Lists.{never, has-mem, length-each, getD-each, each-append, joined-append, trichotomy}
+use Rattle.laws.proofs.Numbering.{place-in}
 use Rattle.records.specs.Places.{twoAt, stretch, fieldAt, Run}
 use Rattle.records.specs.declared.fields.Field.the-variants.{Got}
 use Rattle.records.proofs.Numbers.{drop-stretch, drop-numbers}

@@ -10,7 +10,7 @@ use borrow.Author.Tests.{ne-eqb, eqb-true, lt-ltb, le-ltb, ltb-true}
 use Rattle.definition.specs.Base.{consIf, keep, each}
 use Rattle.definition.specs.Names.{fiber}
 use Rattle.definition.specs.Rule.{Pair}
-use Rattle.theory.proofs.Lists.{and-left, and-right}
+use Rattle.laws.proofs.Lists.{and-left, and-right}
 use Rattle.rows.specs.Kernel.{imagesAbove, imagesAscend}
 use Rattle.rows.specs.Maps.{pairsIn, pairAt, MapIn}
 use Rattle.rows.specs.declared.maps.Map.{Map}

@@ -10,7 +10,7 @@ use Rattle.definition.specs.Limits.{fieldLimit, parentLimit}
 use Rattle.definition.specs.Letters.{start}
 use Rattle.definition.specs.Records.{Field, numbers, numberAt}
 use Rattle.definition.specs.Rule.{Element, elementOf}
-use Rattle.theory.proofs.Lists.{length-each, getD-each}
+use Rattle.laws.proofs.Lists.{length-each, getD-each}
 use Rattle.records.specs.Places.{twoAt, stretch}
 use Rattle.records.specs.Held.{fieldIn, heldAt}
 use Rattle.records.proofs.Index.{length-held, held-get}

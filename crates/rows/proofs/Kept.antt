@@ -13,8 +13,8 @@ use Rattle.definition.specs.Records.{Field, numberAt}
 use Rattle.definition.specs.Rule.{Structure, Element, Row, Pair, elementOf}
 use Rattle.definition.specs.Rows.{memberRow, sortRows, members, lastElement, constrained}
 use Rattle.definition.specs.Signature.{Signature}
-use Rattle.theory.proofs.Lists.{mem-each, each-mem, mem-keep, getD-each}
-use Rattle.theory.proofs.RowLaws.{sort-mem}
+use Rattle.laws.proofs.Lists.{mem-each, each-mem, mem-keep, getD-each}
+use Rattle.laws.proofs.RowLaws.{sort-mem}
 use Rattle.rule.specs.Elements.{countAt, elementFields, elementNumbers}
 use Rattle.rows.specs.Elements.{elementIn, elementsIn}
 use Rattle.rows.specs.Members.{hasParents, memberIn, memberRows, newMember, Below}

@@ -17,7 +17,7 @@ use Rattle.definition.specs.Names.{numbersOf, variableAt, fiber}
 use Rattle.definition.specs.Rule.{Structure, Pair}
 use Rattle.definition.specs.Rows.{pairsAmong, kernelPairs}
 use Rattle.definition.specs.Signature.{Signature}
-use Rattle.theory.proofs.Lists.{bool-cases, never, and-left, and-right, and-true, or-cases, any-mem, any-true, getD-each, mem-has, each-append}
+use Rattle.laws.proofs.Lists.{bool-cases, never, and-left, and-right, and-true, or-cases, any-mem, any-true, getD-each, mem-has, each-append}
 use Rattle.rule.specs.Elements.{Finds}
 use Rattle.rule.specs.declared.elements.Found.the-variants.{At, Nothing}
 use Rattle.rows.specs.Kernel.{KeyVars, KeyTypes, Typed, TypesOf, KeysIn, ImagesIn, SideAt, clash}

@@ -12,8 +12,8 @@ use borrow.Author.Tests.{eq-eqb, ne-eqb, ltb-true}
 use Rattle.definition.specs.Base.{firstOf, placeFrom, _∈_}
 use Rattle.definition.specs.Rule.{Pair, keysAscend}
 use Rattle.definition.specs.Rows.{imageOf}
-use Rattle.theory.proofs.Lists.{and-left, and-right, trichotomy}
-use Rattle.theory.proofs.Numbering.{place-in}
+use Rattle.laws.proofs.Lists.{and-left, and-right, trichotomy}
+use Rattle.laws.proofs.Numbering.{place-in}
 use Rattle.records.specs.Places.{twoAt}
 use Rattle.rule.proofs.PairLaws.{pairs-in-length, pair-in}
 use Rattle.rows.specs.Maps.{pairsIn, pairAt, noPair, MapIn}

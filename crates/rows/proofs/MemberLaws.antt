@@ -16,7 +16,7 @@ use Rattle.definition.specs.Limits.{columnLimit}
 use Rattle.definition.specs.Records.{numbers}
 use Rattle.definition.specs.Rule.{Element, Row, Pair}
 use Rattle.definition.specs.Rows.{imageOf, imageRow, sameRow, memberRow}
-use Rattle.theory.proofs.Lists.{each-append, each-mem, keep-mem, any-mem, any-false}
+use Rattle.laws.proofs.Lists.{each-append, each-mem, keep-mem, any-mem, any-false}
 use Rattle.records.specs.Places.{stretch}
 use Rattle.records.proofs.Lists.{keep-append}
 use Rattle.records.proofs.Numbers.{length-stretch}

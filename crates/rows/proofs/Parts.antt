@@ -13,7 +13,7 @@ use lib.Seq.{take-suc, take-suc-set, take-take, take-at, drop-at, take-all, getD
 use borrow.Author.Tests.{eq-eqb, ne-eqb}
 use Rattle.definition.specs.Base.{consIf, keep, each, any, sameList, _∈_}
 use Rattle.definition.specs.Records.{numbers}
-use Rattle.theory.proofs.Lists.{never}
+use Rattle.laws.proofs.Lists.{never}
 use Rattle.records.specs.Places.{twoAt, stretch}
 use Rattle.records.proofs.Link.{one-more}
 use Rattle.records.proofs.Numbers.{drop-stretch, take-stretch, length-numbers-in, numbers-in}

@@ -22,8 +22,8 @@ use Rattle.definition.specs.Rows.{pairsAmong, kernelPairs}
 use Rattle.definition.specs.Rule.{Structure, Pair}
 use Rattle.definition.specs.Signature.{Signature}
 use Rattle.records.proofs.Lists.{keep-append}
-use Rattle.theory.proofs.Lists.{never, has-mem, mem-has, each-append, trichotomy}
-use Rattle.theory.proofs.Numbering.{place-in}
+use Rattle.laws.proofs.Lists.{never, has-mem, mem-has, each-append, trichotomy}
+use Rattle.laws.proofs.Numbering.{place-in}
 use Rattle.rule.specs.Elements.{elementNumbers, Elements, Finds}
 use Rattle.rule.specs.declared.elements.Found.the-variants.{At, Nothing}
 use Rattle.rule.proofs.Finding.{numbers-length}

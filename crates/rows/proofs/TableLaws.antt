@@ -14,7 +14,7 @@ use Rattle.definition.specs.Base.{each, any, sameList}
 use Rattle.definition.specs.Limits.{columnLimit}
 use Rattle.definition.specs.Rule.{Row, Pair}
 use Rattle.definition.specs.Rows.{imageOf, imageRow, sameRow}
-use Rattle.theory.proofs.Lists.{length-each, each-append}
+use Rattle.laws.proofs.Lists.{length-each, each-append}
 use Rattle.records.specs.Places.{stretch}
 use Rattle.records.proofs.Link.{one-more}
 use Rattle.rows.specs.Table as table

@@ -11,7 +11,7 @@ use Rattle.definition.specs.Limits.{fieldLimit, columnLimit}
 use Rattle.definition.specs.Records.{Field, numbers}
 use Rattle.definition.specs.Rule.{Row, Pair, rowOf}
 use Rattle.definition.specs.Rows.{imageRow, sameRow}
-use Rattle.theory.proofs.Lists.{mem-each, each-mem, any-mem, length-each, getD-each, each-append}
+use Rattle.laws.proofs.Lists.{mem-each, each-mem, any-mem, length-each, getD-each, each-append}
 use Rattle.records.specs.Places.{twoAt, stretch, fieldOf}
 use Rattle.flags.specs.Flags.{Packed}
 use Rattle.rows.specs.Table.{tableSize, lacksImage, rowLacks, imageIn, rowIn, isNew, Alike, Maps, Imaged}

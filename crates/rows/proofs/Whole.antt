@@ -12,9 +12,9 @@ use Rattle.definition.specs.Letters.{predicate, function, member}
 use Rattle.definition.specs.Rule.{Structure, Row, Pair}
 use Rattle.definition.specs.Rows.{memberRow, sortRows, members, rowsOf, lastElement, imageRow, sameRow, newRows, constrained}
 use Rattle.definition.specs.Signature.{Signature}
-use Rattle.theory.proofs.Lists.{any-mem, any-true, none-any, mem-keep}
-use Rattle.theory.proofs.RowLaws.{sort-mem, mem-sort, members-mem}
-use Rattle.theory.proofs.Sound.{SoundStructure}
+use Rattle.laws.proofs.Lists.{any-mem, any-true, none-any, mem-keep}
+use Rattle.laws.proofs.RowLaws.{sort-mem, mem-sort, members-mem}
+use Rattle.laws.proofs.Sound.{SoundStructure}
 use Rattle.records.proofs.Lists.{keep-append}
 use Rattle.rows.specs.Table.{rowLacks, isNew}
 use Rattle.rows.specs.Members.{hasParents, memberRows}

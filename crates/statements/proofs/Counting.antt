@@ -15,8 +15,8 @@ use Rattle.definition.specs.Letters.{member}
 use Rattle.definition.specs.Rows.{memberRow, rowBefore, insertRow, sortRows, members, rowStatement}
 use Rattle.definition.specs.Rule.{Structure, Row}
 use Rattle.definition.specs.Writer.{statementField, fieldBytes}
-use Rattle.theory.proofs.ByteForm.{statementBytes, statements-append}
-use Rattle.theory.proofs.Lists.{length-each}
+use Rattle.laws.proofs.ByteForm.{statementBytes, statements-append}
+use Rattle.laws.proofs.Lists.{length-each}
 use Rattle.records.specs.Buffer.{Put, capped, countLimit}
 use Rattle.records.proofs.Tail.{nothing, counted}
 use Rattle.rule.specs.Elements.{countAt}

@@ -15,8 +15,8 @@ use Rattle.definition.specs.Records.{numbers}
 use Rattle.definition.specs.Rows.{memberRow, sortRows, members, rowStatement, typeSets}
 use Rattle.definition.specs.Rule.{Structure, Element}
 use Rattle.definition.specs.Writer.{statementField, fieldBytes, recordBytes}
-use Rattle.theory.proofs.ByteForm.{statementBytes, statements-append}
-use Rattle.theory.proofs.Lists.{each-append, length-each, getD-each}
+use Rattle.laws.proofs.ByteForm.{statementBytes, statements-append}
+use Rattle.laws.proofs.Lists.{each-append, length-each, getD-each}
 use Rattle.records.specs.Places.{stretch}
 use Rattle.rule.specs.Elements.{countAt, elementAt, elementNumbers, Finds}
 use Rattle.rule.specs.declared.elements.Found.the-variants.{At}

@@ -12,8 +12,8 @@ use Rattle.definition.specs.Kinds.{Side, variableIn}
 use Rattle.definition.specs.Names.{numbersOf, variableAt, fiber}
 use Rattle.definition.specs.Rule.{Pair}
 use Rattle.definition.specs.Writer.{statementField, fieldBytes, recordBytes}
-use Rattle.theory.proofs.ByteForm.{statementBytes, statements-append}
-use Rattle.theory.proofs.Lists.{each-append, length-each}
+use Rattle.laws.proofs.ByteForm.{statementBytes, statements-append}
+use Rattle.laws.proofs.Lists.{each-append, length-each}
 use Rattle.records.proofs.Link.{one-more}
 use Rattle.records.proofs.Lists.{keep-append}
 use Rattle.rule.specs.Elements.{countAt, elementAt, elementNumbers, Finds}

@@ -15,7 +15,7 @@ use Rattle.definition.specs.Names.{numbersOf, fiber}
 use Rattle.definition.specs.Rows.{pairsAmong, kernelPairs}
 use Rattle.definition.specs.Rule.{Pair}
 use Rattle.definition.specs.Signature.{Signature}
-use Rattle.theory.proofs.Lists.{mem-keep, mem-each, each-append, getD-each, length-each, joined-same}
+use Rattle.laws.proofs.Lists.{mem-keep, mem-each, each-append, getD-each, length-each, joined-same}
 use Rattle.rule.specs.Elements.{elementNumbers}
 use Rattle.rule.proofs.Finding.{numbers-length}
 use Rattle.rows.specs.Kernel.{TypesOf, KeysIn, SideAt}

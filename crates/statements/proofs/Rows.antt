@@ -13,8 +13,8 @@ use Rattle.definition.specs.Limits.{fieldLimit}
 use Rattle.definition.specs.Records.{Field, numbers}
 use Rattle.definition.specs.Rule.{Structure, Row, rowOf}
 use Rattle.definition.specs.Writer.{statementField, fieldBytes, recordBytes}
-use Rattle.theory.proofs.ByteForm.{statementBytes}
-use Rattle.theory.proofs.Lists.{each-mem}
+use Rattle.laws.proofs.ByteForm.{statementBytes}
+use Rattle.laws.proofs.Lists.{each-mem}
 use Rattle.records.specs.Places.{twoAt, stretch, fieldAt, fieldOf, Run}
 use Rattle.records.specs.declared.fields.Field.the-variants.{Got}
 use Rattle.records.proofs.Link.{got-is}

@@ -11,7 +11,7 @@ use Rattle.definition.specs.Rule.{Structure, structureOf, rulePart, rowOf}
 use Rattle.definition.specs.Signature.{Signature}
 use Rattle.rule.specs.Answers.{Indexed}
 use Rattle.rule.specs.Layout.{blockAt}
-use Rattle.theory.proofs.SoundRule.{structure-sound}
+use Rattle.laws.proofs.SoundRule.{structure-sound}
 use Rattle.rows.proofs.Accepted.{SmallArities, body, body-passed, preds-run, funcs-run, preds-known, funcs-known, preds-alike, funcs-alike, members-alike, elements-at, structure-preds, structure-funcs}
 use Rattle.naming.specs.Structures.{structureIn}
 use Rattle.naming.proofs.Opening.{structure-is, structure-laid}

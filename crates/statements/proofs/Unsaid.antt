@@ -6,7 +6,7 @@ use Rattle.definition.specs.Base.{keep, each}
 use Rattle.definition.specs.Group.{Statement}
 use Rattle.definition.specs.Rows.{typeSets}
 use Rattle.definition.specs.Rule.{Structure, Row, Element}
-use Rattle.theory.proofs.ByteForm.{statementBytes}
+use Rattle.laws.proofs.ByteForm.{statementBytes}
 use Rattle.records.specs.Buffer.{Put, countLimit}
 use Rattle.records.proofs.Tail.{nothing}
 use Rattle.flags.proofs.Bits.{no-flag}

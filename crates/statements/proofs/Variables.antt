@@ -12,8 +12,8 @@ use Rattle.definition.specs.Names.{numbersOf, variableAt}
 use Rattle.definition.specs.Records.{numbers}
 use Rattle.definition.specs.Rule.{Structure}
 use Rattle.definition.specs.Writer.{twoBytes, numberBytes, statementField, fieldBytes}
-use Rattle.theory.proofs.Lists.{never, mem-has, each-append, length-each, getD-each}
-use Rattle.theory.proofs.Numbers.{length-numbers-written}
+use Rattle.laws.proofs.Lists.{never, mem-has, each-append, length-each, getD-each}
+use Rattle.laws.proofs.Numbers.{length-numbers-written}
 use Rattle.records.specs.Places.{twoAt, stretch}
 use Rattle.records.specs.Buffer.{Put}
 use Rattle.records.proofs.Link.{one-more}

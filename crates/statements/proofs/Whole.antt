@@ -13,8 +13,8 @@ use Rattle.definition.specs.Letters.{predicate, function, funcDomain}
 use Rattle.definition.specs.Names.{variableAt}
 use Rattle.definition.specs.Rule.{Structure, Row}
 use Rattle.definition.specs.Rows.{members, rowStatement, typeSets}
-use Rattle.theory.proofs.ByteForm.{statementBytes, statements-append}
-use Rattle.theory.proofs.Lists.{each-append}
+use Rattle.laws.proofs.ByteForm.{statementBytes, statements-append}
+use Rattle.laws.proofs.Lists.{each-append}
 use Rattle.flags.specs.Flags.{flagAt}
 use Rattle.naming.specs.Structures.{structureIn}
 use Rattle.naming.specs.Variables.{variablesIn}

@@ -9,7 +9,7 @@ use Rattle.definition.specs.Records.{Field}
 use Rattle.definition.specs.Rule.{rowOf}
 use Rattle.definition.specs.Signature.{Signature, predOf, funcOf, typeParents, columnCount}
 use Rattle.definition.specs.Kinds.{Side}
-use Rattle.theory.proofs.Sound.{SoundStructure}
+use Rattle.laws.proofs.Sound.{SoundStructure}
 use Rattle.records.specs.Places.{Run}
 use Rattle.rows.specs.Table.{Alike}
 use Rattle.rows.specs.Arguments.{RowsKnown}

@@ -11,7 +11,7 @@ ghost use Rattle.definition.specs.Limits.{structureLimit, fieldLimit};
 ghost use Rattle.definition.specs.Names.{numbersOf, fiber};
 ghost use Rattle.definition.specs.Signature.{Signature};
 ghost use Rattle.definition.specs.Writer.{statementField, fieldBytes};
-ghost use Rattle.theory.proofs.ByteForm.{statementBytes};
+ghost use Rattle.laws.proofs.ByteForm.{statementBytes};
 ghost use Rattle.records.specs.Buffer.{Put, countLimit};
 ghost use Rattle.rule.specs.Elements.{elementNumbers, Elements};
 ghost use Rattle.rows.specs.Kernel.{TypesOf, KeysIn, SideAt, Merged};

@@ -5,7 +5,7 @@ ghost use Prim.Native.Nat.{ℕ, _+_, _≤_};
 ghost use lib.Dec.{eqb};
 ghost use lib.ListN.{length};
 ghost use Rattle.definition.specs.Base.{pick};
-ghost use Rattle.theory.proofs.ByteForm.{statementBytes};
+ghost use Rattle.laws.proofs.ByteForm.{statementBytes};
 ghost use Rattle.records.specs.Buffer.{capped, countLimit};
 ghost use Rattle.naming.specs.Structures.{structureIn};
 ghost use Rattle.naming.specs.Variables.{variablesIn};

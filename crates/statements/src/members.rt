@@ -2,7 +2,7 @@
 ghost use Prim.Native.Nat.{_≤_, _<_};
 ghost use mathlib.Core.List.{_∷_, []};
 ghost use Rattle.definition.specs.Writer.{statementField, fieldBytes};
-ghost use Rattle.theory.proofs.ByteForm.{statementBytes};
+ghost use Rattle.laws.proofs.ByteForm.{statementBytes};
 ghost use Rattle.records.specs.Buffer.{Put, countLimit};
 ghost use Rattle.rule.specs.Elements.{countAt};
 ghost use Rattle.rows.specs.Elements.{elementIn};

@@ -6,7 +6,7 @@ ghost use Rattle.definition.specs.Base.{each};
 ghost use Rattle.definition.specs.Limits.{columnLimit};
 ghost use Rattle.definition.specs.Records.{numbers};
 ghost use Rattle.definition.specs.Writer.{statementField, fieldBytes};
-ghost use Rattle.theory.proofs.ByteForm.{statementBytes};
+ghost use Rattle.laws.proofs.ByteForm.{statementBytes};
 ghost use Rattle.records.specs.Places.{stretch};
 ghost use Rattle.records.specs.Buffer.{Put, countLimit};
 ghost use Rattle.naming.specs.Structures.{structureIn, Laid};

@@ -1,6 +1,6 @@
 // What a structure says, as bytes.
 ghost use Prim.Native.Nat.{_≤_};
-ghost use Rattle.theory.proofs.ByteForm.{statementBytes};
+ghost use Rattle.laws.proofs.ByteForm.{statementBytes};
 ghost use Rattle.records.specs.Buffer.{Put, countLimit};
 ghost use Rattle.naming.specs.Structures.{structureIn};
 ghost use Rattle.naming.specs.Variables.{variablesIn};

@@ -18,8 +18,8 @@ use Rattle.definition.specs.Rule as Rule
 use Rattle.definition.specs.Rule.{Structure, Element, Pair, If, SurjThen, Noop}
 use Rattle.definition.specs.Rows.{members, typeSets, given, inImage, constrained}
 use Rattle.definition.specs.Signature.{Signature}
-use Rattle.theory.proofs.Lists.{lowest-none, length-each, getD-each}
-use Rattle.theory.proofs.StepForm.{stepFault}
+use Rattle.laws.proofs.Lists.{lowest-none, length-each, getD-each}
+use Rattle.laws.proofs.StepForm.{stepFault}
 use Rattle.records.specs.Places.{Run}
 use Rattle.rule.specs.Elements.{countAt, elementNumbers}
 use Rattle.rows.specs.Arguments.{RowsKnown}

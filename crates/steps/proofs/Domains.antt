@@ -16,8 +16,8 @@ use Rattle.definition.specs.Records.{Field, numbers}
 use Rattle.definition.specs.Rule.{NonSurjThen, rowOf}
 use Rattle.definition.specs.Rows.{members, lastElement, typeSets, given, inImage}
 use Rattle.definition.specs.Signature.{Signature}
-use Rattle.theory.proofs.Lists.{each-mem}
-use Rattle.theory.proofs.StepForm.{rowFault, newFault, stepFault, rowFor, own, conclusions}
+use Rattle.laws.proofs.Lists.{each-mem}
+use Rattle.laws.proofs.StepForm.{rowFault, newFault, stepFault, rowFor, own, conclusions}
 use Rattle.records.specs.Places.{twoAt, stretch, Run}
 use Rattle.records.proofs.Numbers.{length-numbers, take-numbers, take-stretch}
 use Rattle.records.proofs.Runs.{run-same}

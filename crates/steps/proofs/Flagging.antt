@@ -9,7 +9,7 @@ use Rattle.definition.specs.Names.{numbersOf}
 use Rattle.definition.specs.Rule.{Element, Row, Pair}
 use Rattle.definition.specs.Rows.{memberRow, members, lastElement, constrained}
 use Rattle.definition.specs.Signature.{Signature}
-use Rattle.theory.proofs.RowLaws.{members-mem}
+use Rattle.laws.proofs.RowLaws.{members-mem}
 use Rattle.rule.specs.Elements.{countAt}
 use Rattle.rule.proofs.Finding.{search-found}
 use Rattle.rows.specs.Elements.{elementIn}

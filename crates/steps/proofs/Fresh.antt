@@ -11,7 +11,7 @@ use lib.ListN.{length, getD, take, drop, take-append-drop}
 use lib.Seq.{getD-take, take-all}
 use Rattle.definition.specs.Base.{consIf, keep, each}
 use Rattle.definition.specs.Rows.{given}
-use Rattle.theory.proofs.Lists.{length-each, getD-each}
+use Rattle.laws.proofs.Lists.{length-each, getD-each}
 use Rattle.records.proofs.Lists.{keep-append}
 use Rattle.rows.proofs.Kept.{flag-at}
 use Rattle.rows.proofs.Parts.{take-more}

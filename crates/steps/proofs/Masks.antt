@@ -11,7 +11,7 @@ use borrow.Author.Tests.{ne-eqb}
 use lib.Dec.{eqb}
 use lib.ListN.{length, getD}
 use Rattle.definition.specs.Base.{consIf, keep, each}
-use Rattle.theory.proofs.Lists.{trichotomy}
+use Rattle.laws.proofs.Lists.{trichotomy}
 use Rattle.flags.specs.Flags.{flagAt, Packed}
 use Rattle.flags.proofs.Bits.{pow-pos, pow-twice, bit-new, bit-old}
 use Rattle.statements.specs.Said.{flaggedFrom, flagged}

@@ -12,7 +12,7 @@ use Rattle.definition.specs.Records.{Field}
 use Rattle.definition.specs.Rule.{Row, Pair, rowOf}
 use Rattle.definition.specs.Rows.{memberRow}
 use Rattle.definition.specs.Signature.{Signature, predOf, funcOf, typeParents, columnCount}
-use Rattle.theory.proofs.Lists.{length-each}
+use Rattle.laws.proofs.Lists.{length-each}
 use Rattle.records.specs.Places.{Run}
 use Rattle.records.proofs.Runs.{run-end}
 use Rattle.rule.specs.Elements.{countAt}

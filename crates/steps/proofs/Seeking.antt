@@ -13,7 +13,7 @@ use Rattle.definition.specs.Letters.{start}
 use Rattle.definition.specs.Records.{Field, numbers}
 use Rattle.definition.specs.Rule.{Row, rowOf}
 use Rattle.definition.specs.Rows.{lastElement}
-use Rattle.theory.proofs.Lists.{length-each, getD-each, mem-has, never}
+use Rattle.laws.proofs.Lists.{length-each, getD-each, mem-has, never}
 use Rattle.records.specs.Places.{twoAt, stretch, fieldAt, fieldOf}
 use Rattle.records.specs.declared.fields.Field.the-variants.{Got}
 use Rattle.records.proofs.Along.{allFrom, all-no, all-on, all-end}

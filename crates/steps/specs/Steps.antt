@@ -12,7 +12,7 @@ use Rattle.definition.specs.Limits.{fieldLimit, variableLimit}
 use Rattle.definition.specs.Names.{numbered}
 use Rattle.definition.specs.Rule.{MorphismKind, SurjThen, NonSurjThen}
 use Rattle.definition.specs.Signature.{Signature}
-use Rattle.theory.proofs.StepForm.{stepFault, own, conclusions}
+use Rattle.laws.proofs.StepForm.{stepFault, own, conclusions}
 use Rattle.rows.specs.Maps.{pairsIn, MapIn}
 use Rattle.rows.specs.declared.maps.Map.{Map}
 use Rattle.naming.specs.Maps.{Joins, takenOver}

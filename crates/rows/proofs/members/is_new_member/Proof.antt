@@ -1,6 +1,6 @@
 use mathlib.Core.Path.{sym, _∙_}
 use borrow.Author.Needs.{needs}
-use Rattle.theory.proofs.Lists.{length-each}
+use Rattle.laws.proofs.Lists.{length-each}
 use Rattle.rows.proofs.MemberLaws.{not-new, new-by-images}
 use Rattle.rows.proofs.Turns.{alike-images}
 use Rattle.rows.proofs.members.is_new_member.Statement.{statement}

@@ -7,7 +7,7 @@ use borrow.Author.Needs.{needs}
 use Rattle.definition.specs.Rule.{Row, Pair, rowOf}
 use Rattle.definition.specs.Records.{Field}
 use Rattle.definition.specs.Base.{each}
-use Rattle.theory.proofs.Lists.{length-each}
+use Rattle.laws.proofs.Lists.{length-each}
 use Rattle.records.proofs.Runs.{run-bad}
 use Rattle.records.specs.declared.fields.Field.the-variants.{Got}
 use Rattle.records.specs.Places.{Run, fieldAt}

@@ -1,6 +1,6 @@
 use borrow.Author.Needs.{needs}
 use mathlib.Core.Path.{sym, _∙_}
-use Rattle.theory.proofs.Lists.{not-true}
+use Rattle.laws.proofs.Lists.{not-true}
 use Rattle.steps.proofs.New.{no-members, members-lack, members-new, members-few, olds-few, target-few, source-few}
 use Rattle.steps.proofs.added.new_unmarked.Statement.{statement}
 use Rattle.steps.proofs.added.new_unmarked.Tie as tie

@@ -1,7 +1,7 @@
 use borrow.Author.Needs.{needs}
 use native.Mathlib.Omega.{arith}
 use lib.ListN.{length}
-use Rattle.theory.proofs.Lists.{not-true, not-false}
+use Rattle.laws.proofs.Lists.{not-true, not-false}
 use Rattle.steps.specs.Yielding.{RowBounds}
 use Rattle.steps.specs.declared.yielding.Yielding.the-variants as yielding
 use Rattle.steps.proofs.Domains.{images-flagged, result-rows, yields-rows, number-is, arguments-named, no-row, outside, yielded}

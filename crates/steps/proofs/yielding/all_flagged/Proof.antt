@@ -6,7 +6,7 @@ use mathlib.Core.Path.{_≡_, sym, _∙_}
 use lib.ListN.{take}
 use Rattle.definition.specs.Base.{all, each, _∈_}
 use Rattle.definition.specs.Records.{numbers}
-use Rattle.theory.proofs.Lists.{not-true, not-false}
+use Rattle.laws.proofs.Lists.{not-true, not-false}
 use Rattle.records.proofs.Along.{allFrom, all-start}
 use Rattle.records.specs.Places.{stretch}
 use Rattle.rule.proofs.Finding.{numbers-length}

@@ -18,11 +18,11 @@ use Rattle.definition.specs.Names.{numbersOf, fiber}
 use Rattle.definition.specs.Rows.{memberRow, rowsOf, lastElement, rowStatement, typeSets, pairImage, imageOf, inImage, given, imageRow, sameRow, newRows, pairsAmong, kernelPairs, arguments, constrained}
 use Rattle.definition.specs.Kinds.{Side, variableIn, Emitted, Step, unless, typeIn, kernelVariables, equalities, rowUnmapped, newElements, addedRows, constrainedMember, freeElements, ifStatements, surjConclusion, yields, yieldingRow, domainStatement, domainStep, nonSurjStep, ifStep, surjStep, mapStep}
 use Rattle.definition.specs.Demands.{Occurs}
-use Rattle.theory.proofs.Lists.{and-left, and-right, not-false, not-and-right, never, bool-cases, mem-keep, keep-mem, mem-each, each-mem, mem-joined, any-mem, any-false, none-any, all-mem, has-mem, lowest-none, first-mem, picked}
-use Rattle.theory.proofs.Good.{GoodStatement}
-use Rattle.theory.proofs.Sound.{SoundStructure}
-use Rattle.theory.proofs.Numbering.{last-mem, last-none}
-use Rattle.theory.proofs.RowLaws.{premise-three, conclusion-three, pred-in, func-in, member-in, mem-members, in-number, row-elements, row-good, domain-good, type-set-good, but-last-mem}
+use Rattle.laws.proofs.Lists.{and-left, and-right, not-false, not-and-right, never, bool-cases, mem-keep, keep-mem, mem-each, each-mem, mem-joined, any-mem, any-false, none-any, all-mem, has-mem, lowest-none, first-mem, picked}
+use Rattle.laws.proofs.Good.{GoodStatement}
+use Rattle.laws.proofs.Sound.{SoundStructure}
+use Rattle.laws.proofs.Numbering.{last-mem, last-none}
+use Rattle.laws.proofs.RowLaws.{premise-three, conclusion-three, pred-in, func-in, member-in, mem-members, in-number, row-elements, row-good, domain-good, type-set-good, but-last-mem}
 
 -- What is known of a map when it is walked: its sides, and the source's statements over so many variables.
 pub record MapFacts (sig : Signature) (table : List Variable) (source target : Side) (pairs : List Pair) (statements : List Statement) (count : ℕ) : Type 0 where

@@ -13,9 +13,9 @@ use Rattle.definition.specs.Rule.{Structure, Element, Row}
 use Rattle.definition.specs.Group.{Statement, premiseKinds, conclusionKinds}
 use Rattle.definition.specs.Names.{numbersOf}
 use Rattle.definition.specs.Rows.{memberRow, rowBefore, insertRow, sortRows, members, rowsOf, rowStatement, typeSets}
-use Rattle.theory.proofs.Lists.{not-true, never, mem-keep, keep-mem, mem-each, each-mem, length-each}
-use Rattle.theory.proofs.Good.{GoodStatement}
-use Rattle.theory.proofs.Sound.{SoundRow, SoundStructure}
+use Rattle.laws.proofs.Lists.{not-true, never, mem-keep, keep-mem, mem-each, each-mem, length-each}
+use Rattle.laws.proofs.Good.{GoodStatement}
+use Rattle.laws.proofs.Sound.{SoundRow, SoundStructure}
 
 -- Sorting keeps the members.
 insert-mem : (x : Row) (rs : List Row) {r : Row} → r ∈ insertRow x rs → (r ≡ x) ⊎ (r ∈ rs)

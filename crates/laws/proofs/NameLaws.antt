@@ -16,8 +16,8 @@ use Rattle.definition.specs.Letters.{digitZero, digitNine}
 use Rattle.definition.specs.Records.{nameByte, badName}
 use Rattle.definition.specs.Names.{digitsTo, decimal}
 use Rattle.definition.specs.Demands.{digit, endsInDigit}
-use Rattle.theory.proofs.Lists.{and-true, and-left, and-right, or-left, or-right, not-false, never, all-mem, mem-all, trichotomy}
-use Rattle.theory.proofs.Numbering.{last-mem, last-none}
+use Rattle.laws.proofs.Lists.{and-true, and-left, and-right, or-left, or-right, not-false, never, all-mem, mem-all, trichotomy}
+use Rattle.laws.proofs.Numbering.{last-mem, last-none}
 
 -- A name within a range of lengths, of bytes that a name may have.
 pub record Fine (shortest longest : ℕ) (name : List ℕ) : Type 0 where

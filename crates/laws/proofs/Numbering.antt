@@ -15,7 +15,7 @@ use Rattle.definition.specs.Rule.{Structure, Element, Pair, keysAscend}
 use Rattle.definition.specs.Group.{Variable}
 use Rattle.definition.specs.Names.{numbersOf, variableAt, fiber, carriedKey, numbered, newVariable, newVariables}
 use Rattle.definition.specs.Rows.{inImage}
-use Rattle.theory.proofs.Lists.{never, and-left, and-right, bool-cases, mem-keep, keep-mem, mem-each, each-mem, length-each, getD-each, any-true, trichotomy}
+use Rattle.laws.proofs.Lists.{never, and-left, and-right, bool-cases, mem-keep, keep-mem, mem-each, each-mem, length-each, getD-each, any-true, trichotomy}
 
 -- How many elements take nothing over.
 unfoldable pub fresh : List (Option ℕ) → ℕ

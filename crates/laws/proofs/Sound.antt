@@ -17,7 +17,7 @@ use Rattle.definition.specs.Signature.{Signature, typeFault, symbolFault, signa
 use Rattle.definition.specs.Rule.{Element, Row, Name, Pair, Map, Kind, Auxiliary, Structure, Rule, keysAscend}
 use Rattle.definition.specs.Names.{numbersOf}
 use Rattle.definition.specs.Walk.{structureAt}
-use Rattle.theory.proofs.Lists.{or-left, or-else-none, length-each, lowest-none}
+use Rattle.laws.proofs.Lists.{or-left, or-else-none, length-each, lowest-none}
 
 -- Acceptance: no fault, and the record's value.
 pub read-part : {A : Type 0} (part : Part) (fault : Option ℕ) (value : A) {v : A} → readPart part fault value ≡ accepted v

@@ -22,13 +22,13 @@ use Rattle.definition.specs.Rows.{rowsOf, rowStatement, typeSets}
 use Rattle.definition.specs.Kinds.{Side, variableIn, Emitted, Step, initialStatements}
 use Rattle.definition.specs.Walk.{State, Reached, structureAt, noStructure, groupName, anonymousRule, namedRules, sideOf, reach, untouched, nothingTaken, initialState}
 use Rattle.definition.specs.Demands.{Occurs, Bound}
-use Rattle.theory.proofs.Lists.{bool-cases, keep-mem, mem-each, each-mem, length-each, first-mem, picked}
-use Rattle.theory.proofs.Good.{GoodName, GoodStatement, GoodVariable, GoodRule}
-use Rattle.theory.proofs.Sound.{SoundStructure, SoundRule}
-use Rattle.theory.proofs.NameLaws.{Fine, fine, not-bad, fine-append, fine-within, fine-decimal}
-use Rattle.theory.proofs.Numbering.{fresh, fresh-few, new-length, new-at, new-mem, variable-taken, variable-new, new-differ}
-use Rattle.theory.proofs.RowLaws.{premise-three, member-in, mem-members, in-number, row-good, type-set-good}
-use Rattle.theory.proofs.StepLaws.{StepGood, member-lists, occurs-left, occurs-right, row-occurs}
+use Rattle.laws.proofs.Lists.{bool-cases, keep-mem, mem-each, each-mem, length-each, first-mem, picked}
+use Rattle.laws.proofs.Good.{GoodName, GoodStatement, GoodVariable, GoodRule}
+use Rattle.laws.proofs.Sound.{SoundStructure, SoundRule}
+use Rattle.laws.proofs.NameLaws.{Fine, fine, not-bad, fine-append, fine-within, fine-decimal}
+use Rattle.laws.proofs.Numbering.{fresh, fresh-few, new-length, new-at, new-mem, variable-taken, variable-new, new-differ}
+use Rattle.laws.proofs.RowLaws.{premise-three, member-in, mem-members, in-number, row-good, type-set-good}
+use Rattle.theorems.proofs.StepLaws.{StepGood, member-lists, occurs-left, occurs-right, row-occurs}
 
 -- A base of names: `el`, or a V or I name of a structure.
 abbrev pub BaseOf : Rule → List ℕ → Type 0

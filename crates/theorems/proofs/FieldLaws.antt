@@ -9,7 +9,7 @@ use lib.Dec.{eqb}
 use lib.ListN.{length}
 use Rattle.definition.specs.Base.{pick, consIf, keep, each, joined, has, _∈_}
 use Rattle.definition.specs.Records.{Field, Grammar, follows, placed, withLetter, upTo, blocks, faultFrom}
-use Rattle.theory.proofs.Numbers.{listed}
+use Rattle.laws.proofs.Numbers.{listed}
 
 -- The fields of a letter: of two lists, those of each.
 pub with-append : (letter : ℕ) (xs ys : List Field) → withLetter letter (xs ++ ys) ≡ withLetter letter xs ++ withLetter letter ys

@@ -18,10 +18,10 @@ use Rattle.definition.specs.Records.{Field, numbers, blocks, withLetter}
 use Rattle.definition.specs.Signature.{Signature, readSignature, parentModel}
 use Rattle.definition.specs.Group.{Variable, Statement, FlatRule, Group, statementOf, flatRuleOf, groupGrammar, groupOf, groupPart, readGroup}
 use Rattle.definition.specs.Scope.{Scope, global, model, ownerCount, sameVariables, ownersVerdict, sharesModel, conclusionVerdict, related, relationVerdict, premiseVerdict, settle, modelScope, outputScope, conclusionScope, inferScope, scopeOf, conclusionAt, ownersAt, ownersPart, ownersOf}
-use Rattle.theory.proofs.Sound.{read-part, read-within}
-use Rattle.theory.proofs.Numbers.{take-numbers, drop-numbers, length-numbers}
-use Rattle.theory.proofs.ReadingRefusals.{Low, signature-refusal, group-refusal}
-use Rattle.theory.proofs.PlaceLaws.{FieldAt, fields-stand, conclusion-stands}
+use Rattle.laws.proofs.Sound.{read-part, read-within}
+use Rattle.laws.proofs.Numbers.{take-numbers, drop-numbers, length-numbers}
+use Rattle.theorems.proofs.ReadingRefusals.{Low, signature-refusal, group-refusal}
+use Rattle.theorems.proofs.PlaceLaws.{FieldAt, fields-stand, conclusion-stands}
 
 -- Bytes are what is before a part, the part and what is behind it.
 middle : (k n : ℕ) (s : List ℕ) → s ≡ take k s ++ take n (drop k s) ++ drop n (drop k s)

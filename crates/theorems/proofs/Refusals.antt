@@ -18,7 +18,7 @@ use Rattle.definition.specs.Kinds.{Side, Step, unless, yieldingRow, domainStep,
 use Rattle.definition.specs.Walk.{State, Reached, unmappedAuxiliary, unmappedKind, initialState, walkedKinds, walkMap, walkFrom, walkOf}
 use Rattle.definition.specs.Writer.{groupBytesOf}
 use Rattle.definition.specs.Flatten.{groupLeft, fitted, flattenOf}
-use Rattle.theory.proofs.ReadingRefusals.{Low, signature-refusal, rule-refusal}
+use Rattle.theorems.proofs.ReadingRefusals.{Low, signature-refusal, rule-refusal}
 
 -- From low to high.
 abbrev pub Between : ℕ → ℕ → ℕ → Type 0

@@ -14,10 +14,10 @@ use Rattle.definition.specs.Letters.{letterE, letterM, letterK, letterS}
 use Rattle.definition.specs.Records.{Field, Block, numbers, numberAt, withLetter, blocks, odd}
 use Rattle.definition.specs.Signature.{Signature}
 use Rattle.definition.specs.Rule.{Element, Map, Kind, Structure, Rule, elementOf, mapOf, kindOf, sourceTarget, elementFault, mapFault, kindFault, namedElements, namedIn, structureOf, ruleOf, ruleFault, rulePart, readRule}
-use Rattle.theory.proofs.Lists.{or-left, or-right, not-false, lowest-none, mem-each}
-use Rattle.theory.proofs.Orders.{Ascending, letter-ascends, ascending-each}
-use Rattle.theory.proofs.Sound.{read-part, read-within, among-mem}
-use Rattle.theory.proofs.SoundRule.{body-parts, rule-parts, structure-bodies}
+use Rattle.laws.proofs.Lists.{or-left, or-right, not-false, lowest-none, mem-each}
+use Rattle.laws.proofs.Orders.{Ascending, letter-ascends, ascending-each}
+use Rattle.laws.proofs.Sound.{read-part, read-within, among-mem}
+use Rattle.laws.proofs.SoundRule.{body-parts, rule-parts, structure-bodies}
 
 -- What each is ordered by.
 abbrev pub elementKey : Element → List ℕ

@@ -10,7 +10,7 @@ use lib.Dec.{ltb}
 use borrow.Author.Tests.{ltb-true, ltb-false, lt-ltb, le-ltb}
 use Rattle.definition.specs.Base.{each, less, _∈_}
 use Rattle.definition.specs.Records.{Field, withLetter, faultFrom, faultAmong}
-use Rattle.theory.proofs.Lists.{never, or-else-none, mem-each}
+use Rattle.laws.proofs.Lists.{never, or-else-none, mem-each}
 
 -- How two numbers compare, as the order of lists asks it.
 data Compared (x y : ℕ) : Type 0 where

@@ -12,7 +12,7 @@ use Rattle.definition.specs.Group.{Statement, FlatRule, Group}
 use Rattle.definition.specs.Kinds.{Emitted}
 use Rattle.definition.specs.Walk.{namedRules}
 use Rattle.definition.specs.Writer.{fieldBytes, recordBytes, variableField, statementField, flatRuleFields, groupFields, groupBytesOf}
-use Rattle.theory.proofs.Lists.{each-append, joined-append}
+use Rattle.laws.proofs.Lists.{each-append, joined-append}
 
 -- Bytes of fields one behind the other.
 pub record-append : (fs gs : List Field) → recordBytes (fs ++ gs) ≡ recordBytes fs ++ recordBytes gs

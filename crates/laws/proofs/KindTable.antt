@@ -12,9 +12,9 @@ use borrow.Author.Tests.{eqb-true, eq-eqb}
 use Rattle.definition.specs.Base.{pick, orElse, consIf, keep, each, joined, any, firstOf, span, less, _∈_}
 use Rattle.definition.specs.Rule.{Map, Kind, MorphismKind, Auxiliary, Rule}
 use Rattle.definition.specs.Walk.{ofPair, addPair, completed, walkedKinds}
-use Rattle.theory.proofs.Lists.{never, or-else-none, joined-same, bool-cases, and-left, and-right, and-true, or-left, or-right, any-true, any-false}
-use Rattle.theory.proofs.Orders.{Ascending, less-not}
-use Rattle.theory.proofs.SoundOrder.{kindKey}
+use Rattle.laws.proofs.Lists.{never, or-else-none, joined-same, bool-cases, and-left, and-right, and-true, or-left, or-right, any-true, any-false}
+use Rattle.laws.proofs.Orders.{Ascending, less-not}
+use Rattle.laws.proofs.SoundOrder.{kindKey}
 
 -- The kind of a pair, if it has one.
 abbrev pub kindOfPair : ℕ → ℕ → Kind → Option MorphismKind

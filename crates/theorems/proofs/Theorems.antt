@@ -19,14 +19,14 @@ use Rattle.definition.specs.Walk.{State, Reached, structureAt, initialState, wa
 use Rattle.definition.specs.Writer.{groupBytesOf}
 use Rattle.definition.specs.Flatten.{groupLeft, fitted, flattenOf}
 use Rattle.definition.specs.Demands.{IsReached, Occurs, Bound, ExactKeys, NoTrailingDigit, endsInDigit, variablesAt, variableGot, printedName, DifferentNames, Demand3}
-use Rattle.theory.proofs.Good.{GoodGroup}
-use Rattle.theory.proofs.Sound.{SoundRule, sound-signature}
-use Rattle.theory.proofs.SoundRule.{sound-rule}
-use Rattle.theory.proofs.NameLaws.{name-tells}
-use Rattle.theory.proofs.WalkLaws.{BaseOf, noVariable, reached-few, group-name-good}
-use Rattle.theory.proofs.WalkSteps.{WalkedGood, on-accepted, walk-of-good, walked-mem, first-reached}
-use Rattle.theory.proofs.ReadBack.{read-back}
-use Rattle.theory.proofs.ByteLaws.{group-small}
+use Rattle.laws.proofs.Good.{GoodGroup}
+use Rattle.laws.proofs.Sound.{SoundRule, sound-signature}
+use Rattle.laws.proofs.SoundRule.{sound-rule}
+use Rattle.laws.proofs.NameLaws.{name-tells}
+use Rattle.theorems.proofs.WalkLaws.{BaseOf, noVariable, reached-few, group-name-good}
+use Rattle.theorems.proofs.WalkSteps.{WalkedGood, on-accepted, walk-of-good, walked-mem, first-reached}
+use Rattle.theorems.proofs.ReadBack.{read-back}
+use Rattle.theorems.proofs.ByteLaws.{group-small}
 
 -- What flatten wrote: the group that the walk left, within the room.
 pub record Wrote (signature rule : List ℕ) (room : ℕ) (bytes : List ℕ) : Type 0 where

@@ -1,0 +1,1 @@
+// Laws about the definition that any proof may cite; no code.

@@ -1,0 +1,1 @@
+// Theorems about the definition, cited by the entries alone; no code.

@@ -1,1 +1,0 @@
-// No code: laws and theorems about the definition stand in proofs/.
