@@ -16,7 +16,7 @@ use Rattle.definition.specs.Names.{numbered}
 use Rattle.definition.specs.Rule.{MorphismKind}
 use Rattle.definition.specs.Signature.{Signature}
 use Rattle.definition.specs.Walk.{walkFrom, initialState, walkedKinds, nothingTaken, namedRules, groupName, completed}
-use Rattle.theorems.proofs.Refusals.{walk-refuses}
+use Rattle.laws.proofs.WalkRefusals.{walk-refuses}
 use Rattle.rule.specs.Elements.{countAt}
 use Rattle.rule.specs.Lookup.{ruleAt}
 use Rattle.naming.specs.Structures.{structureIn}

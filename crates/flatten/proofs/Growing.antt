@@ -12,7 +12,7 @@ use Rattle.definition.specs.Signature.{Signature}
 use Rattle.definition.specs.Kinds.{Side, variableIn, typeIn, kernelVariables, equalities}
 use Rattle.definition.specs.Walk.{Reached}
 use Rattle.laws.proofs.Lists.{mem-each}
-use Rattle.theorems.proofs.StepLaws.{kernel-in}
+use Rattle.laws.proofs.Fibers.{kernel-in}
 use Rattle.naming.specs.Structures.{structureIn}
 use Rattle.naming.specs.Variables.{GivenOut}
 use Rattle.flatten.specs.Tables.{Tables, unreached, sourceAt, rowAt, masksOf, masksAt, mergedAt, pairsOn, Keyed, reachedBy, equalitiesAt, saidAt, domainsAt, ownAt, concludedAt, statementsOf, statementsAt, before}

@@ -17,11 +17,10 @@ use Rattle.definition.specs.Signature.{Signature}
 use Rattle.definition.specs.Names.{numbersOf, variableAt, numbered, newVariables}
 use Rattle.definition.specs.Kinds.{Emitted, Step, equalities}
 use Rattle.definition.specs.Walk.{Reached, State, groupName, namedRules, reach, structureAt}
-use Rattle.laws.proofs.Lists.{trichotomy}
+use Rattle.laws.proofs.Lists.{trichotomy, mem-at}
 use Rattle.laws.proofs.Numbering.{fresh, numbered-some, numbered-none, fresh-below, fresh-few, new-length, place-in}
 use Rattle.laws.proofs.StepForm.{emitted}
 use Rattle.laws.proofs.ByteForm.{named-append}
-use Rattle.theorems.proofs.WalkLaws.{mem-at}
 use Rattle.rule.specs.Lookup.{ruleAt}
 use Rattle.rows.specs.Kernel.{Merged}
 use Rattle.rows.specs.Maps.{pairsIn}

@@ -1,6 +1,6 @@
 -- Laws about lists, numbers, fields and the definition's helpers.
 pub mod ByteForm
-pub mod Good
+pub mod Fibers
 pub mod KindTable
 pub mod Lists
 pub mod NameLaws
@@ -12,3 +12,4 @@ pub mod Sound
 pub mod SoundOrder
 pub mod SoundRule
 pub mod StepForm
+pub mod WalkRefusals

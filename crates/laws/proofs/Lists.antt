@@ -202,3 +202,9 @@ first-mem f (x ∷ xs) {b} e = go (f x) refl (λ q. first-mem f xs q) e
 pub picked : {A : Type 0} (b : Bool) (x : A) {y : A} → pick b (some x) none ≡ some y → (b ≡ true) × (x ≡ y)
 picked true x e = (refl, cc)
 picked false x e = let z : _≡_ {A = ℕ} 0 1 = cc in absurd (omega arith)
+
+-- A member at a place.
+pub mem-at : {A : Type 0} (xs : List A) (i : ℕ) (d : A) → i < length xs → getD xs i d ∈ xs
+mem-at [] i d h = absurd (omega arith)
+mem-at (x ∷ xs) zero d h = List·Memᴰ·head refl
+mem-at (x ∷ xs) (suc i) d h = List·Memᴰ·tail (mem-at xs i d (omega arith))

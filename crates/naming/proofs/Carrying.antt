@@ -18,9 +18,8 @@ use Rattle.definition.specs.Names.{numbersOf, variableAt, fiber, carriedKey, ov
 use Rattle.definition.specs.Rows.{given, inImage}
 use Rattle.definition.specs.Walk.{nothingTaken}
 use Rattle.records.proofs.Lists.{keep-append}
-use Rattle.laws.proofs.Lists.{each-append, length-each, getD-each, trichotomy, never, mem-has, has-mem, mem-each, any-mem}
+use Rattle.laws.proofs.Lists.{each-append, length-each, getD-each, trichotomy, never, mem-has, has-mem, mem-each, any-mem, mem-at}
 use Rattle.laws.proofs.Numbering.{place-in, carried-pair, not-carried}
-use Rattle.theorems.proofs.WalkLaws.{mem-at}
 use Rattle.naming.specs.Variables.{noVar, entryOf, rowOf, takenIn, variablesIn, GivenOut}
 use Rattle.rows.specs.Maps.{pairsIn, pairAt, noPair, MapIn}
 use Rattle.rows.specs.declared.maps.Map.{Map}

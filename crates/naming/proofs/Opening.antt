@@ -21,11 +21,10 @@ use Rattle.records.specs.declared.fields.Field as read-field
 use Rattle.records.specs.declared.fields.Field.the-variants.{Got, Bad}
 use Rattle.records.proofs.Link.{got-is, fields-all, fields-bad, fields-got, fields-end}
 use Rattle.records.proofs.Numbers.{length-stretch, drop-stretch, number-in}
-use Rattle.laws.proofs.Lists.{getD-each, lowest-none}
+use Rattle.laws.proofs.Lists.{getD-each, lowest-none, mem-at}
 use Rattle.laws.proofs.NameLaws.{fine}
 use Rattle.laws.proofs.Sound.{read-part, read-within, among-mem, SoundMap}
 use Rattle.laws.proofs.SoundRule.{Begins, begins, body-parts, rule-parts, structure-bodies}
-use Rattle.theorems.proofs.WalkLaws.{mem-at}
 use Rattle.rule.specs.Layout.{letterAt, noBlock, blockAt}
 use Rattle.rule.specs.Elements.{elementFields}
 use Rattle.rule.specs.Answers.{Indexed}

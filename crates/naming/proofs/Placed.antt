@@ -8,8 +8,7 @@ use Rattle.definition.specs.Base.{each}
 use Rattle.definition.specs.Limits.{fieldLimit}
 use Rattle.definition.specs.Rule.{Structure, Element, elementOf}
 use Rattle.definition.specs.Names.{numbersOf}
-use Rattle.laws.proofs.Lists.{length-each}
-use Rattle.theorems.proofs.WalkLaws.{mem-at}
+use Rattle.laws.proofs.Lists.{length-each, mem-at}
 use Rattle.rule.specs.Elements.{countAt, elementFields, elementNumbers, Elements, Finds}
 use Rattle.rule.specs.declared.elements.Found.the-variants.{At}
 use Rattle.rule.proofs.Finding.{numbers-length, numbers-get}

@@ -15,7 +15,7 @@ use Rattle.definition.specs.Records.{Field, numbers, numberAt, odd, notNumbers,
 use Rattle.definition.specs.Rule.{elementOf, rowOf, pairsOf, mapOf, structureOf, keysAscend, elementFault, rowFault, bodyFault, namedElements, rulePart}
 use Rattle.definition.specs.Rows.{memberRow}
 use Rattle.definition.specs.Signature.{Signature, Symbol, noSymbol, symbolOf, columnsOf, parentCount, columnCount, predOf, funcOf, typeParents, typeFault, symbolFault, signatureFault, signatureOf, signaturePart, readSignature}
-use Rattle.laws.proofs.Lists.{or-left, or-right, or-else-none, not-false, lowest-none, mem-keep, mem-each, length-each, getD-each}
+use Rattle.laws.proofs.Lists.{or-left, or-right, or-else-none, not-false, lowest-none, mem-keep, mem-each, length-each, getD-each, mem-at}
 use Rattle.laws.proofs.Sound.{read-part, read-within, among-mem, among-few}
 use Rattle.laws.proofs.SoundRule.{body-parts, structure-bodies, rule-parts}
 use Rattle.records.specs.Places.{stretch, fieldOf, Run}
@@ -33,7 +33,6 @@ use Rattle.rows.specs.Maps.{pairsIn, MapIn}
 use Rattle.rows.specs.Members.{hasParents, memberRows}
 use Rattle.rows.specs.Table.{RowSized, Alike}
 use Rattle.rows.specs.declared.maps.Map.{Map}
-use Rattle.rows.proofs.Parts.{get-mem}
 use Rattle.rows.proofs.MapLaws.{few-keys, pairs-counted}
 use Rattle.rows.proofs.ArgumentLaws.{numbers-ascend}
 
@@ -50,7 +49,7 @@ noField = record { letter = start; content = [] }
 each-field : {A : Type 0} (f : Field → A) (P : A → Type 0) (fs : List Field) (d : A) → ((g : Field) → g ∈ fs → P (f g)) → (i : ℕ) → i < length (each f fs) → P (getD (each f fs) i d)
 each-field f P fs d h i l =
     let k : i < length fs = rw length-each at l in
-    rw (getD-each f fs i noField d k) (h (getD fs i noField) (get-mem fs i noField k))
+    rw (getD-each f fs i noField d k) (h (getD fs i noField) (mem-at fs i noField k))
 
 type-small : (types m : ℕ) (l : Option Field) (f : Field) → typeFault types m l f ≡ none → length (numbers (f .content)) ≤ parentLimit
 unfolding typeFault
@@ -151,7 +150,7 @@ module _ {sig : Signature} {s index : List ℕ} {n : ℕ} (w : Indexed sig s ind
   body-passed =
       let l = w .counted in
       structure-bodies sig (blocks letterS (rulePart s .fields)) (rule-parts sig (rulePart s .fields) (w .sound) .1) (blockAt (rulePart s .fields) k)
-      (get-mem (blocks letterS (rulePart s .fields)) k noBlock (omega arith))
+      (mem-at (blocks letterS (rulePart s .fields)) k noBlock (omega arith))
 
   section : (q : ℕ) → 3 ≤ q → q ≤ 7 → {a b letter : ℕ} → 6 * k + q - 1 ≡ a → 6 * k + q ≡ b → letterAt q ≡ letter → Run s (getD index a 0) (getD index b 0) (withLetter letter body)
   section q x y e f g = rw (← e, ← f, ← g) (w .body k h .run q x y)
@@ -196,7 +195,7 @@ module _ {sig : Signature} {s index : List ℕ} {n : ℕ} (w : Indexed sig s ind
   known-at i l =
       let c : length (elementFields s index k) ≡ countAt index k = length-held s index (elementsFrom + fieldLimit * k) (countAt index k) in
       let g : getD (elementFields s index k) i noField ≡ fieldIn s (positionAt index k i) = held-get s index (elementsFrom + fieldLimit * k) (countAt index k) i noField l in
-      rw (← g) (known _ (get-mem (elementFields s index k) i noField (omega arith)))
+      rw (← g) (known _ (mem-at (elementFields s index k) i noField (omega arith)))
 
   pub elements-at : ElementsAt s index k
   unfolding elementIn fieldIn

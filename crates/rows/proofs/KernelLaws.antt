@@ -17,13 +17,13 @@ use Rattle.definition.specs.Names.{numbersOf, variableAt, fiber}
 use Rattle.definition.specs.Rule.{Structure, Pair}
 use Rattle.definition.specs.Rows.{pairsAmong, kernelPairs}
 use Rattle.definition.specs.Signature.{Signature}
-use Rattle.laws.proofs.Lists.{bool-cases, never, and-left, and-right, and-true, or-cases, any-mem, any-true, getD-each, mem-has, each-append}
+use Rattle.laws.proofs.Lists.{bool-cases, never, and-left, and-right, and-true, or-cases, any-mem, any-true, getD-each, mem-has, each-append, mem-at}
 use Rattle.rule.specs.Elements.{Finds}
 use Rattle.rule.specs.declared.elements.Found.the-variants.{At, Nothing}
 use Rattle.rows.specs.Kernel.{KeyVars, KeyTypes, Typed, TypesOf, KeysIn, ImagesIn, SideAt, clash}
 use Rattle.rows.specs.Maps.{pairsIn, pairAt, noPair, MapIn}
 use Rattle.rows.specs.declared.maps.Map.{Map}
-use Rattle.rows.proofs.Parts.{any-append, any-each, get-mem, take-more, store-more}
+use Rattle.rows.proofs.Parts.{any-append, any-each, take-more, store-more}
 use Rattle.rows.proofs.MapLaws.{pairs-many}
 
 -- Whether a test holds of some pair and a later one.
@@ -229,7 +229,7 @@ keys-start source pairs vars = record { same = refl }
 pub key-found : {s : List ℕ} {m : Map} → MapIn s m → {els : List ℕ} → KeysIn els (pairsIn s m) → (p : ℕ) → p < m .pairs → {e : ℕ} → e ≡ pairAt s m p .key → Finds Nothing e els → ⊥
 unfolding pairAt
 key-found {s} {m} h {els} k p l e f =
-    let n = pairs-many h in never (mem-has _ els (k .named _ (get-mem (pairsIn s m) p noPair (omega arith)))) (rw e at (f .is))
+    let n = pairs-many h in never (mem-has _ els (k .named _ (mem-at (pairsIn s m) p noPair (omega arith)))) (rw e at (f .is))
 
 pub keys-next : {s : List ℕ} {m : Map} → MapIn s m → {source : Side} {vars els row : List ℕ} {p e i : ℕ} → KeysDone source (pairsIn s m) vars p → SideAt els row source → p < m .pairs
     → p < length vars → e ≡ pairAt s m p .key → Finds (At i) e els → KeysDone source (pairsIn s m) (set vars p (getD row i 0)) (p + 1)

@@ -12,13 +12,12 @@ use borrow.Author.Tests.{eq-eqb, ne-eqb, ltb-true}
 use Rattle.definition.specs.Base.{firstOf, placeFrom, _∈_}
 use Rattle.definition.specs.Rule.{Pair, keysAscend}
 use Rattle.definition.specs.Rows.{imageOf}
-use Rattle.laws.proofs.Lists.{and-left, and-right, trichotomy}
+use Rattle.laws.proofs.Lists.{and-left, and-right, trichotomy, mem-at}
 use Rattle.laws.proofs.Numbering.{place-in}
 use Rattle.records.specs.Places.{twoAt}
 use Rattle.rule.proofs.PairLaws.{pairs-in-length, pair-in}
 use Rattle.rows.specs.Maps.{pairsIn, pairAt, noPair, MapIn}
 use Rattle.rows.specs.declared.maps.Map.{Map}
-use Rattle.rows.proofs.Parts.{get-mem}
 
 -- Keys that ascend, by their places.
 abbrev keyOf : List Pair → ℕ → ℕ
@@ -135,7 +134,7 @@ few-keys ps els h up named = go (length ps) (omega arith)
     place i = placeFrom 0 (keyOf ps i) els
 
     here : (i : ℕ) → i < length ps → (place i < length els) × (getD els (place i) 0 ≡ keyOf ps i)
-    here i l = place-in (keyOf ps i) els (named (getD ps i noPair) (get-mem ps i noPair l))
+    here i l = place-in (keyOf ps i) els (named (getD ps i noPair) (mem-at ps i noPair l))
 
     rise : (i j : ℕ) → i < j → j < length ps → place i < place j
     rise i j l k = ⊎-elim (λ (z : place i < place j). z)

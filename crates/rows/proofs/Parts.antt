@@ -25,12 +25,6 @@ drop-mem (suc i) [] e = let z : _≡_ {A = ℕ} 0 1 = cc in absurd (omega arith)
 drop-mem zero (y ∷ xs) {x} e = let q : x ≡ y = cc in List·Memᴰ·head q
 drop-mem (suc i) (y ∷ xs) e = List·Memᴰ·tail (drop-mem i xs e)
 
--- What stands at a place is a member.
-pub get-mem : {A : Type 0} (xs : List A) (i : ℕ) (d : A) → i < length xs → getD xs i d ∈ xs
-get-mem [] i d h = absurd (omega arith)
-get-mem (x ∷ xs) zero d h = List·Memᴰ·head refl
-get-mem (x ∷ xs) (suc i) d h = List·Memᴰ·tail (get-mem xs i d (omega arith))
-
 -- A member stands at some place.
 pub mem-place : {A : Type 0} (xs : List A) (d : A) {x : A} → x ∈ xs → (i : ℕ) × (i < length xs) × (getD xs i d ≡ x)
 mem-place [] d m = absurd (List·Memᴰ·not-nil m)

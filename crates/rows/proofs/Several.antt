@@ -22,7 +22,7 @@ use Rattle.definition.specs.Rows.{pairsAmong, kernelPairs}
 use Rattle.definition.specs.Rule.{Structure, Pair}
 use Rattle.definition.specs.Signature.{Signature}
 use Rattle.records.proofs.Lists.{keep-append}
-use Rattle.laws.proofs.Lists.{never, has-mem, mem-has, each-append, trichotomy}
+use Rattle.laws.proofs.Lists.{never, has-mem, mem-has, each-append, trichotomy, mem-at}
 use Rattle.laws.proofs.Numbering.{place-in}
 use Rattle.rule.specs.Elements.{elementNumbers, Elements, Finds}
 use Rattle.rule.specs.declared.elements.Found.the-variants.{At, Nothing}
@@ -34,7 +34,7 @@ use Rattle.rows.specs.declared.maps.Map.{Map}
 use Rattle.rows.proofs.ArgumentLaws.{Ascending, marks-none, mark-at}
 use Rattle.rows.proofs.Ascending.{fiber-one}
 use Rattle.rows.proofs.MapLaws.{pairs-many}
-use Rattle.rows.proofs.Parts.{get-mem, take-more}
+use Rattle.rows.proofs.Parts.{take-more}
 
 -- The keys of an image, with one more pair.
 module _ (ps : List Pair) (q : Pair) (e : ℕ) where
@@ -93,7 +93,7 @@ module _ {s : List ℕ} {m : Map} (h : MapIn s m) {els : List ℕ} {seen merged 
     unfolding pairAt
     image-found target same named f =
         let n = pairs-many h in
-        let i = named .named _ (get-mem (pairsIn s m) p noPair (omega arith)) in
+        let i = named .named _ (mem-at (pairsIn s m) p noPair (omega arith)) in
         never (mem-has _ (numbersOf target) i) (rw (q, ← same) at (f .is))
 
     module _ {i : ℕ} (f : Finds (At i) e els) (up : Ascending els) (a : i < length seen) (b : i < length merged) where

@@ -16,7 +16,7 @@ use Rattle.definition.specs.Rows.{memberRow, sortRows, members, rowStatement, t
 use Rattle.definition.specs.Rule.{Structure, Element}
 use Rattle.definition.specs.Writer.{statementField, fieldBytes, recordBytes}
 use Rattle.laws.proofs.ByteForm.{statementBytes, statements-append}
-use Rattle.laws.proofs.Lists.{each-append, length-each, getD-each}
+use Rattle.laws.proofs.Lists.{each-append, length-each, getD-each, mem-at}
 use Rattle.records.specs.Places.{stretch}
 use Rattle.rule.specs.Elements.{countAt, elementAt, elementNumbers, Finds}
 use Rattle.rule.specs.declared.elements.Found.the-variants.{At}
@@ -24,7 +24,7 @@ use Rattle.rule.proofs.Finding.{search-found}
 use Rattle.rows.specs.Elements.{elementIn, elementsIn, elementFrom, Within}
 use Rattle.rows.specs.Members.{memberIn, memberRows, Below}
 use Rattle.rows.specs.declared.elements.Element as read
-use Rattle.rows.proofs.Parts.{get-mem, store-more, count-in}
+use Rattle.rows.proofs.Parts.{store-more, count-in}
 use Rattle.rows.proofs.ElementLaws.{noElement, element-is, elements-on}
 use Rattle.rows.proofs.Kept.{member-last, members-are}
 use Rattle.rows.proofs.OrderLaws.{below-at}
@@ -68,7 +68,7 @@ module _ {s index : List ℕ} {k : ℕ} (w : Stands s index k) {i : ℕ} (h : i 
   st = structureIn s k
 
   element-mem : elementIn s index k i ∈ st .elements
-  element-mem = rw (← (element-get l i h)) (get-mem (st .elements) i noElement (rw (elements-are l) h))
+  element-mem = rw (← (element-get l i h)) (mem-at (st .elements) i noElement (rw (elements-are l) h))
 
   found-own : Finds (At i) (elementIn s index k i .number) (elementNumbers s index k)
   found-own = let e : elementAt s index k i ≡ elementIn s index k i .number = ap (λ (x : Element). x .number) (element-is (l .elements) i h) in search-found (l .elements .elements) _ i h e

@@ -15,13 +15,12 @@ use Rattle.definition.specs.Names.{numbersOf, fiber}
 use Rattle.definition.specs.Rows.{pairsAmong, kernelPairs}
 use Rattle.definition.specs.Rule.{Pair}
 use Rattle.definition.specs.Signature.{Signature}
-use Rattle.laws.proofs.Lists.{mem-keep, mem-each, each-append, getD-each, length-each, joined-same}
+use Rattle.laws.proofs.Lists.{mem-keep, mem-each, each-append, getD-each, length-each, joined-same, mem-at}
 use Rattle.rule.specs.Elements.{elementNumbers}
 use Rattle.rule.proofs.Finding.{numbers-length}
 use Rattle.rows.specs.Kernel.{TypesOf, KeysIn, SideAt}
 use Rattle.rows.specs.Maps.{pairsIn}
 use Rattle.rows.specs.declared.maps.Map.{Map}
-use Rattle.rows.proofs.Parts.{get-mem}
 use Rattle.naming.specs.Maps.{Joins}
 use Rattle.naming.specs.Structures.{structureIn, Laid}
 use Rattle.naming.specs.Variables.{GivenOut}
@@ -62,7 +61,7 @@ module _ {s : List ℕ} {m : Map} {src size : ℕ} {row : List ℕ} (j : KeysGiv
           let k : length (take count vars) ≡ length (fiber (pairsIn s m) e) = ap length q ∙ length-each (variableIn (sideIn s src row)) (fiber (pairsIn s m) e) in
           let v : getD vars i 0 ≡ variableIn (sideIn s src row) (getD (fiber (pairsIn s m) e) i 0) =
           sym (getD-take count vars i 0 l) ∙ rw q (getD-each (variableIn (sideIn s src row)) (fiber (pairsIn s m) e) i 0 0 (omega arith)) in
-          rw v (fiber-below e (getD (fiber (pairsIn s m) e) i 0) (get-mem (fiber (pairsIn s m) e) i 0 (omega arith)))
+          rw v (fiber-below e (getD (fiber (pairsIn s m) e) i 0) (mem-at (fiber (pairsIn s m) e) i 0 (omega arith)))
 
 -- The Equalities of pairs of keys.
 module _ {types : List ℕ} {table : List Variable} (t : TypesOf table types) (variable : ℕ → ℕ) where

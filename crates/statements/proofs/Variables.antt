@@ -12,7 +12,7 @@ use Rattle.definition.specs.Names.{numbersOf, variableAt}
 use Rattle.definition.specs.Records.{numbers}
 use Rattle.definition.specs.Rule.{Structure}
 use Rattle.definition.specs.Writer.{twoBytes, numberBytes, statementField, fieldBytes}
-use Rattle.laws.proofs.Lists.{never, mem-has, each-append, length-each, getD-each}
+use Rattle.laws.proofs.Lists.{never, mem-has, each-append, length-each, getD-each, mem-at}
 use Rattle.laws.proofs.Numbers.{length-numbers-written}
 use Rattle.records.specs.Places.{twoAt, stretch}
 use Rattle.records.specs.Buffer.{Put}
@@ -21,7 +21,7 @@ use Rattle.records.proofs.Tail.{then}
 use Rattle.rule.specs.Elements.{elementNumbers, Finds}
 use Rattle.rule.specs.declared.elements.Found.the-variants.{At, Nothing}
 use Rattle.rule.proofs.Finding.{numbers-length}
-use Rattle.rows.proofs.Parts.{get-mem, take-more, store-more, count-in, element-in}
+use Rattle.rows.proofs.Parts.{take-more, store-more, count-in, element-in}
 use Rattle.naming.specs.Structures.{structureIn, Laid}
 use Rattle.naming.proofs.Placed.{elements-are, numbers-are}
 use Rattle.statements.specs.Parts.{statementHead, variableBy, NamedIn}
@@ -50,7 +50,7 @@ module _ {s index : List ℕ} {k : ℕ} (l : Laid s index k) (start count : ℕ)
   pub named-at : {A : Type 0} → NamedIn (structureIn s k) (numbers (stretch s start (2 * count))) → Finds Nothing (twoAt s (start + 2 * i)) (elementNumbers s index k) → A
   named-at n f =
       let c = count-in s start count h in
-      not-absent l (n .named _ (get-mem (numbers (stretch s start (2 * count))) i 0 (omega arith))) (rw (element-in s start count h i b) f)
+      not-absent l (n .named _ (mem-at (numbers (stretch s start (2 * count))) i 0 (omega arith))) (rw (element-in s start count h i b) f)
 
   pub take-next : {row vars : List ℕ} {j : ℕ} → count ≤ columnLimit → Taking (structureIn s k) row (numbers (stretch s start (2 * count))) vars i
       → Finds (At j) (twoAt s (start + 2 * i)) (elementNumbers s index k) → Taking (structureIn s k) row (numbers (stretch s start (2 * count))) (set vars i (getD row j 0)) (i + 1)

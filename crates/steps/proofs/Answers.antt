@@ -18,7 +18,7 @@ use Rattle.definition.specs.Rule as Rule
 use Rattle.definition.specs.Rule.{Structure, Element, Pair, If, SurjThen, Noop}
 use Rattle.definition.specs.Rows.{members, typeSets, given, inImage, constrained}
 use Rattle.definition.specs.Signature.{Signature}
-use Rattle.laws.proofs.Lists.{lowest-none, length-each, getD-each}
+use Rattle.laws.proofs.Lists.{lowest-none, length-each, getD-each, mem-at}
 use Rattle.laws.proofs.StepForm.{stepFault}
 use Rattle.records.specs.Places.{Run}
 use Rattle.rule.specs.Elements.{countAt, elementNumbers}
@@ -29,7 +29,6 @@ use Rattle.rows.specs.Members.{memberRows}
 use Rattle.rows.specs.declared.maps.Map.{Map}
 use Rattle.rows.proofs.ElementLaws.{noElement}
 use Rattle.rows.proofs.MapLaws.{pairs-many}
-use Rattle.rows.proofs.Parts.{get-mem}
 use Rattle.rows.proofs.Whole.{kinds-sound, unmapped-parts, added-parts, free-parts}
 use Rattle.naming.specs.Maps.{Joins}
 use Rattle.naming.specs.Structures.{structureIn, Laid}
@@ -63,7 +62,7 @@ keys-typed {s} {vars} {source} {src} {size = size} {m = m} w j g v = record { be
         let h : p < length (pairsIn s m) = omega arith in
         let e : getD vars p 0 ≡ variableIn (sideIn s src source) (getD (pairsIn s m) p noPair .key) =
         sym (getD-take (length (pairsIn s m)) vars p 0 h) ∙ rw (v .same) (getD-each (λ (q : Pair). variableIn (sideIn s src source) (q .key)) (pairsIn s m) p noPair 0 h) in
-        rw e (g .below (getD (pairsIn s m) p noPair .key) (j .keys .named (getD (pairsIn s m) p noPair) (get-mem (pairsIn s m) p noPair h)))
+        rw e (g .below (getD (pairsIn s m) p noPair .key) (j .keys .named (getD (pairsIn s m) p noPair) (mem-at (pairsIn s m) p noPair h)))
 
 -- 25 and 26.
 module _ (sig : Signature) (table : List Variable) {s : List ℕ} {src tgt : ℕ} {m : Map} (source target : List ℕ) {index : List ℕ} {marks : List Bool} where

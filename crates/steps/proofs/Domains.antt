@@ -16,7 +16,7 @@ use Rattle.definition.specs.Records.{Field, numbers}
 use Rattle.definition.specs.Rule.{NonSurjThen, rowOf}
 use Rattle.definition.specs.Rows.{members, lastElement, typeSets, given, inImage}
 use Rattle.definition.specs.Signature.{Signature}
-use Rattle.laws.proofs.Lists.{each-mem}
+use Rattle.laws.proofs.Lists.{each-mem, mem-at}
 use Rattle.laws.proofs.StepForm.{rowFault, newFault, stepFault, rowFor, own, conclusions}
 use Rattle.records.specs.Places.{twoAt, stretch, Run}
 use Rattle.records.proofs.Numbers.{length-numbers, take-numbers, take-stretch}
@@ -26,7 +26,7 @@ use Rattle.rule.proofs.Finding.{numbers-get}
 use Rattle.rows.specs.Maps.{pairsIn}
 use Rattle.rows.specs.Table.{rowIn}
 use Rattle.rows.specs.declared.maps.Map.{Map}
-use Rattle.rows.proofs.Parts.{get-mem, count-in}
+use Rattle.rows.proofs.Parts.{count-in}
 use Rattle.naming.specs.Structures.{structureIn}
 use Rattle.naming.specs.Variables.{keptIn}
 use Rattle.naming.proofs.Placed.{numbers-are}
@@ -97,7 +97,7 @@ module _ (s : List ℕ) (start len : ℕ) (within : start + len ≤ length s) (l
       → (d : ℕ) → d ∈ numbers (stretch s (start + 2) (2 * (len / 2 - 2))) → d ∈ elementNumbers s index k
   arguments-named {k = k} {place} w q e d m =
       let v = rw e at q in
-      let r : rowIn s function (twoAt s start) (start + 2) (len / 2 - 1) ∈ structureIn s k .funcRows = rw (v .is .1) at (get-mem (structureIn s k .funcRows) place noRow (v .is .0)) in
+      let r : rowIn s function (twoAt s start) (start + 2) (len / 2 - 1) ∈ structureIn s k .funcRows = rw (v .is .1) at (mem-at (structureIn s k .funcRows) place noRow (v .is .0)) in
       let n = w .sound .funcs-sound _ r .2 .elements-in d (butlast-mem (numbers (stretch s (start + 2) (2 * (len / 2 - 1)))) (rw arguments-are m)) in
       rw (numbers-are (w .laid)) at n
 

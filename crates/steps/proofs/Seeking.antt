@@ -13,7 +13,7 @@ use Rattle.definition.specs.Letters.{start}
 use Rattle.definition.specs.Records.{Field, numbers}
 use Rattle.definition.specs.Rule.{Row, rowOf}
 use Rattle.definition.specs.Rows.{lastElement}
-use Rattle.laws.proofs.Lists.{length-each, getD-each, mem-has, never}
+use Rattle.laws.proofs.Lists.{length-each, getD-each, mem-has, never, mem-at}
 use Rattle.records.specs.Places.{twoAt, stretch, fieldAt, fieldOf}
 use Rattle.records.specs.declared.fields.Field.the-variants.{Got}
 use Rattle.records.proofs.Along.{allFrom, all-no, all-on, all-end}
@@ -26,7 +26,7 @@ use Rattle.rule.specs.declared.elements.Found.the-variants.{At, Nothing}
 use Rattle.rule.proofs.Letters.{place-get}
 use Rattle.rows.specs.Table.{rowIn}
 use Rattle.rows.proofs.Kept.{flag-at}
-use Rattle.rows.proofs.Parts.{apart, count-in, element-in, get-mem}
+use Rattle.rows.proofs.Parts.{apart, count-in, element-in}
 use Rattle.rows.proofs.Sections.{Passed, RowHere, next-field, row-is}
 use Rattle.steps.specs.Yielding.{ResultRows, yieldsOf, noRow, Yields}
 use Rattle.steps.specs.declared.yielding.Yielding.the-variants as yielding
@@ -106,7 +106,7 @@ module _ (p : ℕ → Bool) (flags : List Bool) (els : List ℕ) {n : ℕ} (c : 
     pub all-named : {A : Type 0} → ((e : ℕ) → e ∈ (numbers (stretch s from (2 * count))) → e ∈ els) → Finds Nothing (twoAt s (from + 2 * j)) els → A
     all-named named w =
         let c = count-in s from count inside in
-        let m : getD (numbers (stretch s from (2 * count))) j 0 ∈ els = named (getD (numbers (stretch s from (2 * count))) j 0) (get-mem (numbers (stretch s from (2 * count))) j 0 (omega arith)) in
+        let m : getD (numbers (stretch s from (2 * count))) j 0 ∈ els = named (getD (numbers (stretch s from (2 * count))) j 0) (mem-at (numbers (stretch s from (2 * count))) j 0 (omega arith)) in
         never (mem-has (twoAt s (from + 2 * j)) els (rw here at m)) (w .is)
 
 pub all-done : (p : ℕ → Bool) (s : List ℕ) (from count j : ℕ) → from + 2 * count ≤ length s → count ≤ j → allFrom p (numbers (stretch s from (2 * count))) j ≡ true

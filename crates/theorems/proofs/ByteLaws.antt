@@ -17,7 +17,7 @@ use Rattle.definition.specs.Signature.{Signature, symbolCount}
 use Rattle.definition.specs.Group.{Variable, Statement, FlatRule, Group, premiseKinds, conclusionKinds}
 use Rattle.definition.specs.Writer.{twoBytes, numberBytes, fieldBytes, recordBytes, variableField, statementField, flatRuleFields, groupFields, groupBytesOf}
 use Rattle.laws.proofs.Lists.{and-right, mem-each, mem-joined, all-mem}
-use Rattle.laws.proofs.Good.{GoodName, GoodStatement, GoodVariable, GoodRule, GoodGroup}
+use Rattle.theorems.proofs.Good.{GoodName, GoodStatement, GoodVariable, GoodRule, GoodGroup}
 use Rattle.laws.proofs.NameLaws.{fine}
 
 -- The two bytes of a number below 65,536.

@@ -1,6 +1,8 @@
 -- Theorems about the definition.
 pub mod ByteLaws
 pub mod FieldLaws
+pub mod Good
+pub mod GoodRows
 pub mod PlaceLaws
 pub mod ReadBack
 pub mod ReadingRefusals

@@ -17,7 +17,7 @@ use Rattle.definition.specs.Signature.{Signature, symbolCount, typeParents, nam
 use Rattle.definition.specs.Group.{Variable, Statement, FlatRule, Group, groupGrammar, variableOf, statementOf, premiseKinds, conclusionKinds, titleFault, variableFault, flatRuleFault, badColumns, statementFault, flatRulesFault, groupFault, flatRuleOf, groupOf, titleField, groupPart, readGroup}
 use Rattle.definition.specs.Writer.{numberBytes, variableField, statementField, flatRuleFields, groupFields, groupBytesOf}
 use Rattle.laws.proofs.Lists.{mem-has, mem-all, length-each}
-use Rattle.laws.proofs.Good.{GoodStatement, GoodVariable, GoodRule, GoodGroup}
+use Rattle.theorems.proofs.Good.{GoodStatement, GoodVariable, GoodRule, GoodGroup}
 use Rattle.laws.proofs.Numbers.{numbers-front, numbers-written, length-numbers-written, fields-written}
 use Rattle.theorems.proofs.FieldLaws.{with-append, with-each, with-each-none, with-joined-none, each-back, Steps, placed-whole, steps-each, upto-skip, blocks-skip, faults-none}
 

@@ -18,11 +18,13 @@ use Rattle.definition.specs.Names.{numbersOf, fiber}
 use Rattle.definition.specs.Rows.{memberRow, rowsOf, lastElement, rowStatement, typeSets, pairImage, imageOf, inImage, given, imageRow, sameRow, newRows, pairsAmong, kernelPairs, arguments, constrained}
 use Rattle.definition.specs.Kinds.{Side, variableIn, Emitted, Step, unless, typeIn, kernelVariables, equalities, rowUnmapped, newElements, addedRows, constrainedMember, freeElements, ifStatements, surjConclusion, yields, yieldingRow, domainStatement, domainStep, nonSurjStep, ifStep, surjStep, mapStep}
 use Rattle.definition.specs.Demands.{Occurs}
+use Rattle.laws.proofs.Fibers.{kernel-in}
 use Rattle.laws.proofs.Lists.{and-left, and-right, not-false, not-and-right, never, bool-cases, mem-keep, keep-mem, mem-each, each-mem, mem-joined, any-mem, any-false, none-any, all-mem, has-mem, lowest-none, first-mem, picked}
-use Rattle.laws.proofs.Good.{GoodStatement}
+use Rattle.theorems.proofs.Good.{GoodStatement}
 use Rattle.laws.proofs.Sound.{SoundStructure}
 use Rattle.laws.proofs.Numbering.{last-mem, last-none}
-use Rattle.laws.proofs.RowLaws.{premise-three, conclusion-three, pred-in, func-in, member-in, mem-members, in-number, row-elements, row-good, domain-good, type-set-good, but-last-mem}
+use Rattle.laws.proofs.RowLaws.{pred-in, func-in, member-in, mem-members, in-number, row-elements, but-last-mem}
+use Rattle.theorems.proofs.GoodRows.{premise-three, conclusion-three, row-good, domain-good, type-set-good}
 
 -- What is known of a map when it is walked: its sides, and the source's statements over so many variables.
 pub record MapFacts (sig : Signature) (table : List Variable) (source target : Side) (pairs : List Pair) (statements : List Statement) (count : ℕ) : Type 0 where
@@ -61,26 +63,6 @@ occurs-right xs ys o = (o .0, Memᴰ·append-right xs (o .1), o .2)
 pub row-occurs : (variable : ℕ → ℕ) (rs : List Row) {r : Row} {e : ℕ} → r ∈ rs → e ∈ r .elements → Occurs (variable e) (each (rowStatement variable) rs)
 unfolding rowStatement
 row-occurs variable rs {r} m i = (rowStatement variable r, each-mem (rowStatement variable) rs m, each-mem variable (r .elements) i)
-
--- Keys of a fiber, and pairs among them.
-among-in : (ks : List ℕ) {p : Pair} → p ∈ pairsAmong ks → (p .key ∈ ks) × (p .image ∈ ks)
-unfolding pairsAmong
-among-in [] m = absurd (List·Memᴰ·not-nil m)
-among-in (k ∷ ks) {p} m = ⊎-elim
-    (λ a. let r = mem-each (λ (l : ℕ). record { key = k; image = l }) ks a in (List·Memᴰ·head (ap (λ (x : Pair). x .key) (r .2)), List·Memᴰ·tail (Memᴰ·cast (ap (λ (x : Pair). x .image) (r .2)) (r .1))))
-    (λ b. let r = among-in ks b in (List·Memᴰ·tail (r .0), List·Memᴰ·tail (r .1)))
-    (List·Memᴰ·append-cases (each (λ (l : ℕ). record { key = k; image = l }) ks) m)
-
-fiber-in : (pairs : List Pair) (e : ℕ) {k : ℕ} → k ∈ fiber pairs e → (p : Pair) × (p ∈ pairs) × (k ≡ p .key)
-unfolding fiber
-fiber-in pairs e m = let r = mem-each (λ (p : Pair). p .key) _ m in (r .0, mem-keep _ pairs (r .1) .0, r .2)
-
-pub kernel-in : (pairs : List Pair) (st : Structure) {p : Pair} → p ∈ kernelPairs pairs st
-    → (a : Pair) × (b : Pair) × (a ∈ pairs) × (b ∈ pairs) × (p .key ≡ a .key) × (p .image ≡ b .key)
-unfolding kernelPairs
-kernel-in pairs st m =
-    let j = mem-joined (λ (e : ℕ). pairsAmong (fiber pairs e)) (numbersOf st) m in let w = among-in (fiber pairs (j .0)) (j .2) in
-    let a = fiber-in pairs (j .0) (w .0) in let b = fiber-in pairs (j .0) (w .1) in (a .0, b .0, a .1, b .1, a .2, b .2)
 
 -- The image of an element that has one is an image.
 image-in : (pairs : List Pair) (e : ℕ) → given (imageOf pairs e) ≡ true → inImage pairs (orDefault (imageOf pairs e) 0) ≡ true

@@ -19,7 +19,7 @@ use Rattle.definition.specs.Walk.{State, Reached, structureAt, initialState, wa
 use Rattle.definition.specs.Writer.{groupBytesOf}
 use Rattle.definition.specs.Flatten.{groupLeft, fitted, flattenOf}
 use Rattle.definition.specs.Demands.{IsReached, Occurs, Bound, ExactKeys, NoTrailingDigit, endsInDigit, variablesAt, variableGot, printedName, DifferentNames, Demand3}
-use Rattle.laws.proofs.Good.{GoodGroup}
+use Rattle.theorems.proofs.Good.{GoodGroup}
 use Rattle.laws.proofs.Sound.{SoundRule, sound-signature}
 use Rattle.laws.proofs.SoundRule.{sound-rule}
 use Rattle.laws.proofs.NameLaws.{name-tells}

@@ -22,12 +22,13 @@ use Rattle.definition.specs.Rows.{rowsOf, rowStatement, typeSets}
 use Rattle.definition.specs.Kinds.{Side, variableIn, Emitted, Step, initialStatements}
 use Rattle.definition.specs.Walk.{State, Reached, structureAt, noStructure, groupName, anonymousRule, namedRules, sideOf, reach, untouched, nothingTaken, initialState}
 use Rattle.definition.specs.Demands.{Occurs, Bound}
-use Rattle.laws.proofs.Lists.{bool-cases, keep-mem, mem-each, each-mem, length-each, first-mem, picked}
-use Rattle.laws.proofs.Good.{GoodName, GoodStatement, GoodVariable, GoodRule}
+use Rattle.laws.proofs.Lists.{bool-cases, keep-mem, mem-each, each-mem, length-each, first-mem, picked, mem-at}
+use Rattle.theorems.proofs.Good.{GoodName, GoodStatement, GoodVariable, GoodRule}
 use Rattle.laws.proofs.Sound.{SoundStructure, SoundRule}
 use Rattle.laws.proofs.NameLaws.{Fine, fine, not-bad, fine-append, fine-within, fine-decimal}
 use Rattle.laws.proofs.Numbering.{fresh, fresh-few, new-length, new-at, new-mem, variable-taken, variable-new, new-differ}
-use Rattle.laws.proofs.RowLaws.{premise-three, member-in, mem-members, in-number, row-good, type-set-good}
+use Rattle.laws.proofs.RowLaws.{member-in, mem-members, in-number}
+use Rattle.theorems.proofs.GoodRows.{premise-three, row-good, type-set-good}
 use Rattle.theorems.proofs.StepLaws.{StepGood, member-lists, occurs-left, occurs-right, row-occurs}
 
 -- A base of names: `el`, or a V or I name of a structure.
@@ -162,12 +163,6 @@ unfolding badName all
 rule-name-good sig rule sound k = not-bad 1 groupNameBytes _ (fine-within _
     (fine-append (groupName rule) ((underscore ∷ []) ++ decimal k) (group-fine sig rule sound) (fine-append (underscore ∷ []) (decimal k) (fine 1 1 (underscore ∷ []) refl) (fine-decimal k)))
     (omega arith) (omega arith))
-
--- A member at a place.
-pub mem-at : {A : Type 0} (xs : List A) (i : ℕ) (d : A) → i < length xs → getD xs i d ∈ xs
-mem-at [] i d h = absurd (omega arith)
-mem-at (x ∷ xs) zero d h = List·Memᴰ·head refl
-mem-at (x ∷ xs) (suc i) d h = List·Memᴰ·tail (mem-at xs i d (omega arith))
 
 -- What elements may take over: variables given out, none twice.
 pub record Taken (rule : Rule) (state : State) (t : ℕ) (taken : ℕ → Option ℕ) : Type 0 where
