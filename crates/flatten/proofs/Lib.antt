@@ -1,17 +1,1 @@
-pub mod Growing
-pub mod Walkable
-pub mod Reaching
-pub mod Stepping
-pub mod Mapping
-pub mod Folding
-pub mod Starting
-pub mod Numbers
-pub mod Going
-pub mod Doing
-pub mod Premises
-pub mod Ending
-pub mod Ruling
-pub mod Measuring
-pub mod Groups
-pub mod Grounds
 pub mod Writing

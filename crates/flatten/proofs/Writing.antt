@@ -25,11 +25,11 @@ use Rattle.reading.specs.Verdicts.{ruleRead}
 use Rattle.reading.specs.declared.RuleReading.{RuleReading}
 use Rattle.reading.specs.declared.RuleReading.the-variants as reading
 use Rattle.kinds.specs.Table.{Tabled}
-use Rattle.flatten.specs.Tables.{Tables}
-use Rattle.flatten.specs.Ended.{Ground, Ended}
-use Rattle.flatten.specs.Went.{wholeWalk, Walks}
-use Rattle.flatten.specs.Answers.{outcomeOf, sizeOf, Demanded, Writes, Untyped, Readable, ruleOutcome, numberIn}
-use Rattle.flatten.proofs.Grounds.{AllMapped}
+use Rattle.walk.specs.Tables.{Tables}
+use Rattle.walk.specs.Ended.{Readable, Ground, Ended}
+use Rattle.walk.specs.Went.{wholeWalk, Walks}
+use Rattle.flatten.specs.Answers.{outcomeOf, sizeOf, Demanded, Writes, Untyped, ruleOutcome, numberIn}
+use Rattle.walk.proofs.Grounds.{AllMapped}
 use Rattle.flatten.specs.declared.entry.Flattened.{Flattened}
 use Rattle.flatten.specs.declared.entry.Flattened.the-variants.{Written, Refused}
 

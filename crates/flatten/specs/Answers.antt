@@ -5,22 +5,16 @@ use Prim.Native.Nat.{ℕ, _*_, _≤_}
 use lib.ListN.{length, take, drop, replicate}
 use Rattle.definition.specs.Base.{Outcome, refused, accepted, onAccepted}
 use Rattle.definition.specs.Limits.{fieldLimit}
-use Rattle.definition.specs.Signature.{Signature, readSignature}
-use Rattle.definition.specs.Rule.{readRule}
+use Rattle.definition.specs.Signature.{Signature}
 use Rattle.definition.specs.Walk.{State, walkOf}
 use Rattle.definition.specs.Writer.{groupBytesOf}
 use Rattle.definition.specs.Flatten.{groupLeft, fitted}
 use Rattle.definition.specs.Demands.{Demand3}
-use Rattle.signature.specs.Index.{signatureAt, Indexed}
-use Rattle.signature.specs.declared.ids.Counts.{Counts}
-use Rattle.rule.specs.Answers as rule
 use Rattle.rule.specs.Lookup.{ruleAt}
 use Rattle.reading.specs.declared.RuleReading.{RuleReading}
 use Rattle.reading.specs.declared.RuleReading.the-variants as reading
 use Rattle.flatten.specs.declared.entry.Flattened.{Flattened}
 use Rattle.flatten.specs.declared.entry.Flattened.the-variants.{Written, Refused}
-use Rattle.flatten.specs.declared.walk.Walked.{Walked}
-use Rattle.flatten.specs.declared.walk.Walked.the-variants as walked
 
 -- The bytes at the front of the buffer, or the number.
 abbrev pub outcomeOf : Flattened → List ℕ → Outcome (List ℕ)
@@ -43,13 +37,6 @@ pub record Writes (r : Flattened) (out₀ out : List ℕ) (o : Outcome (List ℕ
   pub fits : sizeOf r ≤ length out
   pub rest : drop (sizeOf r) out ≡ drop (sizeOf r) out₀
 
--- A signature and a rule that were accepted, with their indexes.
-pub record Readable (sig arities : List ℕ) (counts : Counts) (s index : List ℕ) (n : ℕ) : Type 0 where
-  pub signature-read : readSignature sig ≡ accepted (signatureAt sig arities counts)
-  pub signature-indexed : Indexed sig arities counts
-  pub rule-read : readRule (signatureAt sig arities counts) s ≡ accepted (ruleAt s)
-  pub rule-indexed : rule.Indexed (signatureAt sig arities counts) s index n
-
 -- A table of types before any variable is given out, with a place for each element of so many structures.
 pub record Untyped (types : List ℕ) (n : ℕ) : Type 0 where
   pub size : ℕ
@@ -60,11 +47,7 @@ pub record Untyped (types : List ℕ) (n : ℕ) : Type 0 where
 unfoldable pub ruleOutcome : Signature → List ℕ → ℕ → Outcome (List ℕ)
 ruleOutcome sig s room = onAccepted (walkOf sig (ruleAt s)) (λ (state : State). fitted room (groupBytesOf (groupLeft (ruleAt s) state)))
 
--- The numbers of a refused walk and of a refused reading.
-abbrev pub stopIn : Walked → ℕ
-stopIn walked.On = 0
-stopIn (walked.Refused n) = n
-
+-- The number of a refused reading.
 abbrev pub numberIn : RuleReading → ℕ
 numberIn (reading.Sound counts n) = 0
 numberIn (reading.Refused n) = n

@@ -1,7 +1,7 @@
 use Prim.Native.Nat.{_*_}
 use mathlib.Core.Path.{refl, sym}
 use Rattle.flatten.proofs.Writing.{untyped, unread, readable, flatten-read, all-said}
-use Rattle.flatten.proofs.Grounds.{structures-within}
+use Rattle.walk.proofs.Grounds.{structures-within}
 use Rattle.definition.specs.Limits.{fieldLimit, variableLimit}
 use borrow.Author.Needs.{needs}
 use native.Mathlib.Omega.{arith}

@@ -1,7 +1,7 @@
 use mathlib.Core.Path.{refl, sym, _∙_}
 use Rattle.signature.specs.Index.{signatureAt}
-use Rattle.flatten.specs.Ended.{Ground}
-use Rattle.flatten.proofs.Grounds.{AllMapped, ready, counted, ground}
+use Rattle.walk.specs.Ended.{Ground}
+use Rattle.walk.proofs.Grounds.{AllMapped, ready, counted, ground}
 use Rattle.flatten.proofs.Writing.{ended, ended-writes, refused-at-once, refused-21, refused-22, stopped-walk}
 use Rattle.kinds.proofs.TableLaws.{empty-table}
 use borrow.Author.Needs.{needs}

@@ -1,0 +1,12 @@
+pub mod Doing
+pub mod Ending
+pub mod Folding
+pub mod Going
+pub mod Grounds
+pub mod Growing
+pub mod Mapping
+pub mod Numbers
+pub mod Reaching
+pub mod Starting
+pub mod Stepping
+pub mod Walkable

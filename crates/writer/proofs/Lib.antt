@@ -1,0 +1,4 @@
+pub mod Groups
+pub mod Measuring
+pub mod Premises
+pub mod Ruling

@@ -1,0 +1,154 @@
+// The rules of a group as bytes: a name, a premise, a conclusion.
+ghost use mathlib.Core.List.{List, [], _∷_};
+ghost use mathlib.Core.Path.{_≡_};
+ghost use Prim.Native.Nat.{_≤_, _<_};
+ghost use lib.ListN.{length, getD};
+ghost use Rattle.definition.specs.Base.{joined};
+ghost use Rattle.definition.specs.Group as definition;
+ghost use Rattle.definition.specs.Letters.{letterH};
+ghost use Rattle.definition.specs.Writer.{recordBytes, flatRuleFields};
+ghost use Rattle.definition.specs.Limits.{structureLimit};
+ghost use Rattle.laws.proofs.ByteForm.{statementBytes};
+ghost use Rattle.records.specs.Buffer.{Put, countLimit};
+ghost use Rattle.rule.specs.Lookup.{ruleAt};
+ghost use Rattle.walk.specs.Tables.{tables, concludedAt, emittedRule};
+ghost use Rattle.walk.specs.Ended.{Ended, Reaching, Emits};
+use crate::premise::put_both;
+use crate::premise::put_premise;
+use crate::premise::reached_by;
+use walk::tables::SORTS;
+use walk::tables::UNREACHED;
+use walk::tables::place;
+use kinds::table::NON_SURJ_THEN;
+use kinds::table::SURJ_THEN;
+use naming::writer::put_rule_name;
+use naming::writer::rule_name_length;
+use records::write::put_field_head;
+use rule::ids::FIELDS;
+use rule::ids::RULE_INDEX;
+use rule::ids::STRUCTURES;
+use statements::writer::put_domains;
+
+const LETTER_U: u8 = b'U';
+
+// Does the map that reached a structure emit a rule? SurjThen does; NonSurjThen does where it has a new element.
+pub fn emits(kinds: &[[u8; STRUCTURES]; STRUCTURES], sources: &[u8; STRUCTURES], masks: &[[u64; SORTS]; STRUCTURES], t: usize) -> bool
+    requires { ⌜ (t < structureLimit) × (getD (now sources) t 0 < structureLimit) ⌝ }
+    ensures { λ r. ⌜ Emits r (now (kinds .entry)) (now (sources .entry)) (now (masks .entry)) t ⌝ }
+{
+    let kind = reached_by(kinds, sources, t);
+    if kind == SURJ_THEN {
+        return true;
+    }
+    if kind == NON_SURJ_THEN {
+        let row = masks[t];
+        return row[1] != 0;
+    }
+    false
+}
+
+// The conclusion of the rule that a structure's map emits.
+pub fn put_conclusion(
+    out: &mut [u8],
+    from: usize,
+    s: &[u8],
+    index: &[u16; RULE_INDEX],
+    kinds: &[[u8; STRUCTURES]; STRUCTURES],
+    sources: &[u8; STRUCTURES],
+    masks: &[[u64; SORTS]; STRUCTURES],
+    vars: &[[u16; FIELDS]; STRUCTURES],
+    types: &[u8],
+    t: usize,
+) -> usize
+    requires { ⌜ from ≤ countLimit ⌝ }
+    requires { ⌜ Ended (now s) (now index) (now types) (now kinds) (tables (now sources) (now masks) (now vars)) ⌝ }
+    requires { ⌜ Reaching (now s) (tables (now sources) (now masks) (now vars)) t ⌝ }
+    ensures { λ r. ⌜ ((e : Ended (now (s .entry)) (now (index .entry)) (now (types .entry)) (now (kinds .entry)) (tables (now (sources .entry)) (now (masks .entry)) (now (vars .entry))))
+        (conclusion : List definition.Statement)
+        → concludedAt (e .sig) (e .state .variables) (now (s .entry)) (tables (now (sources .entry)) (now (masks .entry)) (now (vars .entry))) t ≡ conclusion ∷ []
+        → Put (now (out .entry)) (now (out .exit)) (statementBytes letterH conclusion) from r) ⌝ }
+    ensures { λ r. ⌜ r ≤ countLimit ⌝ }
+{
+    let kind = reached_by(kinds, sources, t);
+    if kind == SURJ_THEN {
+        return put_both(
+            out,
+            from,
+            b'H',
+            s,
+            index,
+            kinds,
+            sources,
+            masks,
+            vars,
+            types,
+            t,
+        );
+    }
+    let row = masks[t];
+    put_domains(out, from, b'H', s, index, t, &vars[t], row[1])
+}
+
+// A rule: its name, the statements of the map's source, and the conclusion.
+fn put_rule(
+    out: &mut [u8],
+    from: usize,
+    s: &[u8],
+    index: &[u16; RULE_INDEX],
+    kinds: &[[u8; STRUCTURES]; STRUCTURES],
+    sources: &[u8; STRUCTURES],
+    masks: &[[u64; SORTS]; STRUCTURES],
+    vars: &[[u16; FIELDS]; STRUCTURES],
+    types: &[u8],
+    t: usize,
+    count: u16,
+) -> usize
+    requires { ⌜ (from ≤ countLimit) × (0 < t) ⌝ }
+    requires { ⌜ Ended (now s) (now index) (now types) (now kinds) (tables (now sources) (now masks) (now vars)) ⌝ }
+    requires { ⌜ Reaching (now s) (tables (now sources) (now masks) (now vars)) t ⌝ }
+    ensures { λ r. ⌜ ((e : Ended (now (s .entry)) (now (index .entry)) (now (types .entry)) (now (kinds .entry)) (tables (now (sources .entry)) (now (masks .entry)) (now (vars .entry))))
+        (conclusion : List definition.Statement)
+        → concludedAt (e .sig) (e .state .variables) (now (s .entry)) (tables (now (sources .entry)) (now (masks .entry)) (now (vars .entry))) t ≡ conclusion ∷ []
+        → Put (now (out .entry)) (now (out .exit)) (recordBytes (flatRuleFields (emittedRule (now (s .entry)) (e .state .slots) (tables (now (sources .entry)) (now (masks .entry)) (now (vars .entry))) t count conclusion))) from r) ⌝ }
+    ensures { λ r. ⌜ r ≤ countLimit ⌝ }
+{
+    let head = put_field_head(out, from, LETTER_U, rule_name_length(s, count));
+    let named = put_rule_name(out, head, s, count);
+    let u = place(sources[t]);
+    let said = put_premise(out, named, s, index, kinds, sources, masks, vars, types, u);
+    put_conclusion(out, said, s, index, kinds, sources, masks, vars, types, t)
+}
+
+// The rules, in the order of the structures that they reach.
+pub fn put_rules(
+    out: &mut [u8],
+    from: usize,
+    s: &[u8],
+    index: &[u16; RULE_INDEX],
+    n: usize,
+    kinds: &[[u8; STRUCTURES]; STRUCTURES],
+    sources: &[u8; STRUCTURES],
+    masks: &[[u64; SORTS]; STRUCTURES],
+    vars: &[[u16; FIELDS]; STRUCTURES],
+    types: &[u8],
+) -> usize
+    requires { ⌜ (from ≤ countLimit) × (n ≡ length (ruleAt (now s) .structures)) ⌝ }
+    requires { ⌜ Ended (now s) (now index) (now types) (now kinds) (tables (now sources) (now masks) (now vars)) ⌝ }
+    ensures { λ r. ⌜ ((e : Ended (now (s .entry)) (now (index .entry)) (now (types .entry)) (now (kinds .entry)) (tables (now (sources .entry)) (now (masks .entry)) (now (vars .entry))))
+        → Put (now (out .entry)) (now (out .exit)) (joined (λ (f : definition.FlatRule). recordBytes (flatRuleFields f)) (e .state .rules)) from r) ⌝ }
+    ensures { λ r. ⌜ r ≤ countLimit ⌝ }
+{
+    let mut at = from;
+    let mut k: u16 = 0;
+    let mut t: usize = 1;
+    while t < n {
+        if sources[t] < UNREACHED {
+            if emits(kinds, sources, masks, t) {
+                at = put_rule(out, at, s, index, kinds, sources, masks, vars, types, t, k);
+                k += 1;
+            }
+        }
+        t += 1;
+    }
+    at
+}
