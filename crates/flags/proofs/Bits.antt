@@ -3,9 +3,9 @@ use Prim.Native.Nat.{ℕ, zero, suc, _+_, _*_, _/_, _%_, _^_, _≤_, _<_}
 use native.Mathlib.Omega.{arith}
 use native.Mathlib.Decide.{ℕ-discrete}
 use native.Mathlib.Nat.{pow-suc, pow-le-pow-right, div-eq-of-lt, add-mul-div-left, add-mul-mod-self-left, add-div-right, pow-zero, mul-assoc, mul-comm, mod-eq-of-lt}
-use mathlib.Core.Path.{_≡_, _∙_}
-use mathlib.Core.Bool.{Bool, true, false}
-use Rattle.flags.specs.Flags.{flagAt, FlagsOf}
+use mathlib.Core.Path.{_≡_, refl, _∙_}
+use mathlib.Core.Bool.{Bool, true, false, _&&_}
+use Rattle.flags.specs.Flags.{digitAt}
 
 pub pow-pos : (i : ℕ) → 0 < 2 ^ i
 pow-pos zero = rw pow-zero (omega arith)
@@ -51,33 +51,30 @@ pub pow-fits : (i : ℕ) → i < 64 → 2 ^ i + 2 ^ i ≤ 2 ^ 64
 pow-fits i h = pow-twice i 64 h
 
 -- No flag is set in 0.
-pub no-flag : (i : ℕ) → flagAt 0 i ≡ false
-no-flag i = rw (div-eq-of-lt (pow-pos i))
+pub no-digit : (i : ℕ) → digitAt 0 i ≡ false
+no-digit i = rw (div-eq-of-lt (pow-pos i))
 
--- The flags by a test, one place after the other.
-pub flags-start : (test : ℕ → Bool) → FlagsOf 0 test 0
-flags-start test = record { small = pow-pos 0; same = λ i h. absurd (omega arith) }
+-- Each of 64 digits is set in the greatest word.
+abbrev digitsTo : ℕ → Bool
+digitsTo zero = true
+digitsTo (suc n) = digitAt 18446744073709551615 n && digitsTo n
 
-module _ {mask i : ℕ} {test : ℕ → Bool} (p : FlagsOf mask test i) where
-  pub flags-set : test i ≡ true → FlagsOf (mask + 2 ^ i) test (i + 1)
-  flags-set e = record {
-      small = small-set mask i (p .small);
-      same = λ j h. go j h (ℕ-discrete j i);
-    }
-    where
-      go : (j : ℕ) → j < i + 1 → Dec (j ≡ i) → flagAt (mask + 2 ^ i) j ≡ test j
-      go j h (yes q) = rw (q, bit-new mask i (p .small), e)
-      go j h (no q) = rw (bit-old mask i (p .small) j (omega arith)) (p .same j (omega arith))
+digits-below : (n : ℕ) → digitsTo n ≡ true → (i : ℕ) → i < n → digitAt 18446744073709551615 i ≡ true
+digits-below zero e i h = absurd (omega arith)
+digits-below (suc n) e i h = go (ℕ-discrete i n) (λ d l. digits-below n d i l)
+  where
+    left : (a b : Bool) → (a && b) ≡ true → a ≡ true
+    left true b e = refl
+    left false b e = e
+    right : (a b : Bool) → (a && b) ≡ true → b ≡ true
+    right true b e = e
+    right false b e = let z : _≡_ {A = ℕ} 0 1 = cc in absurd (omega arith)
+    go : Dec (i ≡ n) → (digitsTo n ≡ true → i < n → digitAt 18446744073709551615 i ≡ true) → digitAt 18446744073709551615 i ≡ true
+    go (yes q) r = rw q (left _ _ e)
+    go (no q) r = r (right (digitAt 18446744073709551615 n) _ e) (omega arith)
 
-  pub flags-clear : test i ≡ false → FlagsOf mask test (i + 1)
-  flags-clear e = record {
-      small = small-clear mask i (p .small);
-      same = λ j h. go j h (ℕ-discrete j i);
-    }
-    where
-      go : (j : ℕ) → j < i + 1 → Dec (j ≡ i) → flagAt mask j ≡ test j
-      go j h (yes q) = rw (q, bit-above mask i (p .small) i (omega arith), e)
-      go j h (no q) = p .same j (omega arith)
+pub all-digit : (i : ℕ) → i < 64 → digitAt 18446744073709551615 i ≡ true
+all-digit i h = digits-below 64 refl i h
 
 -- One shifted by a place of 64.
 pub shift-is : (i : ℕ) → i < 64 → 1 * 2 ^ i % 18446744073709551616 ≡ 2 ^ i

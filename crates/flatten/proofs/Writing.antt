@@ -24,7 +24,7 @@ use Rattle.reading.specs.Answers.{ruleAnswer, RuleUsable}
 use Rattle.reading.specs.Verdicts.{ruleRead}
 use Rattle.reading.specs.declared.RuleReading.{RuleReading}
 use Rattle.reading.specs.declared.RuleReading.the-variants as reading
-use Rattle.kinds.specs.Table.{Tabled}
+use Rattle.plan.specs.Table.{Tabled}
 use Rattle.walk.specs.Tables.{Tables}
 use Rattle.walk.specs.Ended.{Readable, Ground, Ended}
 use Rattle.walk.specs.Went.{wholeWalk, Walks}

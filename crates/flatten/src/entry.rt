@@ -8,19 +8,15 @@ ghost use Rattle.definition.specs.Writer.{groupBytesOf};
 ghost use Rattle.rule.specs.Lookup.{ruleAt};
 ghost use Rattle.signature.specs.Index.{signatureAt};
 ghost use Rattle.walk.specs.Tables.{tables};
-ghost use Rattle.walk.specs.Ended.{Readable, Ended};
+ghost use Rattle.walk.specs.Ended.{Ended, Readable};
 ghost use Rattle.flatten.specs.Answers.{Untyped, Writes, outcomeOf, sizeOf, Demanded, ruleOutcome, numberIn};
-use writer::output::put_group;
-use walk::tables::SORTS;
-use walk::tables::UNREACHED;
-use walk::tables::initial_matching_stmts;
-use walk::tables::no_el_vars;
-use walk::walk::flatten_morphisms;
-use kinds::sources::unmapped_auxiliary;
-use kinds::sources::unmapped_kind;
-use kinds::table::NO_KIND;
-use kinds::table::kind_table;
+use flags::Held;
+use flags::NO_HELD;
 use naming::variables::VARIABLES;
+use plan::sources::unmapped_auxiliary;
+use plan::sources::unmapped_kind;
+use plan::table::NO_KIND;
+use plan::table::kind_table;
 use reading::RuleReading;
 use reading::read_rule_into;
 use rule::ids::FIELDS;
@@ -28,6 +24,12 @@ use rule::ids::RULE_INDEX;
 use rule::ids::STRUCTURES;
 use signature::ids::Counts;
 use signature::ids::INDEX;
+use walk::tables::SORTS;
+use walk::tables::UNREACHED;
+use walk::tables::initial_matching_stmts;
+use walk::tables::no_el_vars;
+use walk::walk::flatten_morphisms;
+use writer::output::put_group;
 
 // At most so many bytes of a buffer are used.
 pub const ANSWER: usize = 65535;
@@ -61,7 +63,7 @@ fn write_group(
     n: usize,
     kinds: &[[u8; STRUCTURES]; STRUCTURES],
     sources: &[u8; STRUCTURES],
-    masks: &[[u64; SORTS]; STRUCTURES],
+    masks: &[[Held; SORTS]; STRUCTURES],
     vars: [[u16; FIELDS]; STRUCTURES],
     types: &[u8],
 ) -> Flattened
@@ -82,7 +84,7 @@ fn write_group(
 // An accepted rule, with its index and that of its signature. The table of its variables' types is lent, with a place for each element.
 fn flatten_rule(
     sig: &[u8],
-    arities: &[u16; INDEX],
+    symbols: &[u16; INDEX],
     counts: Counts,
     s: &[u8],
     index: &[u16; RULE_INDEX],
@@ -91,8 +93,8 @@ fn flatten_rule(
     out: &mut [u8],
 ) -> Flattened
     requires { ⌜ Untyped (now types) n ⌝ }
-    requires { ⌜ Readable (now sig) (now arities) counts (now s) (now index) n ⌝ }
-    ensures { λ r. ⌜ Writes r (now (out .entry)) (now (out .exit)) (ruleOutcome (signatureAt (now (sig .entry)) (now (arities .entry)) counts) (now (s .entry)) (length (now (out .entry)))) ⌝ }
+    requires { ⌜ Readable (now sig) (now symbols) counts (now s) (now index) n ⌝ }
+    ensures { λ r. ⌜ Writes r (now (out .entry)) (now (out .exit)) (ruleOutcome (signatureAt (now (sig .entry)) (now (symbols .entry)) counts) (now (s .entry)) (length (now (out .entry)))) ⌝ }
 {
     if unmapped_auxiliary(s, index) {
         return Flattened::Refused(21);
@@ -104,11 +106,11 @@ fn flatten_rule(
     kind_table(s, index, &mut kinds);
     let mut sources = [UNREACHED; STRUCTURES];
     sources[0] = 0;
-    let mut masks = [[0u64; SORTS]; STRUCTURES];
+    let mut masks = [[NO_HELD; SORTS]; STRUCTURES];
     masks[0] = initial_matching_stmts();
     let mut refused: u8 = 0;
     let vars = flatten_morphisms(
-        sig, arities, counts, s, index, n, &kinds, no_el_vars(), &mut sources, &mut masks, types, &mut refused,
+        sig, symbols, counts, s, index, n, &kinds, no_el_vars(), &mut sources, &mut masks, types, &mut refused,
     );
     if refused != 0 {
         return Flattened::Refused(refused);

@@ -12,12 +12,13 @@ use Rattle.definition.specs.Records.{Field, withLetter, upTo, blocks, faultFrom
 use Rattle.definition.specs.Signature.{Signature}
 use Rattle.definition.specs.Group.{groupGrammar, premiseKinds, conclusionKinds, flatRuleFault, statementFault}
 use Rattle.definition.specs.Scope.{conclusionAt}
+use Rattle.laws.proofs.Lists.{lowest-none}
 use Rattle.records.specs.Places.{twoAt, fieldAt, fieldOf, Run}
 use Rattle.records.specs.declared.fields.Field.the-variants.{Got}
 use Rattle.records.proofs.Link.{got-is}
 use Rattle.records.proofs.Index.{got-field}
 use Rattle.records.proofs.Runs.{Behind}
-use Rattle.records.proofs.Lists.{keep-append, lowest-none}
+use Rattle.records.proofs.Lists.{keep-append}
 use Rattle.group.specs.Sections.{leading, trailing, Ordered, AtRule, Stated, kindsOf, blockFault}
 use Rattle.group.specs.Answers.{Section, Rule}
 use Rattle.group.specs.declared.reader.Checked.the-variants as checked

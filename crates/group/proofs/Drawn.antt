@@ -16,8 +16,9 @@ use Rattle.definition.specs.Records.{Field, numbers, badName, odd}
 use Rattle.definition.specs.Signature.{Signature, arity, symbolCount, typeParents, named}
 use Rattle.definition.specs.Group.{premiseKinds, conclusionKinds, variableOf, statementOf, variableFault, statementFault, badColumns}
 use Rattle.records.specs.Places.{twoAt, stretch, fieldOf}
+use Rattle.laws.proofs.Numbers.{drop-numbers}
 use Rattle.group.specs.Sections.{kindsOf}
-use Rattle.records.proofs.Numbers.{length-stretch, stretch-at, drop-stretch, number-in, length-numbers-in, drop-numbers}
+use Rattle.records.proofs.Numbers.{length-stretch, stretch-at, drop-stretch, number-in, length-numbers-in}
 
 module _ (s : List ℕ) (start len : ℕ) (h : start + len ≤ length s) (letter : ℕ) where
   -- A W of at least two bytes is a type and a name.

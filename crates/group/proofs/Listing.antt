@@ -13,13 +13,13 @@ use Rattle.definition.specs.Limits.{variableLimit}
 use Rattle.definition.specs.Records.{Field}
 use Rattle.definition.specs.Signature.{Signature}
 use Rattle.definition.specs.Group.{variableFault, variableOf}
+use Rattle.laws.proofs.Lists.{lowest-none}
 use Rattle.records.specs.Places.{fieldAt, fieldOf, Run}
 use Rattle.records.specs.Held.{heldAt}
 use Rattle.records.specs.declared.fields.Field.the-variants.{Got}
 use Rattle.records.proofs.Link.{got-is}
 use Rattle.records.proofs.Numbers.{length-stretch}
 use Rattle.records.proofs.Index.{got-field, held-store}
-use Rattle.records.proofs.Lists.{lowest-none}
 use Rattle.group.specs.Index.{variablesFrom, indexSize, VariableAt}
 use Rattle.group.proofs.Along.{Along, Over, along-start, along-next, along-over, over-front}
 use Rattle.group.specs.Answers.{Section, Variable}

@@ -11,7 +11,7 @@ use Rattle.definition.specs.Base.{any, has, keep}
 use Rattle.definition.specs.Letters.{letterG, letterW, letterU, letterB, letterH, start}
 use Rattle.definition.specs.Records.{Field, follows, withLetter}
 use Rattle.definition.specs.Group.{groupGrammar}
-use Rattle.records.proofs.Lists.{never}
+use Rattle.laws.proofs.Lists.{never}
 use Rattle.group.specs.Sections.{trailing, Ordered, AtRule}
 use Rattle.group.proofs.Ordered.{behind-leading, absent}
 

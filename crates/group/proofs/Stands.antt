@@ -13,8 +13,9 @@ use Rattle.definition.specs.Letters.{member}
 use Rattle.definition.specs.Records.{numbers, odd}
 use Rattle.definition.specs.Signature.{Signature, arity, symbolCount, typeParents, named}
 use Rattle.definition.specs.Group.{Statement, statementOf, statementFault, badColumns}
+use Rattle.laws.proofs.Lists.{lowest-none, or-left, or-right}
 use Rattle.records.specs.Places.{stretch, fieldOf}
-use Rattle.records.proofs.Lists.{lowest-none, or-left, or-right, all-get}
+use Rattle.records.proofs.Lists.{all-get}
 use Rattle.records.proofs.Numbers.{length-stretch, length-numbers-in, numbers-in}
 use Rattle.group.specs.Sections.{kindsOf}
 use Rattle.group.specs.Lookups.{VariablesAt}

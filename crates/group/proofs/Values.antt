@@ -10,13 +10,14 @@ use Rattle.definition.specs.Letters.{letterW, letterU}
 use Rattle.definition.specs.Records.{Field, Block, numbers, withLetter, blocks}
 use Rattle.definition.specs.Group.{Variable, FlatRule, variableOf, statementOf, flatRuleOf, groupOf, groupPart}
 use Rattle.definition.specs.Scope.{variableNumbered, sameVariable, sameVariables}
+use Rattle.laws.proofs.Lists.{length-each, getD-each}
 use Rattle.records.specs.Places.{twoAt, stretch, fieldOf}
 use Rattle.records.specs.Held.{fieldIn}
 use Rattle.records.proofs.Link.{one-more}
 use Rattle.records.proofs.Index.{length-held, held-get}
-use Rattle.records.proofs.Lists.{length-each, getD-each}
-use Rattle.records.proofs.Numbers.{length-numbers-in, numbers-in, take-numbers, take-stretch}
+use Rattle.records.proofs.Numbers.{length-numbers-in, numbers-in, take-stretch}
 use Rattle.records.proofs.Runs.{run-within}
+use Rattle.laws.proofs.Numbers.{take-numbers}
 use Rattle.group.specs.Index.{variablesFrom, premisesAt, conclusionsAt, ruleEnd, VariableAt, noBlock, Rules}
 use Rattle.group.specs.Lookups.{table, Listed, NameAt, SectionsAt, Says, VariablesAt}
 use Rattle.group.proofs.Drawn.{variable-type, variable-name, kind-is, symbol-is, variables-are, variables-count}

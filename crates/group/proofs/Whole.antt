@@ -16,10 +16,11 @@ use Rattle.definition.specs.Records.{Field, Fields, end, bad, _▸_, follows, p
 use Rattle.definition.specs.Signature.{Signature}
 use Rattle.definition.specs.Group.{groupGrammar, groupPart, groupFault, groupOf, readGroup, titleFault, variableFault, flatRulesFault, variableOf}
 use Rattle.definition.specs.Scope.{conclusionAt}
+use Rattle.laws.proofs.Lists.{length-each}
 use Rattle.records.specs.Places.{Run, Parted}
 use Rattle.records.specs.Held.{fieldIn, heldAt}
 use Rattle.records.proofs.Index.{held-same, held-get, length-held}
-use Rattle.records.proofs.Lists.{keep-append, length-each}
+use Rattle.records.proofs.Lists.{keep-append}
 use Rattle.signature.specs.Index.{typesFrom, signatureAt}
 use Rattle.signature.specs.declared.ids.Counts.{Counts}
 use Rattle.records.proofs.Runs.{run-end}

@@ -1,8 +1,8 @@
--- Laws behind the walked kinds.
-pub mod Scanning
-pub mod SourceLaws
-pub mod SoundParts
-pub mod MapLaws
-pub mod TableLaws
-pub mod Storing
-pub mod Walked
+-- Laws of this crate.
+pub mod Masks
+pub mod New
+pub mod Fresh
+pub mod Flagging
+pub mod Answers
+pub mod Seeking
+pub mod Domains

@@ -1,3 +1,5 @@
 -- What the contracts of this crate cite beside the definition.
-pub mod Sources
-pub mod Table
+pub mod Added
+pub mod Elements
+pub mod Yielding
+pub mod Steps

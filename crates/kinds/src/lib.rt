@@ -1,4 +1,6 @@
-// Which maps are walked, and of which kinds.
-pub mod maps;
-pub mod sources;
-pub mod table;
+// What a map of each kind asks, and what it adds to the statements, as flags.
+pub mod added;
+pub mod elements;
+pub mod morphisms;
+pub mod step;
+pub mod yielding;

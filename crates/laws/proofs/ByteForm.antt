@@ -13,6 +13,7 @@ use Rattle.definition.specs.Kinds.{Emitted}
 use Rattle.definition.specs.Walk.{namedRules}
 use Rattle.definition.specs.Writer.{fieldBytes, recordBytes, variableField, statementField, flatRuleFields, groupFields, groupBytesOf}
 use Rattle.laws.proofs.Lists.{each-append, joined-append}
+use Rattle.laws.specs.Bytes.{statementBytes}
 
 -- Bytes of fields one behind the other.
 pub record-append : (fs gs : List Field) → recordBytes (fs ++ gs) ≡ recordBytes fs ++ recordBytes gs
@@ -27,10 +28,6 @@ record-joined f (x ∷ xs) = joined-append fieldBytes (f x) (joined f xs) ∙ ap
 record-cons : (f : Field) (fs : List Field) → recordBytes (f ∷ fs) ≡ fieldBytes f ++ recordBytes fs
 unfolding recordBytes joined
 record-cons f fs = refl
-
--- The bytes of statements behind a letter.
-unfoldable pub statementBytes : ℕ → List Statement → List ℕ
-statementBytes letter ss = recordBytes (each (statementField letter) ss)
 
 pub statements-append : (letter : ℕ) (xs ys : List Statement) → statementBytes letter (xs ++ ys) ≡ statementBytes letter xs ++ statementBytes letter ys
 unfolding statementBytes
@@ -61,3 +58,8 @@ pub named-append : (group : List ℕ) (count : ℕ) (xs ys : List Emitted) → n
 unfolding namedRules
 named-append group count [] ys = rw add-zero
 named-append group count (x ∷ xs) ys = let q : count + 1 + length xs ≡ count + length (x ∷ xs) = omega arith in rw (named-append group (count + 1) xs ys, q)
+
+pub named-length : (group : List ℕ) (count : ℕ) (es : List Emitted) → length (namedRules group count es) ≡ length es
+unfolding namedRules
+named-length group count [] = refl
+named-length group count (e ∷ es) = rw (named-length group (count + 1) es)

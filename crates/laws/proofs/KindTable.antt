@@ -15,23 +15,7 @@ use Rattle.definition.specs.Walk.{ofPair, addPair, completed, walkedKinds}
 use Rattle.laws.proofs.Lists.{never, or-else-none, joined-same, bool-cases, and-left, and-right, and-true, or-left, or-right, any-true, any-false}
 use Rattle.laws.proofs.Orders.{Ascending, less-not}
 use Rattle.laws.proofs.SoundOrder.{kindKey}
-
--- The kind of a pair, if it has one.
-abbrev pub kindOfPair : ℕ → ℕ → Kind → Option MorphismKind
-kindOfPair s t k = pick (ofPair s t k) (some (k .kind)) none
-
-unfoldable pub kindAt : List Kind → ℕ → ℕ → Option MorphismKind
-kindAt ks s t = firstOf (kindOfPair s t) ks
-
--- As a list of kinds.
-abbrev pub kindsOf : ℕ → ℕ → Option MorphismKind → List Kind
-kindsOf s t none = []
-kindsOf s t (some k) = record { source = s; target = t; kind = k } ∷ []
-
--- Kinds in which a pair stands once.
-abbrev pub Once : List Kind → Type 0
-Once [] = Unit
-Once (k ∷ ks) = ((j : Kind) → j ∈ ks → ofPair (k .source) (k .target) j ≡ false) × Once ks
+use Rattle.laws.specs.KindTable.{kindOfPair, kindAt, kindsOf, Once}
 
 pair-is : (s t : ℕ) (k : Kind) → ofPair s t k ≡ true → (k .source ≡ s) × (k .target ≡ t)
 pair-is s t k h = (eqb-true _ _ (and-left _ _ h), eqb-true _ _ (and-right (eqb (k .source) s) _ h))

@@ -13,3 +13,4 @@ pub mod SoundOrder
 pub mod SoundRule
 pub mod StepForm
 pub mod WalkRefusals
+pub mod Choices

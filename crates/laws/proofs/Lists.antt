@@ -175,10 +175,6 @@ unfolding lowest
 lowest-none n true cs e = let z : _≡_ {A = ℕ} 0 1 = cc in absurd (omega arith)
 lowest-none n false cs e = (refl, e)
 
-pub lowest-pass : (n : ℕ) {b : Bool} (cs : List (ℕ × Bool)) → b ≡ false → lowest cs ≡ none → lowest ((n, b) ∷ cs) ≡ none
-unfolding lowest
-lowest-pass n cs e f = rw (e, f)
-
 -- Two numbers: one below the other, or equal.
 pub trichotomy : (i j : ℕ) → (i < j) ⊎ ((i ≡ j) ⊎ (j < i))
 trichotomy i j = go (decLt i j) (decLt j i)

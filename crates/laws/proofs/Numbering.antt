@@ -16,12 +16,7 @@ use Rattle.definition.specs.Group.{Variable}
 use Rattle.definition.specs.Names.{numbersOf, variableAt, fiber, carriedKey, numbered, newVariable, newVariables}
 use Rattle.definition.specs.Rows.{inImage}
 use Rattle.laws.proofs.Lists.{never, and-left, and-right, bool-cases, mem-keep, keep-mem, mem-each, each-mem, length-each, getD-each, any-true, trichotomy}
-
--- How many elements take nothing over.
-unfoldable pub fresh : List (Option ℕ) → ℕ
-fresh [] = 0
-fresh (some v ∷ cs) = fresh cs
-fresh (none ∷ cs) = 1 + fresh cs
+use Rattle.laws.specs.Numbering.{fresh}
 
 -- An element that takes a variable over has it.
 pub numbered-some : (n : ℕ) (cs : List (Option ℕ)) (i : ℕ) {v : ℕ} → i < length cs → getD cs i none ≡ some v → getD (numbered n cs) i 0 ≡ v
@@ -157,7 +152,7 @@ ascend-above p (r ∷ ps) e {q} m =
     let t : keysAscend (r ∷ ps) ≡ true = and-right (ltb (p .key) (r .key)) _ e in
     ⊎-elim (λ z. rw z b) (λ z. let c : r .key < q .key = ascend-above r ps t z in omega arith) (List·Memᴰ·cases-cons m)
 
-ascend-rest : (p : Pair) (ps : List Pair) → keysAscend (p ∷ ps) ≡ true → keysAscend ps ≡ true
+pub ascend-rest : (p : Pair) (ps : List Pair) → keysAscend (p ∷ ps) ≡ true → keysAscend ps ≡ true
 unfolding keysAscend
 ascend-rest p [] e = refl
 ascend-rest p (r ∷ ps) e = and-right (ltb (p .key) (r .key)) _ e

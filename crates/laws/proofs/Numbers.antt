@@ -2,24 +2,21 @@
 use Prim.Native.Nat.{ℕ, zero, suc, _+_, _*_, _/_, _%_, _≤_}
 use native.Mathlib.Omega.{arith}
 use native.Mathlib.Nat.{div-add-mod'}
+use mathlib.Core.Bool.{Bool, true, false}
 use mathlib.Core.Path.{_≡_, refl, _∙_}
 use mathlib.Core.List.{List, [], _∷_, _++_}
 use lib.ListN.{length, take, drop, length-append, length-drop}
-use lib.Seq.{take-at, drop-at, drop-nil}
+use lib.Seq.{take-at, drop-at}
+use lib.Dec.{eqb}
 use borrow.Author.Tests.{le-leb}
-use Rattle.definition.specs.Base.{joined}
-use Rattle.definition.specs.Records.{Field, Fields, end, _▸_, numbers, cut, fieldsOf}
+use Rattle.definition.specs.Base.{joined, consIf, keep}
+use Rattle.definition.specs.Records.{Field, Fields, end, _▸_, numbers, cut, fieldsOf, withLetter}
 use Rattle.definition.specs.Writer.{twoBytes, numberBytes, fieldBytes, recordBytes}
 
 -- A two-byte number in front of bytes is read as itself, and then theirs.
 pub numbers-front : (n : ℕ) (s : List ℕ) → numbers (twoBytes n ++ s) ≡ n ∷ numbers s
 unfolding numbers
 numbers-front n s = rw (div-add-mod' n 256)
-
--- A two-byte number is read as itself.
-pub numbers-two : (n : ℕ) → numbers (twoBytes n) ≡ n ∷ []
-unfolding numbers
-numbers-two n = numbers-front n []
 
 -- Numbers written are read as themselves.
 pub numbers-written : (ns : List ℕ) → numbers (numberBytes ns) ≡ ns
@@ -34,31 +31,8 @@ length-numbers-written [] = refl
 length-numbers-written (n ∷ ns) = let h : length (numberBytes ns) ≡ 2 * length ns = length-numbers-written ns in omega arith
 
 -- Twice one more is two more.
-double-suc : (k : ℕ) → 2 * suc k ≡ suc (suc (2 * k))
+pub double-suc : (k : ℕ) → 2 * suc k ≡ suc (suc (2 * k))
 double-suc k = omega arith
-
--- The first numbers are those of the first bytes.
-pub take-numbers : (k : ℕ) (s : List ℕ) → numbers (take (2 * k) s) ≡ take k (numbers s)
-unfolding numbers
-take-numbers zero s = refl
-take-numbers (suc k) [] = rw (double-suc k)
-take-numbers (suc k) (h ∷ []) = rw (double-suc k)
-take-numbers (suc k) (h ∷ l ∷ s) = rw (double-suc k, take-numbers k s)
-
--- Without the first bytes the numbers are those without the first.
-pub drop-numbers : (k : ℕ) (s : List ℕ) → numbers (drop (2 * k) s) ≡ drop k (numbers s)
-unfolding numbers
-drop-numbers zero s = refl
-drop-numbers (suc k) [] = rw (double-suc k)
-drop-numbers (suc k) (h ∷ []) = rw (double-suc k, drop-nil)
-drop-numbers (suc k) (h ∷ l ∷ s) = rw (double-suc k) (drop-numbers k s)
-
--- The numbers of bytes take no more bytes than there are.
-pub length-numbers : (s : List ℕ) → 2 * length (numbers s) ≤ length s
-unfolding numbers
-length-numbers [] = omega arith
-length-numbers (h ∷ []) = omega arith
-length-numbers (h ∷ l ∷ s) = let i : 2 * length (numbers s) ≤ length s = length-numbers s in omega arith
 
 -- Fuel as long as the bytes is enough, and more alters nothing.
 pub cut-same : (k j : ℕ) (s : List ℕ) → length s ≤ k → length s ≤ j → cut k s ≡ cut j s
@@ -107,3 +81,35 @@ pub fields-written : (fs : List Field) → fieldsOf (recordBytes fs) ≡ listed 
 unfolding recordBytes joined listed fieldsOf cut
 fields-written [] = refl
 fields-written (f ∷ fs) = fields-front f (recordBytes fs) ∙ rw (fields-written fs)
+
+-- Two bytes are a number.
+pub length-numbers : (s : List ℕ) → length (numbers s) ≡ length s / 2
+unfolding numbers
+length-numbers [] = refl
+length-numbers (a ∷ []) = refl
+length-numbers (a ∷ b ∷ s) = let e : length (numbers s) ≡ length s / 2 = length-numbers s in omega arith
+
+pub drop-numbers : (k : ℕ) (s : List ℕ) → drop k (numbers s) ≡ numbers (drop (2 * k) s)
+unfolding numbers
+drop-numbers zero s = refl
+drop-numbers (suc k) [] = rw (double-suc k)
+drop-numbers (suc k) (a ∷ []) = rw (double-suc k)
+drop-numbers (suc k) (a ∷ b ∷ s) = rw (double-suc k) (drop-numbers k s)
+
+pub take-numbers : (k : ℕ) (s : List ℕ) → take k (numbers s) ≡ numbers (take (2 * k) s)
+unfolding numbers
+take-numbers zero s = refl
+take-numbers (suc k) [] = rw (double-suc k)
+take-numbers (suc k) (a ∷ []) = rw (double-suc k)
+take-numbers (suc k) (a ∷ b ∷ s) = rw (double-suc k, take-numbers k s)
+
+-- The fields of a letter: of two lists, those of each.
+pub with-append : (letter : ℕ) (xs ys : List Field) → withLetter letter (xs ++ ys) ≡ withLetter letter xs ++ withLetter letter ys
+unfolding withLetter keep
+with-append letter [] ys = refl
+with-append letter (x ∷ xs) ys = go (eqb (x .letter) letter) (with-append letter xs ys)
+  where
+    go : (b : Bool) → withLetter letter (xs ++ ys) ≡ withLetter letter xs ++ withLetter letter ys
+        → consIf b x (withLetter letter (xs ++ ys)) ≡ consIf b x (withLetter letter xs) ++ withLetter letter ys
+    go true e = rw e
+    go false e = e

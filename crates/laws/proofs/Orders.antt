@@ -1,7 +1,7 @@
 -- The order of lists, and fields that ascend by it.
 use Prim.Native.Nat.{ℕ, _+_}
 use native.Mathlib.Omega.{arith}
-use mathlib.Core.Path.{_≡_, refl, ap, sym, _∙_}
+use mathlib.Core.Path.{_≡_, refl}
 use mathlib.Core.Logic.{⊎-elim}
 use mathlib.Core.Bool.{Bool, true, false}
 use mathlib.Core.Option.{Option, none, some}
@@ -55,17 +55,6 @@ less-trans (x ∷ xs) (y ∷ ys) (z ∷ zs) p q = go (compared x y) (compared y 
 abbrev pub Ascending : {A : Type 0} → (A → List ℕ) → List A → Type 0
 Ascending key [] = Unit
 Ascending key (a ∷ xs) = ((b : _) → b ∈ xs → less (key a) (key b) ≡ true) × Ascending key xs
-
--- In it a key stands once.
-pub key-once : {A : Type 0} (key : A → List ℕ) (xs : List A) → Ascending key xs → {a b : A} → a ∈ xs → b ∈ xs → key a ≡ key b → a ≡ b
-key-once key [] h m n e = absurd (List·Memᴰ·not-nil m)
-key-once key (x ∷ xs) h {a} {b} m n e = ⊎-elim
-    (λ p. ⊎-elim (λ q. p ∙ sym q) (λ q. never (h .0 b q) (clash (sym (ap key p) ∙ e))) (List·Memᴰ·cases-cons n))
-    (λ p. ⊎-elim (λ q. never (h .0 a p) (clash (sym (ap key q) ∙ sym e))) (λ q. key-once key xs (h .1) p q e) (List·Memᴰ·cases-cons n))
-    (List·Memᴰ·cases-cons m)
-  where
-    clash : {y : List ℕ} → key x ≡ y → less (key x) y ≡ false
-    clash e = rw (← e) (less-not (key x))
 
 -- Fields that pass a check of their order ascend.
 module _ (check : ℕ → Option Field → Field → Option ℕ) (key : Field → List ℕ)

@@ -1,20 +1,19 @@
 -- Rows of a sound structure: what they list.
-use Prim.Native.Nat.{ℕ, zero, suc, _-_, _<_}
+use mathlib.Core.Option.{some}
+use Prim.Native.Nat.{ℕ, _-_}
 use native.Mathlib.Omega.{arith}
 use mathlib.Core.Path.{_≡_, refl}
 use mathlib.Core.Logic.{_⊎_, inl, inr, ⊎-elim}
 use mathlib.Core.Bool.{Bool, true, false, not}
 use mathlib.Core.List.{List, [], _∷_, _++_, List·Memᴰ·head, List·Memᴰ·tail, List·Memᴰ·not-nil, List·Memᴰ·cases-cons, List·Memᴰ·append-cases, List·Memᴰ·eq-of-singleton, Memᴰ·append-left, Memᴰ·append-right, Memᴰ·cast}
-use lib.ListN.{length, length-append}
-use Rattle.definition.specs.Base.{pick, each, butLast, empty, _∈_}
-use Rattle.definition.specs.Letters.{predicate, function, member, typeSet, funcDomain}
-use Rattle.definition.specs.Signature.{Signature, typeParents, arity, symbolCount}
+use lib.ListN.{length}
+use Rattle.definition.specs.Base.{pick, lastOf, butLast, empty, _∈_}
+use Rattle.definition.specs.Signature.{Signature}
 use Rattle.definition.specs.Rule.{Structure, Element, Row}
-use Rattle.definition.specs.Group.{Statement, premiseKinds, conclusionKinds}
 use Rattle.definition.specs.Names.{numbersOf}
-use Rattle.definition.specs.Rows.{memberRow, rowBefore, insertRow, sortRows, members, rowsOf, rowStatement, typeSets}
-use Rattle.laws.proofs.Lists.{not-true, never, mem-keep, keep-mem, mem-each, each-mem, length-each}
-use Rattle.laws.proofs.Sound.{SoundRow, SoundStructure}
+use Rattle.definition.specs.Rows.{lastElement, memberRow, rowBefore, insertRow, sortRows, members, rowsOf}
+use Rattle.laws.proofs.Lists.{not-true, mem-keep, keep-mem, mem-each, each-mem}
+use Rattle.laws.specs.Sound.{SoundStructure}
 
 -- Sorting keeps the members.
 insert-mem : (x : Row) (rs : List Row) {r : Row} → r ∈ insertRow x rs → (r ≡ x) ⊎ (r ∈ rs)
@@ -112,3 +111,12 @@ module _ (sig : Signature) (st : Structure) (sound : SoundStructure sig st) wher
       (λ p. sound .preds-sound r p .1 .elements-in e i)
       (⊎-elim (λ f. sound .funcs-sound r f .2 .elements-in e i) (λ w. member-elements (w .0) (w .1) e (rw (w .3) at i)))
       (rows-cases st m)
+
+-- A member row ends with its element, and lists its parents before it.
+pub member-last : (e : Element) → lastElement (memberRow e) ≡ e .number
+unfolding lastElement memberRow lastOf
+member-last e = rw (go (e .parents))
+  where
+    go : (xs : List ℕ) → lastOf (xs ++ (e .number ∷ [])) ≡ some (e .number)
+    go [] = refl
+    go (x ∷ xs) = rw (go xs)

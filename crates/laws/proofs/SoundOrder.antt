@@ -64,7 +64,7 @@ unfolding mapFault
 map-order named m g f e =
     let t3 = lowest-none 3 _ _ e in let t4 = lowest-none 4 _ _ (t3 .1) in let t5 = lowest-none 5 _ _ (t4 .1) in not-false _ (or-left _ _ (lowest-none 6 _ _ (t5 .1) .0))
 
-map-long : (named : List (List ℕ)) (m : ℕ) (l : Option Field) (f : Field) → mapFault named m l f ≡ none → 4 ≤ length (f .content)
+pub map-long : (named : List (List ℕ)) (m : ℕ) (l : Option Field) (f : Field) → mapFault named m l f ≡ none → 4 ≤ length (f .content)
 unfolding mapFault
 map-long named m l f e = ltb-false _ _ (or-left _ _ (lowest-none 3 _ _ e .0))
 

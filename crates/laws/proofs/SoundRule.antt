@@ -18,7 +18,8 @@ use Rattle.definition.specs.Rule.{Element, Pair, Rule, ruleGrammar, elementOf, 
 use Rattle.definition.specs.Names.{numbersOf}
 use Rattle.definition.specs.Walk.{noStructure}
 use Rattle.laws.proofs.Lists.{and-left, and-right, or-left, or-right, not-false, never, or-cases, or-else-none, mem-keep, mem-each, each-mem, length-each, getD-each, all-mem, has-mem, lowest-none}
-use Rattle.laws.proofs.Sound.{read-part, read-within, among-mem, among-few, SoundElement, SoundRow, SoundStructure, SoundRule}
+use Rattle.laws.proofs.Sound.{read-part, read-within, among-mem, among-few}
+use Rattle.laws.specs.Sound.{SoundElement, SoundRow, SoundStructure, SoundRule}
 
 -- An element that can be named is one of the structure's.
 named-in : (b : Block) (e : ℕ) → e ∈ namedElements (b .body) → e ∈ numbersOf (structureOf b)

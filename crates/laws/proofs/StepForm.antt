@@ -1,87 +1,33 @@
--- The step of a map in the form that a program has: a refusal that asks nothing of the statements, what the target appends to
--- them, and the conclusions of the rules that it emits.
+-- The step of a map is that of the form that a program has.
 use mathlib.Core.Path.{_≡_, refl}
-use mathlib.Core.Bool.{Bool, true, false, not}
+use mathlib.Core.Bool.{Bool, true, false}
 use mathlib.Core.Option.{Option, none, some}
 use mathlib.Core.List.{List, [], _∷_, _++_, append-nil}
 use Prim.Native.Nat.{ℕ}
-use Rattle.definition.specs.Base.{refused, accepted, pick, each, all, butLast, lowest, empty}
+use Rattle.definition.specs.Base.{refused, accepted, pick, each, all, butLast}
 use Rattle.definition.specs.Signature.{Signature}
 use Rattle.definition.specs.Rule.{Row, Pair, MorphismKind, If, SurjThen, NonSurjThen, Noop}
 use Rattle.definition.specs.Group.{Variable, Statement}
 use Rattle.definition.specs.Rows.{rowStatement, inImage}
-use Rattle.definition.specs.Kinds.{Side, variableIn, Emitted, Step, unless, kernelClashes, rowUnmapped, newElements, ifStatements, surjConclusion, yieldingRow, domainStatement, domainStep, nonSurjStep, ifStep, surjStep, mapStep}
-
--- A rule that is emitted: the source's statements, and a conclusion.
-abbrev pub emitted : List Statement → List Statement → Emitted
-emitted statements conclusion = record { premise = statements; conclusion = conclusion }
+use Rattle.definition.specs.Kinds.{Side, variableIn, Step, unless, newElements, ifStatements, surjConclusion, yieldingRow, domainStatement, domainStep, nonSurjStep, ifStep, surjStep, mapStep}
+use Rattle.laws.specs.Steps.{emitted, rowFault, newFault, stepFault, rowFor, rowOwn, rowConclusions, own, conclusions, stepWith}
 
 module _ (sig : Signature) (table : List Variable) (source target : Side) (pairs : List Pair) where
-  -- 29 and 30, of the row that yields the one new element.
-  unfoldable pub rowFault : Option Row → Option ℕ
-  rowFault none = some 29
-  rowFault (some r) = pick (all (inImage pairs) (butLast (r .elements))) none (some 30)
-
-  -- 28 to 30, by the new elements.
-  unfoldable pub newFault : List ℕ → Option ℕ
-  newFault [] = none
-  newFault (e ∷ []) = rowFault (yieldingRow sig table source target pairs e)
-  newFault (e ∷ d ∷ es) = some 28
-
-  -- The refusal of a map: 25 to 30.
-  unfoldable pub stepFault : MorphismKind → Option ℕ
-  stepFault If = lowest ((25, kernelClashes sig table source target pairs) ∷ (26, rowUnmapped sig table source target pairs) ∷ [])
-  stepFault Noop = lowest ((25, kernelClashes sig table source target pairs) ∷ (26, rowUnmapped sig table source target pairs) ∷ [])
-  stepFault SurjThen = lowest ((25, kernelClashes sig table source target pairs) ∷ (26, rowUnmapped sig table source target pairs)
-      ∷ (27, not (empty (newElements sig table source target pairs))) ∷ [])
-  stepFault NonSurjThen = newFault (newElements sig table source target pairs)
-
-  -- The row that yields the new element, where there is one.
-  unfoldable pub rowFor : List ℕ → Option Row
-  rowFor [] = none
-  rowFor (e ∷ []) = yieldingRow sig table source target pairs e
-  rowFor (e ∷ d ∷ es) = none
-
-  abbrev rowOwn : Option Row → List Statement
-  rowOwn none = []
-  rowOwn (some r) = rowStatement (variableIn target) r ∷ []
-
-  abbrev rowConclusions : Option Row → List (List Statement)
-  rowConclusions none = []
-  rowConclusions (some r) = (domainStatement sig table source target pairs r ∷ []) ∷ []
-
-  -- What the target appends to the source's statements.
-  unfoldable pub own : MorphismKind → List Statement
-  own If = ifStatements sig table source target pairs
-  own Noop = ifStatements sig table source target pairs
-  own SurjThen = []
-  own NonSurjThen = rowOwn (rowFor (newElements sig table source target pairs))
-
-  -- The conclusions of the rules that the map emits.
-  unfoldable pub conclusions : MorphismKind → List (List Statement)
-  conclusions If = []
-  conclusions Noop = []
-  conclusions SurjThen = surjConclusion sig table source target pairs ∷ []
-  conclusions NonSurjThen = rowConclusions (rowFor (newElements sig table source target pairs))
-
-  abbrev pub stepWith : List Statement → List Statement → List (List Statement) → Step
-  stepWith statements more concluded = record { statements = statements ++ more; emitted = each (emitted statements) concluded }
-
   unless-same : (o : Option ℕ) (a b : Step) → a ≡ b → unless o a ≡ unless o b
   unless-same o a b e = rw e
 
   surj-form : (statements : List Statement)
       → record { statements = statements; emitted = emitted statements (surjConclusion sig table source target pairs) ∷ [] }
-      ≡ stepWith statements [] (surjConclusion sig table source target pairs ∷ [])
+      ≡ stepWith sig table source target pairs statements [] (surjConclusion sig table source target pairs ∷ [])
   unfolding each
   surj-form statements = rw append-nil
 
   if-form : (statements : List Statement)
-      → record { statements = statements ++ ifStatements sig table source target pairs; emitted = [] } ≡ stepWith statements (ifStatements sig table source target pairs) []
+      → record { statements = statements ++ ifStatements sig table source target pairs; emitted = [] } ≡ stepWith sig table source target pairs statements (ifStatements sig table source target pairs) []
   unfolding each
   if-form statements = refl
 
-  row-form : (statements : List Statement) (o : Option Row) → domainStep sig table source target pairs statements o ≡ unless (rowFault o) (stepWith statements (rowOwn o) (rowConclusions o))
+  row-form : (statements : List Statement) (o : Option Row) → domainStep sig table source target pairs statements o ≡ unless (rowFault sig table source target pairs o) (stepWith sig table source target pairs statements (rowOwn sig table source target pairs o) (rowConclusions sig table source target pairs o))
   unfolding domainStep rowFault each
   row-form statements none = refl
   row-form statements (some r) = go (all (inImage pairs) (butLast (r .elements)))
@@ -90,12 +36,12 @@ module _ (sig : Signature) (table : List Variable) (source target : Side) (pairs
               statements = statements ++ (rowStatement (variableIn target) r ∷ []);
               emitted = emitted statements (domainStatement sig table source target pairs r ∷ []) ∷ [];
             })) (refused 30)
-          ≡ unless (pick b none (some 30)) (stepWith statements (rowOwn (some r)) (rowConclusions (some r)))
+          ≡ unless (pick b none (some 30)) (stepWith sig table source target pairs statements (rowOwn sig table source target pairs (some r)) (rowConclusions sig table source target pairs (some r)))
       go true = refl
       go false = refl
 
   new-form : (statements : List Statement) (es : List ℕ)
-      → nonSurjStep sig table source target pairs statements es ≡ unless (newFault es) (stepWith statements (rowOwn (rowFor es)) (rowConclusions (rowFor es)))
+      → nonSurjStep sig table source target pairs statements es ≡ unless (newFault sig table source target pairs es) (stepWith sig table source target pairs statements (rowOwn sig table source target pairs (rowFor sig table source target pairs es)) (rowConclusions sig table source target pairs (rowFor sig table source target pairs es)))
   unfolding nonSurjStep newFault rowFor each
   new-form statements [] = rw append-nil
   new-form statements (e ∷ []) = row-form statements (yieldingRow sig table source target pairs e)
@@ -103,9 +49,9 @@ module _ (sig : Signature) (table : List Variable) (source target : Side) (pairs
 
   -- The step, in that form.
   pub step-form : (kind : MorphismKind) (statements : List Statement)
-      → mapStep sig table source target pairs kind statements ≡ unless (stepFault kind) (stepWith statements (own kind) (conclusions kind))
+      → mapStep sig table source target pairs kind statements ≡ unless (stepFault sig table source target pairs kind) (stepWith sig table source target pairs statements (own sig table source target pairs kind) (conclusions sig table source target pairs kind))
   unfolding mapStep stepFault own conclusions ifStep surjStep
-  step-form If statements = unless-same (stepFault If) _ _ (if-form statements)
-  step-form Noop statements = unless-same (stepFault Noop) _ _ (if-form statements)
-  step-form SurjThen statements = unless-same (stepFault SurjThen) _ _ (surj-form statements)
+  step-form If statements = unless-same (stepFault sig table source target pairs If) _ _ (if-form statements)
+  step-form Noop statements = unless-same (stepFault sig table source target pairs Noop) _ _ (if-form statements)
+  step-form SurjThen statements = unless-same (stepFault sig table source target pairs SurjThen) _ _ (surj-form statements)
   step-form NonSurjThen statements = new-form statements (newElements sig table source target pairs)

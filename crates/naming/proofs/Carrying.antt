@@ -20,15 +20,16 @@ use Rattle.definition.specs.Walk.{nothingTaken}
 use Rattle.records.proofs.Lists.{keep-append}
 use Rattle.laws.proofs.Lists.{each-append, length-each, getD-each, trichotomy, never, mem-has, has-mem, mem-each, any-mem, mem-at}
 use Rattle.laws.proofs.Numbering.{place-in, carried-pair, not-carried}
+use Rattle.rule.specs.Lookup.{noPair}
 use Rattle.naming.specs.Variables.{noVar, entryOf, rowOf, takenIn, variablesIn, GivenOut}
-use Rattle.rows.specs.Maps.{pairsIn, pairAt, noPair, MapIn}
-use Rattle.rows.specs.declared.maps.Map.{Map}
-use Rattle.rows.proofs.MapLaws.{pairs-many}
+use Rattle.rule.specs.MapFields.{pairsIn, pairAt, MapIn, Joins}
+use Rattle.rule.specs.declared.maps.Map.{Map}
+use Rattle.rule.proofs.MapLaws.{pairs-many}
 use Rattle.rule.specs.Elements.{countAt, elementNumbers, Finds}
 use Rattle.rule.specs.declared.elements.Found.the-variants.{At, Nothing}
-use Rattle.naming.specs.Structures.{structureIn, Laid}
-use Rattle.naming.specs.Maps.{Joins, takenOver}
-use Rattle.naming.proofs.Choices.{last-append, each-each, each-same}
+use Rattle.rule.specs.Structures.{structureIn, Laid}
+use Rattle.naming.specs.Maps.{takenOver}
+use Rattle.laws.proofs.Choices.{last-append, each-each, each-same}
 use Rattle.naming.proofs.Placed.{Rises, length-numbers-of, numbers-are, numbers-rise, elements-are, element-few}
 use Rattle.naming.proofs.Whole.{TakenBelow, set-row, empty-row, numbered-row}
 

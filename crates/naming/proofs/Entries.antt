@@ -14,7 +14,7 @@ use borrow.Author.Tests.{eq-eqb, ne-eqb, lt-ltb, le-ltb}
 use Rattle.definition.specs.Base.{pick, each}
 use Rattle.definition.specs.Names.{numbered}
 use Rattle.definition.specs.Rows.{given}
-use Rattle.laws.proofs.Numbering.{fresh}
+use Rattle.laws.specs.Numbering.{fresh}
 use Rattle.naming.specs.Variables.{noVar, takenBy, takenIn, keptBy, keptIn}
 
 -- What the first entries of a row say, from an index on.

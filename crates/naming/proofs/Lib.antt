@@ -1,5 +1,4 @@
 -- Laws of this crate.
-pub mod Choices
 pub mod Entries
 pub mod Whole
 pub mod Placed
@@ -7,5 +6,4 @@ pub mod Seeking
 pub mod Carrying
 pub mod News
 pub mod Printing
-pub mod Opening
 pub mod Reached

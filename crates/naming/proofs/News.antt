@@ -11,7 +11,7 @@ use Rattle.definition.specs.Base.{each}
 use Rattle.definition.specs.Group.{Variable}
 use Rattle.definition.specs.Rule.{Structure}
 use Rattle.definition.specs.Names.{newVariable, newVariables}
-use Rattle.rows.proofs.ElementLaws.{noElement}
+use Rattle.rule.proofs.ElementLaws.{noElement}
 use Rattle.naming.specs.Variables.{keptBy, keptIn, newIn}
 use Rattle.naming.proofs.Entries.{leftIn, left-on}
 

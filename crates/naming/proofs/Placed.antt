@@ -12,11 +12,11 @@ use Rattle.laws.proofs.Lists.{length-each, mem-at}
 use Rattle.rule.specs.Elements.{countAt, elementFields, elementNumbers, Elements, Finds}
 use Rattle.rule.specs.declared.elements.Found.the-variants.{At}
 use Rattle.rule.proofs.Finding.{numbers-length, numbers-get}
-use Rattle.rows.specs.Elements.{elementIn, elementsIn, elementFrom}
-use Rattle.rows.specs.declared.elements.Element as read
-use Rattle.rows.proofs.ElementLaws.{noElement, elements-many, elements-get}
-use Rattle.naming.specs.Structures.{structureIn, Laid, ByteTypes}
-use Rattle.naming.proofs.Choices.{each-each}
+use Rattle.rule.specs.ElementFields.{elementIn, elementsIn, elementFrom}
+use Rattle.rule.specs.declared.elements.Element as read
+use Rattle.rule.proofs.ElementLaws.{noElement, elements-many, elements-get}
+use Rattle.rule.specs.Structures.{structureIn, Laid, ByteTypes}
+use Rattle.laws.proofs.Choices.{each-each}
 
 -- Numbers that ascend.
 abbrev pub Rises : List ℕ → Type 0

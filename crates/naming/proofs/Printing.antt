@@ -2,7 +2,7 @@
 use Prim.Native.Nat.{ℕ, suc, _+_, _-_, _≤_, _<_}
 use native.Mathlib.Omega.{arith}
 use mathlib.Core.List.{List, [], _∷_, _++_}
-use mathlib.Core.Path.{_≡_, refl, sym}
+use mathlib.Core.Path.{_≡_, refl, sym, _∙_}
 use lib.ListN.{length, getD, length-append}
 use Rattle.definition.specs.Base.{pick, each, joined, empty}
 use Rattle.definition.specs.Letters.{letterW}
@@ -11,25 +11,30 @@ use Rattle.definition.specs.Rule.{Structure, Element}
 use Rattle.definition.specs.Names.{el, decimal, baseName, newVariable}
 use Rattle.definition.specs.Walk.{groupName, anonymousRule}
 use Rattle.definition.specs.Writer.{twoBytes, variableField, fieldBytes, recordBytes}
-use Rattle.records.specs.Places.{twoAt, stretch}
+use Rattle.records.specs.Places.{twoAt}
 use Rattle.records.specs.Buffer.{Put, capped, countLimit, headBytes}
 use Rattle.records.proofs.Numbers.{length-stretch}
 use Rattle.records.proofs.Tail.{Writing, begin, wrote, passed, finish, counted}
 use Rattle.laws.proofs.NameLaws.{digits-few}
 use Rattle.rule.specs.Elements.{countAt}
-use Rattle.rows.specs.Elements.{elementIn}
+use Rattle.rule.specs.ElementFields.{elementIn}
 use Rattle.rule.specs.Lookup.{ruleAt}
-use Rattle.naming.specs.Structures.{structureIn, Laid, Headed}
+use Rattle.rule.specs.Names.{bytesIn, NameInside}
+use Rattle.rule.specs.Structures.{structureIn, Laid, Headed}
+use Rattle.rule.specs.declared.names.Name.{Name}
 use Rattle.naming.specs.Variables.{newIn}
 use Rattle.naming.specs.Bases.{baseBytes, Fits, variableBytes}
 use Rattle.naming.specs.declared.bases.Base.{Base}
-use Rattle.naming.specs.declared.bases.Base.the-variants.{Name, El}
+use Rattle.naming.specs.declared.bases.Base.the-variants.{Of, El}
 use Rattle.naming.proofs.Placed.{element-get, below-count, at-count, past-count}
 use Rattle.naming.proofs.News.{newFrom, new-all, new-on, new-pass, new-end}
 
--- How many bytes a base has that fits in a record.
-pub named-base : {base : Base} {start len : ℕ} → base ≡ Name start len → (s : List ℕ) → Fits base (length s) → (len ≡ length (baseBytes s base)) × (len ≤ nameBytes)
-named-base {base} {start} {len} e s f = let g : Fits (Name start len) (length s) = rw e at f in rw e (sym (length-stretch s start len (g .0)), g .1)
+-- How many bytes a name has, and a base that fits in a record.
+name-long : {s : List ℕ} {name : Name} → NameInside s name → length (bytesIn s name) ≡ name .len
+name-long {s} {name} w = length-stretch s (name .start) (name .len) (w .inside)
+
+pub named-base : {base : Base} {name : Name} → base ≡ Of name → (s : List ℕ) → Fits s base → (name .len ≡ length (baseBytes s base)) × (name .len ≤ nameBytes)
+named-base {base} {name} e s f = let g : NameInside s name = rw e at f in rw e (sym (name-long g), g .short)
 
 pub unnamed-base : {base : Base} → base ≡ El → (s : List ℕ) → (length el ≡ length (baseBytes s base)) × (length el ≤ nameBytes)
 unnamed-base e s = rw e (refl, omega arith)
@@ -97,31 +102,37 @@ module _ {s index : List ℕ} {k : ℕ} (l : Laid s index k) {out₀ out : List 
     pub printing-count : number ≡ first + length (newIn (structureIn s k) first row)
     printing-count = let z : length (newFrom (structureIn s k) first row number i) ≡ 0 = rw none-left in let q = w .left in omega arith
 
--- The group's name.
-module _ {s : List ℕ} (h : Headed s) where
-  pub group-unnamed : twoAt s 1 - 2 ≡ 0 → groupName (ruleAt s) ≡ anonymousRule ++ decimal (twoAt s 3)
-  unfolding groupName stretch
-  group-unnamed e = rw (h .name, h .index, e)
-
-  pub group-named : (twoAt s 1 - 2 ≡ 0 → ⊥) → groupName (ruleAt s) ≡ stretch s 5 (twoAt s 1 - 2)
+-- The group's name, by what was read of the rule's.
+module _ {s : List ℕ} {name : Name} (says : bytesIn s name ≡ ruleAt s .name) (w : NameInside s name) where
+  pub group-unnamed : {index : ℕ} → index ≡ ruleAt s .index → name .len ≡ 0 → groupName (ruleAt s) ≡ anonymousRule ++ decimal index
   unfolding groupName
-  group-named n = rw (h .name) (go (stretch s 5 (twoAt s 1 - 2)) (length-stretch s 5 (twoAt s 1 - 2) (let w = h .inside in omega arith)))
+  group-unnamed {index} i e = rw (← says, ← i) (go (bytesIn s name) (name-long w ∙ e))
     where
-      go : (name : List ℕ) → length name ≡ twoAt s 1 - 2 → pick (empty name) (anonymousRule ++ decimal (ruleAt s .index)) name ≡ name
+      go : (bytes : List ℕ) → length bytes ≡ 0 → pick (empty bytes) (anonymousRule ++ decimal index) bytes ≡ anonymousRule ++ decimal index
+      go [] l = refl
+      go (b ∷ bs) l = absurd (omega arith)
+
+  pub group-named : (name .len ≡ 0 → ⊥) → groupName (ruleAt s) ≡ bytesIn s name
+  unfolding groupName
+  group-named n = rw (← says) (go (bytesIn s name) (name-long w))
+    where
+      go : (bytes : List ℕ) → length bytes ≡ name .len → pick (empty bytes) (anonymousRule ++ decimal (ruleAt s .index)) bytes ≡ bytes
       go [] l = absurd (n (sym l))
       go (b ∷ bs) l = refl
 
   -- How many bytes it has.
-  pub unnamed-length : twoAt s 1 - 2 ≡ 0 → length (groupName (ruleAt s)) ≡ length anonymousRule + length (decimal (twoAt s 3))
-  unnamed-length e = rw (group-unnamed e, length-append)
+  pub unnamed-length : {index : ℕ} → index ≡ ruleAt s .index → name .len ≡ 0 → length (groupName (ruleAt s)) ≡ length anonymousRule + length (decimal index)
+  unnamed-length i e = rw (group-unnamed i e, length-append)
 
-  pub named-length : (twoAt s 1 - 2 ≡ 0 → ⊥) → length (groupName (ruleAt s)) ≡ twoAt s 1 - 2
-  named-length n = rw (group-named n) (length-stretch s 5 (twoAt s 1 - 2) (let w = h .inside in omega arith))
+  pub named-length : (name .len ≡ 0 → ⊥) → length (groupName (ruleAt s)) ≡ name .len
+  named-length n = rw (group-named n) (name-long w)
 
-  pub group-short : length (groupName (ruleAt s)) ≤ nameBytes
-  unfolding groupName
-  group-short = rw (h .name) (go (stretch s 5 (twoAt s 1 - 2)) (length-stretch s 5 (twoAt s 1 - 2) (let w = h .inside in omega arith)))
-    where
-      go : (name : List ℕ) → length name ≡ twoAt s 1 - 2 → length (pick (empty name) (anonymousRule ++ decimal (ruleAt s .index)) name) ≤ nameBytes
-      go [] l = rw length-append (omega (arith, digits-few numberDigits (ruleAt s .index)))
-      go (b ∷ bs) l = omega (arith, h .sized .1)
+pub group-short : {s : List ℕ} → Headed s → length (groupName (ruleAt s)) ≤ nameBytes
+unfolding groupName
+group-short {s} h =
+    let l = length-stretch s 5 (twoAt s 1 - 2) (omega (arith, h .inside, h .sized)) in
+    go (ruleAt s .name) (rw (h .name) (omega (arith, h .sized)))
+  where
+    go : (name : List ℕ) → length name ≤ nameBytes → length (pick (empty name) (anonymousRule ++ decimal (ruleAt s .index)) name) ≤ nameBytes
+    go [] l = rw length-append (omega (arith, digits-few numberDigits (ruleAt s .index)))
+    go (b ∷ bs) l = l

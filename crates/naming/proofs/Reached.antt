@@ -7,21 +7,20 @@ use mathlib.Core.Logic.{_⊎_, inl, inr}
 use mathlib.Core.Path.{_≡_, sym, _∙_, ap}
 use lib.ListN.{length, getD, set, length-append, length-set, List·getD-append, List·getD-eq-default}
 use lib.Seq.{sets, append-snoc, getD-append-seam, getD-set-same, getD-set-other}
-use Rattle.definition.specs.Base.{each, _∈_}
+use Rattle.definition.specs.Base.{each}
 use Rattle.definition.specs.Group.{Variable}
 use Rattle.definition.specs.Kinds.{typeIn}
-use Rattle.definition.specs.Names.{numbersOf, variableAt, carried, numbered, newVariables}
+use Rattle.definition.specs.Names.{numbersOf, numbered, newVariables}
 use Rattle.definition.specs.Rows.{given, inImage}
 use Rattle.definition.specs.Rule.{Structure}
 use Rattle.laws.proofs.Lists.{trichotomy}
-use Rattle.laws.proofs.Numbering.{fresh, new-length}
 use Rattle.rows.specs.Kernel.{TypesOf}
-use Rattle.rows.specs.Maps.{pairsIn}
-use Rattle.rows.specs.declared.maps.Map.{Map}
-use Rattle.naming.specs.Structures.{structureIn}
+use Rattle.rule.specs.MapFields.{pairsIn, Joins}
+use Rattle.rule.specs.declared.maps.Map.{Map}
+use Rattle.rule.specs.Structures.{structureIn}
 use Rattle.naming.specs.Variables.{rowOf, variablesIn, keptIn, newIn, GivenOut}
-use Rattle.naming.specs.Maps.{Joins, takenOver}
-use Rattle.naming.proofs.Whole.{TakenBelow, take-row, kept-row}
+use Rattle.naming.specs.Maps.{takenOver}
+use Rattle.naming.proofs.Whole.{TakenBelow, kept-row}
 use Rattle.naming.proofs.Carrying.{length-carried, taken-below, given-images}
 use Rattle.naming.proofs.News.{typesOf}
 
@@ -31,18 +30,6 @@ module _ (st : Structure) {next : ℕ} {taken : List (Option ℕ)} (t : TakenBel
   pub new-row : newIn st next (rowOf (numbered next taken)) ≡ newVariables st next (st .elements) taken
   unfolding newIn
   new-row = rw (kept-row t long)
-
-  pub fresh-row : fresh (keptIn next (length (st .elements)) (rowOf (numbered next taken))) ≡ length (newVariables st next (st .elements) taken)
-  fresh-row = rw (kept-row t long) (sym (new-length st next (st .elements) taken (sym long)))
-
--- A row holds the variables of its structure's elements, which are then those that a map takes over from.
-module _ (st : Structure) (vs : List ℕ) (long : length vs ≡ length (st .elements)) where
-  pub given-out : {next : ℕ} → ((e : ℕ) → e ∈ numbersOf st → variableAt st vs e < next) → GivenOut st (rowOf vs) next
-  given-out h = record { below = λ e m. rw (take-row vs long) (h e m) }
-
-pub taken-from : (s vs : List ℕ) (src tgt : ℕ) (m : Map) → length vs ≡ length (structureIn s src .elements)
-    → takenOver s (rowOf vs) src tgt m ≡ carried (structureIn s src) vs (pairsIn s m) (structureIn s tgt)
-taken-from s vs src tgt m long = rw (take-row vs long)
 
 -- Those that were taken over are the images.
 pub images-taken : {s row : List ℕ} {src tgt next : ℕ} {m : Map} → Joins s src tgt m → GivenOut (structureIn s src) row next

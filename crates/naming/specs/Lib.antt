@@ -1,5 +1,4 @@
 -- What the contracts of this crate cite beside the definition.
 pub mod Variables
-pub mod Structures
 pub mod Bases
 pub mod Maps

@@ -5,20 +5,20 @@ ghost use Rattle.definition.specs.Base.{each};
 ghost use Rattle.definition.specs.Limits.{fieldLimit, variableLimit};
 ghost use Rattle.definition.specs.Names.{numbered};
 ghost use Rattle.definition.specs.Walk.{nothingTaken};
-ghost use Rattle.rows.specs.Maps.{MapIn};
-ghost use Rattle.naming.specs.Structures.{structureIn, Laid};
+ghost use Rattle.rule.specs.MapFields.{MapIn, Joins};
+ghost use Rattle.rule.specs.Structures.{structureIn, Laid};
 ghost use Rattle.naming.specs.Variables.{entryOf, rowOf, GivenOut};
-ghost use Rattle.naming.specs.Maps.{Joins, takenOver};
+ghost use Rattle.naming.specs.Maps.{takenOver};
 use crate::variables::NO_VAR;
 use crate::variables::assign_structure_el_vars;
-use rows::maps::Map;
-use rows::maps::pair_image;
-use rows::maps::pair_key;
 use rule::elements::Found;
 use rule::elements::element_count;
 use rule::elements::find_element;
 use rule::ids::FIELDS;
 use rule::ids::RULE_INDEX;
+use rule::maps::Map;
+use rule::maps::pair_image;
+use rule::maps::pair_key;
 
 // What each element of the target takes over: by ascending key, the image takes the key's variable, a later key replacing.
 // The variables are those of the source's elements. Keys and images are elements, so each of them is found.

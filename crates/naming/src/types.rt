@@ -6,11 +6,11 @@ ghost use lib.Seq.{sets};
 ghost use Rattle.definition.specs.Base.{each};
 ghost use Rattle.definition.specs.Group as definition;
 ghost use Rattle.definition.specs.Limits.{fieldLimit};
-ghost use Rattle.naming.specs.Structures.{structureIn, Laid, ByteTypes};
+ghost use Rattle.rule.specs.Structures.{structureIn, Laid, ByteTypes};
 ghost use Rattle.naming.specs.Variables.{newIn};
 use records::fields::place;
-use rows::elements::read_element;
 use rule::elements::element_count;
+use rule::elements::read_element;
 use rule::ids::FIELDS;
 use rule::ids::RULE_INDEX;
 

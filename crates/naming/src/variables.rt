@@ -7,7 +7,7 @@ ghost use Rattle.definition.specs.Base.{each};
 ghost use Rattle.definition.specs.Limits.{fieldLimit, variableLimit};
 ghost use Rattle.definition.specs.Names.{numbered};
 ghost use Rattle.definition.specs.Rows.{given};
-ghost use Rattle.laws.proofs.Numbering as numbering;
+ghost use Rattle.laws.specs.Numbering as numbering;
 ghost use Rattle.naming.specs.Variables.{takenIn, keptIn};
 use rule::ids::FIELDS;
 use rule::ids::STRUCTURES;

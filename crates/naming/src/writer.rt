@@ -10,17 +10,15 @@ ghost use Rattle.definition.specs.Names.{decimal, newVariable};
 ghost use Rattle.definition.specs.Walk.{groupName};
 ghost use Rattle.definition.specs.Writer.{variableField, fieldBytes, recordBytes};
 ghost use Rattle.records.specs.Buffer.{Put, countLimit};
-ghost use Rattle.rows.specs.Elements.{elementIn};
+ghost use Rattle.rule.specs.ElementFields.{elementIn};
 ghost use Rattle.rule.specs.Elements.{countAt};
 ghost use Rattle.rule.specs.Lookup.{ruleAt};
-ghost use Rattle.naming.specs.Structures.{structureIn, Laid, Headed};
+ghost use Rattle.rule.specs.Structures.{structureIn, Laid, Headed};
 ghost use Rattle.naming.specs.Variables.{newIn};
 ghost use Rattle.naming.specs.Bases.{baseBytes, Fits, variableBytes};
 use crate::bases::Base;
 use crate::bases::el_base_name;
-use records::fields::num;
 use records::fields::place;
-use records::fields::two;
 use records::write::digits;
 use records::write::past;
 use records::write::put_byte;
@@ -28,10 +26,12 @@ use records::write::put_bytes;
 use records::write::put_decimal;
 use records::write::put_field_head;
 use records::write::put_num;
-use rows::elements::read_element;
 use rule::elements::element_count;
+use rule::elements::read_element;
 use rule::ids::FIELDS;
 use rule::ids::RULE_INDEX;
+use rule::names::rule_index;
+use rule::names::rule_name;
 use signature::ids::TypeId;
 
 pub const LETTER_W: u8 = b'W';
@@ -44,18 +44,18 @@ const ANONYMOUS_BYTES: usize = 15;
 
 // The base of a name.
 fn put_base(out: &mut [u8], from: usize, s: &[u8], base: Base) -> usize
-    requires { ⌜ (from ≤ countLimit) × Fits base (length (now s)) ⌝ }
+    requires { ⌜ (from ≤ countLimit) × Fits (now s) base ⌝ }
     ensures { λ r. ⌜ Put (now (out .entry)) (now (out .exit)) (baseBytes (now (s .entry)) base) from r ⌝ }
 {
     match base {
-        Base::Name { start, len } => put_bytes(out, from, s, start, len),
+        Base::Of(name) => put_bytes(out, from, s, name.start, name.len),
         Base::El => put_bytes(out, from, b"el", 0, EL_BYTES),
     }
 }
 
 // The name of a new variable: a base followed by its number.
 fn put_name(out: &mut [u8], from: usize, s: &[u8], base: Base, number: u16) -> usize
-    requires { ⌜ (from ≤ countLimit) × Fits base (length (now s)) ⌝ }
+    requires { ⌜ (from ≤ countLimit) × Fits (now s) base ⌝ }
     ensures { λ r. ⌜ Put (now (out .entry)) (now (out .exit)) (baseBytes (now (s .entry)) base ++ decimal number) from r ⌝ }
 {
     let at = put_base(out, from, s, base);
@@ -64,17 +64,17 @@ fn put_name(out: &mut [u8], from: usize, s: &[u8], base: Base, number: u16) -> u
 
 // How many bytes a base has, in any record in which it fits.
 fn base_length(base: Base) -> usize
-    ensures { λ r. ⌜ ((s : List ℕ) → Fits base (length s) → (r ≡ length (baseBytes s base)) × (r ≤ nameBytes)) ⌝ }
+    ensures { λ r. ⌜ ((s : List ℕ) → Fits s base → (r ≡ length (baseBytes s base)) × (r ≤ nameBytes)) ⌝ }
 {
     match base {
-        Base::Name { start: _, len } => len,
+        Base::Of(name) => name.len,
         Base::El => EL_BYTES,
     }
 }
 
 // How many bytes such a name has, its base being one of the record.
 fn name_length(s: &[u8], base: Base, number: u16) -> u16
-    requires { ⌜ Fits base (length (now s)) ⌝ }
+    requires { ⌜ Fits (now s) base ⌝ }
     ensures { λ r. ⌜ (r ≡ length (baseBytes (now (s .entry)) base ++ decimal number)) × (r < 256) ⌝ }
 {
     (base_length(base) + digits(number)) as u16
@@ -82,7 +82,7 @@ fn name_length(s: &[u8], base: Base, number: u16) -> u16
 
 // A W field at the front of a buffer: letter, length, type, name.
 fn put_variable(out: &mut [u8], s: &[u8], t: TypeId, base: Base, number: u16) -> usize
-    requires { ⌜ Fits base (length (now s)) ⌝ }
+    requires { ⌜ Fits (now s) base ⌝ }
     ensures { λ r. ⌜ Put (now (out .entry)) (now (out .exit)) (variableBytes (now (s .entry)) (t .0) base number) 0 r ⌝ }
 {
     let head = put_field_head(out, 0, LETTER_W, 2 + name_length(s, base, number));
@@ -154,12 +154,12 @@ pub fn put_group_name(out: &mut [u8], from: usize, s: &[u8]) -> usize
     requires { ⌜ (from ≤ countLimit) × Headed (now s) ⌝ }
     ensures { λ r. ⌜ Put (now (out .entry)) (now (out .exit)) (groupName (ruleAt (now (s .entry)))) from r ⌝ }
 {
-    let len = two(s, 1) - 2;
-    if len == 0 {
+    let name = rule_name(s);
+    if name.len == 0 {
         let at = put_bytes(out, from, b"anonymous_rule_", 0, ANONYMOUS_BYTES);
-        return put_decimal(out, at, num(s, 3));
+        return put_decimal(out, at, rule_index(s));
     }
-    put_bytes(out, from, s, 5, len)
+    put_bytes(out, from, s, name.start, name.len)
 }
 
 // A rule's name: the group's, `_`, and the count of rules before it.
@@ -177,9 +177,10 @@ pub fn group_name_length(s: &[u8]) -> u16
     requires { ⌜ Headed (now s) ⌝ }
     ensures { λ r. ⌜ (r ≡ length (groupName (ruleAt (now (s .entry))))) × (r < 256) ⌝ }
 {
-    let bytes = two(s, 1) - 2;
+    let name = rule_name(s);
+    let bytes = name.len;
     if bytes == 0 {
-        return (ANONYMOUS_BYTES + digits(num(s, 3))) as u16;
+        return (ANONYMOUS_BYTES + digits(rule_index(s))) as u16;
     }
     bytes as u16
 }

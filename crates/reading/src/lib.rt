@@ -1,5 +1,5 @@
-// Whole records read from bytes alone: the signature's refusals first, then the rule's or group's. Of the caller nothing is asked
-// but, in the two that end in `_into`, the length of a lent index, which a caller with an array of its own has at hand.
+// Whole records read from bytes alone: the signature's refusals first, then the rule's or group's. Of a caller that lends an index
+// its length is asked, which one with an array of its own has at hand; of others nothing.
 ghost use mathlib.Core.Path.{_≡_};
 ghost use lib.ListN.{length};
 ghost use Rattle.rule.specs.Layout.{ruleIndex};
@@ -64,20 +64,6 @@ pub fn read_rule_into(
     }
 }
 
-// The same, asking nothing: a proof knows the length of what is assigned.
-pub fn read_rule(
-    sig: &[u8],
-    s: &[u8],
-    symbols: &mut [u16; INDEX],
-    index: &mut [u16; RULE_INDEX],
-) -> RuleReading
-    ensures { λ r. ⌜ ruleAnswer (now (s .entry)) r ≡ ruleRead (now (sig .entry)) (now (s .entry)) ⌝ }
-    ensures { λ r. ⌜ RuleUsable (now (sig .entry)) (now (symbols .exit)) (now (s .entry)) (now (index .exit)) r ⌝ }
-{
-    *index = [0u16; RULE_INDEX];
-    read_rule_into(sig, s, symbols, index)
-}
-
 // A signature and a group, likewise.
 pub fn read_group_into(
     sig: &[u8],
@@ -101,20 +87,6 @@ pub fn read_group_into(
         },
         group::reader::Reading::Refused(n) => GroupReading::Refused(n),
     }
-}
-
-// The same, asking nothing.
-pub fn read_group(
-    sig: &[u8],
-    s: &[u8],
-    symbols: &mut [u16; INDEX],
-    index: &mut [u16; GROUP_INDEX],
-) -> GroupReading
-    ensures { λ r. ⌜ groupAnswer (now (s .entry)) r ≡ groupRead (now (sig .entry)) (now (s .entry)) ⌝ }
-    ensures { λ r. ⌜ GroupUsable (now (sig .entry)) (now (symbols .exit)) (now (s .entry)) (now (index .exit)) r ⌝ }
-{
-    *index = [0u16; GROUP_INDEX];
-    read_group_into(sig, s, symbols, index)
 }
 
 // Are a signature and a rule sound?

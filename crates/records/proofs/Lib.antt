@@ -11,3 +11,4 @@ pub mod Lists
 pub mod Tail
 pub mod Copying
 pub mod Decimal
+pub mod Parts

@@ -7,6 +7,7 @@ use lib.ListN.{length, getD, take, drop, length-drop}
 use lib.Seq.{drop-drop, getD-take, getD-drop, length-take-le, take-take, take-nil}
 use Rattle.definition.specs.Records.{numbers, numberAt}
 use Rattle.records.specs.Places.{twoAt, stretch}
+use Rattle.laws.proofs.Numbers.{double-suc, length-numbers}
 
 -- A stretch has as many bytes as it says, and they are the record's.
 pub length-stretch : (s : List ℕ) (start len : ℕ) → start + len ≤ length s → length (stretch s start len) ≡ len
@@ -32,36 +33,12 @@ pub take-stretch : (s : List ℕ) (start len k : ℕ) → k ≤ len → take k (
 unfolding stretch
 take-stretch s start len k h = take-take k len (drop start s) h
 
--- Two bytes are a number.
-pub length-numbers : (s : List ℕ) → length (numbers s) ≡ length s / 2
-unfolding numbers
-length-numbers [] = refl
-length-numbers (a ∷ []) = refl
-length-numbers (a ∷ b ∷ s) = let e : length (numbers s) ≡ length s / 2 = length-numbers s in omega arith
-
-double : (i : ℕ) → 2 * suc i ≡ suc (suc (2 * i))
-double i = omega arith
-
 pub numbers-at : (s : List ℕ) (i : ℕ) → i < length s / 2 → getD (numbers s) i 0 ≡ twoAt s (2 * i)
 unfolding numbers
 numbers-at [] i h = absurd (omega arith)
 numbers-at (a ∷ []) i h = absurd (omega arith)
 numbers-at (a ∷ b ∷ s) zero h = refl
-numbers-at (a ∷ b ∷ s) (suc i) h = let e : 2 * suc i + 1 ≡ suc (suc (2 * i + 1)) = omega arith in rw (e, double i) (numbers-at s i (omega arith))
-
-pub drop-numbers : (k : ℕ) (s : List ℕ) → drop k (numbers s) ≡ numbers (drop (2 * k) s)
-unfolding numbers
-drop-numbers zero s = refl
-drop-numbers (suc k) [] = rw (double k)
-drop-numbers (suc k) (a ∷ []) = rw (double k)
-drop-numbers (suc k) (a ∷ b ∷ s) = rw (double k) (drop-numbers k s)
-
-pub take-numbers : (k : ℕ) (s : List ℕ) → take k (numbers s) ≡ numbers (take (2 * k) s)
-unfolding numbers
-take-numbers zero s = refl
-take-numbers (suc k) [] = rw (double k)
-take-numbers (suc k) (a ∷ []) = rw (double k)
-take-numbers (suc k) (a ∷ b ∷ s) = rw (double k, take-numbers k s)
+numbers-at (a ∷ b ∷ s) (suc i) h = let e : 2 * suc i + 1 ≡ suc (suc (2 * i + 1)) = omega arith in rw (e, double-suc i) (numbers-at s i (omega arith))
 
 -- The numbers of a stretch.
 module _ (s : List ℕ) (start len : ℕ) (h : start + len ≤ length s) where

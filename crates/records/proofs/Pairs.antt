@@ -10,8 +10,9 @@ use lib.Seq.{take-all}
 use borrow.Author.Tests.{lt-ltb, le-ltb, ltb-true, ltb-false}
 use Rattle.definition.specs.Base.{pick, less}
 use Rattle.definition.specs.Records.{numbers}
+use Rattle.laws.proofs.Numbers.{take-numbers}
 use Rattle.records.specs.Places.{stretch}
-use Rattle.records.proofs.Numbers.{length-stretch, stretch-at, take-stretch, take-numbers, length-numbers-in}
+use Rattle.records.proofs.Numbers.{length-stretch, stretch-at, take-stretch, length-numbers-in}
 
 abbrev Bytes : List ℕ → Type 0
 Bytes xs = (i : ℕ) → getD xs i 0 < 256

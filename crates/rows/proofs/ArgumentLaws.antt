@@ -1,5 +1,5 @@
 -- Marks for the elements that rows list as arguments.
-use Prim.Native.Nat.{ℕ, zero, suc, _+_, _-_, _*_, _/_, _≤_, _<_}
+use Prim.Native.Nat.{ℕ, zero, suc, _+_, _≤_, _<_}
 use native.Mathlib.Omega.{arith}
 use native.Mathlib.Decide.{ℕ-discrete}
 use mathlib.Core.Bool.{Bool, true, false, _||_}
@@ -7,28 +7,31 @@ use mathlib.Core.List.{List, [], _∷_, _++_, append-nil, append-assoc}
 use mathlib.Core.Logic.{⊎-elim}
 use mathlib.Core.Path.{_≡_, refl, sym, _∙_}
 use lib.Dec.{eqb}
-use lib.ListN.{length, getD, set, take, getD-replicate, replicate}
-use lib.Seq.{getD-set-same, getD-set-other, getD-take, length-take-le, ext-getD, take-all}
+use lib.ListN.{length, getD, set, take, drop, getD-replicate, replicate}
+use lib.Seq.{getD-set-same, getD-set-other, getD-take, length-take-le, ext-getD}
 use borrow.Author.Tests.{eq-eqb, ne-eqb}
 use Rattle.definition.specs.Base.{each, joined, any, has}
-use Rattle.definition.specs.Limits.{fieldLimit}
+use Rattle.flags.specs.Flags.{places}
 use Rattle.definition.specs.Names.{numbersOf}
-use Rattle.definition.specs.Records.{Field, numbers}
+use Rattle.definition.specs.Records.{Field}
 use Rattle.definition.specs.Rule.{Structure, Row, rowOf}
 use Rattle.definition.specs.Rows.{arguments, constrained}
 use Rattle.definition.specs.Signature.{Signature}
-use Rattle.laws.proofs.Lists.{never, has-mem, length-each, getD-each, each-append, joined-append, trichotomy}
+use Rattle.laws.proofs.Lists.{never, has-mem, length-each, getD-each, joined-append, trichotomy}
 use Rattle.laws.proofs.Numbering.{place-in}
-use Rattle.records.specs.Places.{twoAt, stretch, fieldAt, Run}
-use Rattle.records.specs.declared.fields.Field.the-variants.{Got}
-use Rattle.records.proofs.Numbers.{drop-stretch, drop-numbers}
+use Rattle.records.specs.Places.{Run}
 use Rattle.rule.specs.Elements.{countAt, elementNumbers, Elements, Finds}
 use Rattle.rule.specs.declared.elements.Found.the-variants.{At, Nothing}
-use Rattle.rule.proofs.Finding.{numbers-length, numbers-get}
-use Rattle.rows.specs.Table.{rowIn}
-use Rattle.rows.specs.Arguments.{rowSymbol, RowsKnown, Marks}
-use Rattle.rows.proofs.Parts.{any-append, take-more, count-in, element-in}
-use Rattle.rows.proofs.Sections.{Passed, passed-start, next-field, RowHere, row-here, row-is, all-passed}
+use Rattle.rule.proofs.Finding.{numbers-length, Ascending}
+use Rattle.rule.specs.Rows.{rowSymbol, RowsKnown, rowFrom, RowRead}
+use Rattle.rule.specs.Lists.{elsIn, ElsInside}
+use Rattle.rule.specs.declared.lists.Els.{Els}
+use Rattle.rule.specs.declared.rows.Row as read
+use Rattle.rows.specs.Arguments.{Marks}
+use Rattle.records.proofs.Parts.{any-append}
+use Rattle.rule.proofs.ListLaws.{els-many, els-more}
+use Rattle.rule.proofs.RowFields.{Passed, passed-start, all-passed}
+use Rattle.rule.proofs.RowReading.{next-row, rows-more}
 
 -- One more is seen.
 pub has-more : (x : ℕ) (seen : List ℕ) (e : ℕ) → has x (seen ++ (e ∷ [])) ≡ (has x seen || eqb e x)
@@ -43,18 +46,9 @@ or-true : (b : Bool) → (b || true) ≡ true
 or-true true = refl
 or-true false = refl
 
-or-none : (b : Bool) → (b || false) ≡ b
+pub or-none : (b : Bool) → (b || false) ≡ b
 or-none true = refl
 or-none false = refl
-
-abbrev pub Ascending : List ℕ → Type 0
-Ascending els = (i j : ℕ) → i < j → j < length els → getD els i 0 < getD els j 0
-
-pub numbers-ascend : {s index : List ℕ} {k : ℕ} → Elements s index k → Ascending (elementNumbers s index k)
-numbers-ascend {s} {index} {k} w i j l h =
-    let n = numbers-length s index k in
-    let a = w .ascend i j l (omega arith) in
-    rw (numbers-get w i (omega arith), numbers-get w j (omega arith)) a
 
 has-get : (xs : List ℕ) (j : ℕ) → j < length xs → has (getD xs j 0) xs ≡ true
 unfolding has any
@@ -86,15 +80,10 @@ module _ {flags : List Bool} {els seen : List ℕ} (m : Marks flags els seen) {e
           (λ (a : j < i). let x = up j i a (f .is .1) in omega (arith, here))
           (⊎-elim (λ (a : j ≡ i). q a) (λ (a : i < j). let x = up i j a l in omega (arith, here))) (trichotomy j i))
 
--- The loop along the elements in a stretch.
-pub seen-more : (s : List ℕ) (start count j : ℕ) → start + 2 * count ≤ length s → j < count → (seen : List ℕ)
-    → seen ++ take (j + 1) (numbers (stretch s start (2 * count))) ≡ seen ++ take j (numbers (stretch s start (2 * count))) ++ (twoAt s (start + 2 * j) ∷ [])
-seen-more s start count j h l seen =
-    let n = count-in s start count h in
-    rw (take-more (numbers (stretch s start (2 * count))) j 0 (omega arith), element-in s start count h j l, append-assoc)
-
-pub seen-all : (s : List ℕ) (start count j : ℕ) → start + 2 * count ≤ length s → count ≤ j → take j (numbers (stretch s start (2 * count))) ≡ numbers (stretch s start (2 * count))
-seen-all s start count j h l = let n = count-in s start count h in take-all j (numbers (stretch s start (2 * count))) (omega arith)
+-- The loop along the elements of a list.
+pub seen-more : {s : List ℕ} {l : Els} → ElsInside s l → (j : ℕ) → j < l .count → {e : ℕ} → e ≡ getD (elsIn s l) j 0 → (seen : List ℕ)
+    → seen ++ take (j + 1) (elsIn s l) ≡ seen ++ take j (elsIn s l) ++ (e ∷ [])
+seen-more w j h is seen = rw (els-more w j h is, append-assoc)
 
 -- Somewhere along a section.
 pub record Along (s : List ℕ) (end : ℕ) (fs : List Field) (at : ℕ) : Type 0 where
@@ -104,32 +93,26 @@ pub record Along (s : List ℕ) (end : ℕ) (fs : List Field) (at : ℕ) : Type 
 pub along-start : {s : List ℕ} {from end : ℕ} {fs : List Field} → Run s from end fs → Along s end fs from
 along-start r = record { i = 0; passed = passed-start r }
 
-pub along-next : {s : List ℕ} {end at letter start len next : ℕ} {fs : List Field} → Along s end fs at → at < end → fieldAt s at ≡ Got letter start len next → Along s end fs next
-along-next a h e = record { i = a .i + 1; passed = next-field (a .passed) h e .passed }
+pub along-next : {s : List ℕ} {end at : ℕ} {fs : List Field} {r : read.Row} → Along s end fs at → at < end → RowRead s at r → Along s end fs (r .next)
+along-next a h q = record { i = a .i + 1; passed = next-row (a .passed) h q .passed }
 
 -- A row whose symbol is known.
-pub record KnownHere (sig : Signature) (symbols kind : ℕ) (s : List ℕ) (start len : ℕ) : Type 0 where
-  pub i : ℕ
-  pub here : RowHere s i start len
-  pub named : twoAt s start < symbols
-  pub parents : length (rowSymbol sig kind (twoAt s start) .parents) ≤ len / 2 - 1
+pub record KnownHere (sig : Signature) (symbols kind : ℕ) (r : read.Row) : Type 0 where
+  pub named : r .symbol < symbols
+  pub parents : length (rowSymbol sig kind (r .symbol) .parents) ≤ r .els .count
 
-pub known-here : {sig : Signature} {symbols kind : ℕ} {s : List ℕ} {from end at letter start len next : ℕ} (k : RowsKnown sig symbols kind s from end)
-    → Along s end (k .rows .fields) at → at < end → fieldAt s at ≡ Got letter start len next → KnownHere sig symbols kind s start len
-known-here {sig} {symbols} {kind} {s} {letter = letter} {start} {len} k a h e =
-    let r = row-here (k .rows) (a .passed) h e in
-    let n = next-field (a .passed) h e in
-    let q = row-is r kind letter in
-    let c : length (numbers (stretch s (start + 2) (2 * (len / 2 - 1)))) ≡ len / 2 - 1 = count-in s (start + 2) (len / 2 - 1) (omega (arith, r .within, r .least)) in
-    record { i = a .i; here = r; named = rw q at (k .named _ (n .is)); parents = rw c at (rw q at (k .parents _ (n .is))) }
+pub known-here : {sig : Signature} {symbols kind : ℕ} {s : List ℕ} {from end at : ℕ} {r : read.Row} (k : RowsKnown sig symbols kind s from end)
+    → Along s end (k .rows .fields) at → at < end → RowRead s at r → KnownHere sig symbols kind r
+known-here {kind = kind} k a h q =
+    let n = next-row (a .passed) h q in
+    let e = n .says kind in
+    record { named = rw e at (k .named _ (n .is)); parents = rw (els-many (q .inside)) at (rw e at (k .parents _ (n .is))) }
 
 -- Its arguments.
-args-are : {sig : Signature} {symbols kind : ℕ} {s : List ℕ} {start len : ℕ} → KnownHere sig symbols kind s start len → {p : ℕ} → p ≡ length (rowSymbol sig kind (twoAt s start) .parents)
-    → arguments sig (rowIn s kind (twoAt s start) (start + 2) (len / 2 - 1)) ≡ numbers (stretch s (start + 2 + 2 * p) (2 * (len / 2 - 1 - p)))
+args-are : (sig : Signature) (kind : ℕ) (s : List ℕ) (r : read.Row) {p : ℕ} → p ≡ length (rowSymbol sig kind (r .symbol) .parents)
+    → arguments sig (rowFrom s kind r) ≡ drop p (elsIn s (r .els))
 unfolding arguments
-args-are {s = s} {start} {len} k {p} e =
-    let b : 2 * (len / 2 - 1) - 2 * p ≡ 2 * (len / 2 - 1 - p) = omega arith in
-    rw (← e) (drop-numbers p (stretch s (start + 2) (2 * (len / 2 - 1))) ∙ rw (drop-stretch s (start + 2) (2 * (len / 2 - 1)) (2 * p), b))
+args-are sig kind s r e = rw (← e)
 
 -- The arguments of the first rows are marked.
 pub record Marking (sig : Signature) (kind : ℕ) (s els : List ℕ) (end : ℕ) (seen : List ℕ) (fs : List Field) (flags : List Bool) (at : ℕ) : Type 0 where
@@ -143,27 +126,25 @@ unfolding joined each
 marking-start r m = record { i = 0; passed = passed-start r; marks = rw append-nil m }
 
 module _ {sig : Signature} {kind : ℕ} {s els : List ℕ} {end : ℕ} {seen : List ℕ} {fs : List Field} {flags : List Bool} {at : ℕ} (m : Marking sig kind s els end seen fs flags at) where
-  pub marking-next : {symbols letter start len next p : ℕ} → at < end → fieldAt s at ≡ Got letter start len next → KnownHere sig symbols kind s start len
-      → p ≡ length (rowSymbol sig kind (twoAt s start) .parents) → {flags′ : List Bool}
-      → ((seen : List ℕ) → Marks flags els seen → Marks flags′ els (seen ++ numbers (stretch s (start + 2 + 2 * p) (2 * (len / 2 - 1 - p)))))
-      → Marking sig kind s els end seen fs flags′ next
-  unfolding joined each
-  marking-next {letter = letter} {start} {len} {p = p} h e k q g =
-      let n = next-field (m .passed) h e in
-      let a = args-are k q in
-      let b = row-is (k .here) kind letter in
+  pub marking-next : (l : Els) {r : read.Row} {p : ℕ} {flags′ : List Bool} → at < end → RowRead s at r → p ≡ length (rowSymbol sig kind (r .symbol) .parents)
+      → elsIn s l ≡ drop p (elsIn s (r .els)) → ((seen : List ℕ) → Marks flags els seen → Marks flags′ els (seen ++ elsIn s l))
+      → Marking sig kind s els end seen fs flags′ (r .next)
+  unfolding joined
+  marking-next l {r} h q e d g =
+      let n = next-row (m .passed) h q in
+      let a = args-are sig kind s r e ∙ sym d in
       let w : seen ++ joined (arguments sig) (each (rowOf kind) (take (m .i + 1) fs))
-      ≡ seen ++ joined (arguments sig) (each (rowOf kind) (take (m .i) fs)) ++ numbers (stretch s (start + 2 + 2 * p) (2 * (len / 2 - 1 - p)))
-      = rw (n .took, each-append, joined-append, b, a, append-nil, append-assoc) in
+      ≡ seen ++ joined (arguments sig) (each (rowOf kind) (take (m .i) fs)) ++ elsIn s l
+      = rw (rows-more n kind, joined-append, a, append-nil, append-assoc) in
       record { i = m .i + 1; passed = n .passed; marks = rw w (g _ (m .marks)) }
 
   pub marking-end : end ≤ at → Marks flags els (seen ++ joined (arguments sig) (each (rowOf kind) fs))
   marking-end h = rw (all-passed (m .passed) h .0) at (m .marks)
 
 -- No marks at first, and what they say at the end.
-pub marks-none : {s index : List ℕ} {k : ℕ} → Elements s index k → Marks (replicate fieldLimit false) (elementNumbers s index k) []
+pub marks-none : {s index : List ℕ} {k : ℕ} → Elements s index k → Marks (replicate places false) (elementNumbers s index k) []
 unfolding has any
-marks-none {s} {index} {k} w = let n = numbers-length s index k in let few = w .few in record { at = λ j l. getD-replicate fieldLimit j false false (omega arith) }
+marks-none {s} {index} {k} w = let n = numbers-length s index k in let few = w .few in record { at = λ j l. getD-replicate places j false false (omega arith) }
 
 pub marks-say : {flags : List Bool} {els seen : List ℕ} → Marks flags els seen → length els ≤ length flags → (f : ℕ → Bool) → ((e : ℕ) → f e ≡ has e seen)
     → take (length els) flags ≡ each f els
@@ -174,7 +155,7 @@ marks-say {flags} {els} {seen} m h f g =
     ∙ sym (getD-each f els j 0 false (omega arith) ∙ g (getD els j 0)))
 
 pub constrained-say : {s index : List ℕ} {k : ℕ} → Elements s index k → {flags : List Bool} {ps qs : List Row} (sig : Signature) (st : Structure)
-    → Marks flags (elementNumbers s index k) ([] ++ joined (arguments sig) ps ++ joined (arguments sig) qs) → length flags ≡ fieldLimit
+    → Marks flags (elementNumbers s index k) ([] ++ joined (arguments sig) ps ++ joined (arguments sig) qs) → length flags ≡ places
     → numbersOf st ≡ elementNumbers s index k → st .predRows ≡ ps → st .funcRows ≡ qs → take (countAt index k) flags ≡ each (constrained sig st) (numbersOf st)
 unfolding constrained
 constrained-say {s} {index} {k} w {flags} {ps} {qs} sig st m h n p q =

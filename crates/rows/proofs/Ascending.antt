@@ -12,8 +12,8 @@ use Rattle.definition.specs.Names.{fiber}
 use Rattle.definition.specs.Rule.{Pair}
 use Rattle.laws.proofs.Lists.{and-left, and-right}
 use Rattle.rows.specs.Kernel.{imagesAbove, imagesAscend}
-use Rattle.rows.specs.Maps.{pairsIn, pairAt, MapIn}
-use Rattle.rows.specs.declared.maps.Map.{Map}
+use Rattle.rule.specs.MapFields.{pairsIn, pairAt, MapIn}
+use Rattle.rule.specs.declared.maps.Map.{Map}
 use Rattle.rows.proofs.KernelLaws.{left-on, left-end}
 
 -- Images above a number ascend.

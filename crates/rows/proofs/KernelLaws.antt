@@ -20,11 +20,12 @@ use Rattle.definition.specs.Signature.{Signature}
 use Rattle.laws.proofs.Lists.{bool-cases, never, and-left, and-right, and-true, or-cases, any-mem, any-true, getD-each, mem-has, each-append, mem-at}
 use Rattle.rule.specs.Elements.{Finds}
 use Rattle.rule.specs.declared.elements.Found.the-variants.{At, Nothing}
-use Rattle.rows.specs.Kernel.{KeyVars, KeyTypes, Typed, TypesOf, KeysIn, ImagesIn, SideAt, clash}
-use Rattle.rows.specs.Maps.{pairsIn, pairAt, noPair, MapIn}
-use Rattle.rows.specs.declared.maps.Map.{Map}
-use Rattle.rows.proofs.Parts.{any-append, any-each, take-more, store-more}
-use Rattle.rows.proofs.MapLaws.{pairs-many}
+use Rattle.rule.specs.Lookup.{noPair}
+use Rattle.rows.specs.Kernel.{KeyVars, KeyTypes, Typed, TypesOf, SideAt, clash}
+use Rattle.rule.specs.MapFields.{pairsIn, pairAt, MapIn, KeysIn, ImagesIn}
+use Rattle.rule.specs.declared.maps.Map.{Map}
+use Rattle.records.proofs.Parts.{any-append, any-each, take-more, store-more}
+use Rattle.rule.proofs.MapLaws.{pairs-many}
 
 -- Whether a test holds of some pair and a later one.
 unfoldable pub anyTwo : (Pair → Pair → Bool) → List Pair → Bool

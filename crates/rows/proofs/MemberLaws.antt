@@ -13,7 +13,6 @@ use borrow.Author.Tests.{eq-eqb, ne-eqb}
 use Rattle.definition.specs.Base.{consIf, keep, each, any, sameList, empty, _∈_}
 use Rattle.definition.specs.Letters.{member}
 use Rattle.definition.specs.Limits.{columnLimit}
-use Rattle.definition.specs.Records.{numbers}
 use Rattle.definition.specs.Rule.{Element, Row, Pair}
 use Rattle.definition.specs.Rows.{imageOf, imageRow, sameRow, memberRow}
 use Rattle.laws.proofs.Lists.{each-append, each-mem, keep-mem, any-mem, any-false}
@@ -21,15 +20,16 @@ use Rattle.records.specs.Places.{stretch}
 use Rattle.records.proofs.Lists.{keep-append}
 use Rattle.records.proofs.Numbers.{length-stretch}
 use Rattle.rule.specs.Elements.{countAt}
-use Rattle.rows.specs.Elements.{elementFrom, elementIn, elementsIn, Within}
-use Rattle.rows.specs.declared.elements.Element as read
-use Rattle.rows.specs.Members.{hasParents, memberRows, newMember}
-use Rattle.rows.specs.Table.{lacksImage, rowLacks, imageIn, isNew, Maps, Imaged, Alike}
+use Rattle.rule.specs.ElementFields.{elementFrom, elementIn, elementsIn, Within}
+use Rattle.rule.specs.declared.elements.Element as read
+use Rattle.rule.specs.Rows.{Alike, hasParents, memberRows}
+use Rattle.rows.specs.Members.{newMember}
+use Rattle.rows.specs.Table.{lacksImage, rowLacks, imageIn, isNew, Maps, Imaged}
 use Rattle.rows.specs.declared.table.Mapped.the-variants as mapped
 use Rattle.rows.specs.declared.table.Images.the-variants as images
-use Rattle.rows.proofs.Parts.{store-more, any-append, none-kept, any-each, count-in, drop-mem, and-false, and-one}
+use Rattle.records.proofs.Parts.{store-more, any-append, none-kept, any-each, drop-mem, and-false, and-one}
 use Rattle.rows.proofs.TableLaws.{Filled, filled-none, filled-more}
-use Rattle.rows.proofs.ElementLaws.{elements-many, elements-more, elements-on}
+use Rattle.rule.proofs.ElementLaws.{parents-many, elements-many, elements-more, elements-on}
 
 -- A row of one element more: its image, and that the element, or one before it, has none.
 module _ {pairs : List Pair} {es els₀ els : List ℕ} {at : ℕ} (e : ℕ) where
@@ -72,39 +72,39 @@ stretch-more xs a n h =
 -- The elements of a member row against the table.
 module _ {s : List ℕ} {e : read.Element} (w : Within s e) (els : List ℕ) (at : ℕ) (h : at + e .parents < length els) where
   last-apart : sameList (memberRow (elementFrom s e) .elements) (stretch els at (e .parents + 1))
-      ≡ (sameList (numbers (stretch s (e .start) (2 * e .parents))) (stretch els at (e .parents)) && eqb (e .number .0) (getD els (at + e .parents) 0))
+      ≡ (sameList (elementFrom s e .parents) (stretch els at (e .parents)) && eqb (e .number .0) (getD els (at + e .parents) 0))
   unfolding memberRow
   last-apart =
-      let a = count-in s (e .start) (e .parents) (w .inside) in
+      let a = parents-many w in
       let b = length-stretch els at (e .parents) (omega arith) in
       rw (stretch-more els at (e .parents) h)
-      (same-snoc (numbers (stretch s (e .start) (2 * e .parents))) (stretch els at (e .parents)) (e .number .0) (getD els (at + e .parents) 0) (a ∙ sym b))
+      (same-snoc (elementFrom s e .parents) (stretch els at (e .parents)) (e .number .0) (getD els (at + e .parents) 0) (a ∙ sym b))
 
   pub last-differs : (getD els (at + e .parents) 0 ≡ e .number .0 → ⊥) → sameList (memberRow (elementFrom s e) .elements) (stretch els at (e .parents + 1)) ≡ false
-  last-differs d = last-apart ∙ rw (ne-eqb (e .number .0) (getD els (at + e .parents) 0) (λ q. d (sym q))) (and-false (sameList (numbers (stretch s (e .start) (2 * e .parents))) (stretch els at (e .parents))))
+  last-differs d = last-apart
+      ∙ rw (ne-eqb (e .number .0) (getD els (at + e .parents) 0) (λ q. d (sym q)))
+      (and-false (sameList (elementFrom s e .parents) (stretch els at (e .parents))))
 
   pub last-same : getD els (at + e .parents) 0 ≡ e .number .0
-      → sameList (memberRow (elementFrom s e) .elements) (stretch els at (e .parents + 1)) ≡ sameList (numbers (stretch s (e .start) (2 * e .parents))) (stretch els at (e .parents))
-  last-same q = last-apart ∙ rw (eq-eqb (e .number .0) (getD els (at + e .parents) 0) (sym q)) (and-one (sameList (numbers (stretch s (e .start) (2 * e .parents))) (stretch els at (e .parents))))
+      → sameList (memberRow (elementFrom s e) .elements) (stretch els at (e .parents + 1)) ≡ sameList (elementFrom s e .parents) (stretch els at (e .parents))
+  last-same q = last-apart
+      ∙ rw (eq-eqb (e .number .0) (getD els (at + e .parents) 0) (sym q)) (and-one (sameList (elementFrom s e .parents) (stretch els at (e .parents))))
 
 -- The member row of an element that was read.
 module _ {s : List ℕ} {e : read.Element} (w : Within s e) where
-  parents-many : length (elementFrom s e .parents) ≡ e .parents
-  parents-many = count-in s (e .start) (e .parents) (w .inside)
-
   pub member-columns : length (memberRow (elementFrom s e) .elements) ≡ e .parents + 1
   unfolding memberRow
-  member-columns = length-append (elementFrom s e .parents) (e .number .0 ∷ []) ∙ rw parents-many
+  member-columns = length-append (elementFrom s e .parents) (e .number .0 ∷ []) ∙ rw (parents-many w)
 
   pub without-parents : e .parents ≡ 0 → hasParents (elementFrom s e) ≡ false
-  without-parents z = go (elementFrom s e .parents) (parents-many ∙ z)
+  without-parents z = go (elementFrom s e .parents) (parents-many w ∙ z)
     where
       go : (ps : List ℕ) → length ps ≡ 0 → not (empty ps) ≡ false
       go [] h = refl
       go (p ∷ ps) h = absurd (omega arith)
 
   pub with-parents : (e .parents ≡ 0 → ⊥) → hasParents (elementFrom s e) ≡ true
-  with-parents z = go (elementFrom s e .parents) parents-many
+  with-parents z = go (elementFrom s e .parents) (parents-many w)
     where
       go : (ps : List ℕ) → length ps ≡ e .parents → not (empty ps) ≡ true
       go [] h = absurd (z (sym h))

@@ -11,8 +11,6 @@ use lib.Dec.{eqb, ltb}
 use lib.ListN.{length, getD, set, take, replicate, getD-replicate, length-append}
 use lib.Seq.{getD-set-same, getD-set-other, take-all}
 use borrow.Author.Tests.{eq-eqb, ne-eqb, lt-ltb, le-ltb, ltb-false}
-use Rattle.flags.specs.Flags.{flagAt, PackedLess}
-use Rattle.flags.proofs.Bits.{pow-pos, no-flag}
 use Rattle.definition.specs.Base.{consIf, keep, each, joined, any, has}
 use Rattle.definition.specs.Group.{Variable}
 use Rattle.definition.specs.Kinds.{Side, kernelVariables, kernelClashes}
@@ -26,15 +24,19 @@ use Rattle.laws.proofs.Lists.{never, has-mem, mem-has, each-append, trichotomy,
 use Rattle.laws.proofs.Numbering.{place-in}
 use Rattle.rule.specs.Elements.{elementNumbers, Elements, Finds}
 use Rattle.rule.specs.declared.elements.Found.the-variants.{At, Nothing}
-use Rattle.rule.proofs.Finding.{numbers-length}
+use Rattle.rule.proofs.Finding.{Ascending, numbers-length}
+use Rattle.flags.specs.declared.Mask.{Mask}
+use Rattle.flags.specs.Flags.{places, flagAt, noFlags, noneSet, PackedLess}
+use Rattle.flags.proofs.Words.{above-none, no-flag, none-no-flag}
+use Rattle.records.proofs.Parts.{take-more}
+use Rattle.rule.proofs.MapLaws.{pairs-many}
+use Rattle.rule.specs.MapFields.{ImagesIn, pairsIn, pairAt, MapIn}
+use Rattle.rule.specs.Lookup.{noPair}
 use Rattle.rows.specs.Arguments.{Marks}
-use Rattle.rows.specs.Kernel.{ImagesIn, Merged, severalAt, imagesAscend}
-use Rattle.rows.specs.Maps.{pairsIn, pairAt, noPair, MapIn}
-use Rattle.rows.specs.declared.maps.Map.{Map}
-use Rattle.rows.proofs.ArgumentLaws.{Ascending, marks-none, mark-at}
+use Rattle.rows.specs.Kernel.{Merged, severalAt, imagesAscend}
+use Rattle.rule.specs.declared.maps.Map.{Map}
+use Rattle.rows.proofs.ArgumentLaws.{marks-none, mark-at}
 use Rattle.rows.proofs.Ascending.{fiber-one}
-use Rattle.rows.proofs.MapLaws.{pairs-many}
-use Rattle.rows.proofs.Parts.{take-more}
 
 -- The keys of an image, with one more pair.
 module _ (ps : List Pair) (q : Pair) (e : ℕ) where
@@ -69,11 +71,11 @@ pub record Several (s : List ℕ) (m : Map) (els : List ℕ) (seen merged : List
   pub marks : Marks seen els (imagesTo s m p)
   pub several : (j : ℕ) → j < length els → getD merged j false ≡ severalAt els (take p (pairsIn s m)) j
 
-pub several-start : {s index : List ℕ} {k : ℕ} {m : Map} → Elements s index k → Several s m (elementNumbers s index k) (replicate fieldLimit false) (replicate fieldLimit false) 0
+pub several-start : {s index : List ℕ} {k : ℕ} {m : Map} → Elements s index k → Several s m (elementNumbers s index k) (replicate places false) (replicate places false) 0
 unfolding each fiber keep
 several-start {s} {index} {k} w = let n = numbers-length s index k in let few = w .few in record {
   marks = marks-none w;
-  several = λ j l. getD-replicate fieldLimit j false false (omega arith) ∙ sym (le-ltb 1 0 (omega arith));
+  several = λ j l. getD-replicate places j false false (omega arith) ∙ sym (le-ltb 1 0 (omega arith));
 }
 
 module _ {s : List ℕ} {m : Map} (h : MapIn s m) {els : List ℕ} {seen merged : List Bool} {p : ℕ} (w : Several s m els seen merged p) where
@@ -113,11 +115,12 @@ module _ {s : List ℕ} {m : Map} (h : MapIn s m) {els : List ℕ} {seen merged 
               (⊎-elim (λ (c : j ≡ i). z c) (λ (c : i < j). let x = up i j c l in omega (arith, here))) (trichotomy j i))))
 
 -- The flags of the marks.
-pub packed-merged : {mask : ℕ} {merged : List Bool} (els : List ℕ) (target : Structure) (pairs : List Pair) → numbersOf target ≡ els → length els ≤ fieldLimit
-    → PackedLess mask merged (replicate fieldLimit false) (length els) → ((j : ℕ) → j < length els → getD merged j false ≡ severalAt els pairs j) → Merged mask target pairs
+pub packed-merged : {mask : Mask} {merged : List Bool} (els : List ℕ) (target : Structure) (pairs : List Pair) → numbersOf target ≡ els
+    → length els ≤ fieldLimit → PackedLess mask merged (replicate places false) (length els)
+    → ((j : ℕ) → j < length els → getD merged j false ≡ severalAt els pairs j) → Merged mask target pairs
 packed-merged {mask} {merged} els target pairs e few p w = record {
   flags = record {
-    small = rw e (p .flags .small);
+    above = rw e (p .flags .above);
     same = λ j l. rw e (same j (rw e at l));
   };
 }
@@ -127,20 +130,20 @@ packed-merged {mask} {merged} els target pairs e few p w = record {
     and-not false = refl
 
     same : (j : ℕ) → j < length els → flagAt mask j ≡ severalAt els pairs j
-    same j l = p .flags .same j l ∙ rw (getD-replicate fieldLimit j false false (omega arith)) (and-not (getD merged j false)) ∙ w j l
+    same j l = p .flags .same j l ∙ rw (getD-replicate places j false false (omega arith)) (and-not (getD merged j false)) ∙ w j l
 
 -- Images that ascend: none is flagged.
-pub ascend-merged : (target : Structure) (pairs : List Pair) → imagesAscend pairs ≡ true → Merged 0 target pairs
+pub ascend-merged : (target : Structure) (pairs : List Pair) → imagesAscend pairs ≡ true → Merged noFlags target pairs
 ascend-merged target pairs a = record {
   flags = record {
-    small = pow-pos _;
+    above = above-none _;
     same = λ j l. no-flag j ∙ sym (le-ltb 1 _ (fiber-one (getD (numbersOf target) j 0) pairs a));
   };
 }
 
 -- An element without a flag has one key at most.
-pub unflagged : {mask : ℕ} {target : Structure} {pairs : List Pair} → Merged mask target pairs → (j : ℕ) → j < length (numbersOf target) → flagAt mask j ≡ false
-    → length (fiber pairs (getD (numbersOf target) j 0)) ≤ 1
+pub unflagged : {mask : Mask} {target : Structure} {pairs : List Pair} → Merged mask target pairs → (j : ℕ) → j < length (numbersOf target)
+    → flagAt mask j ≡ false → length (fiber pairs (getD (numbersOf target) j 0)) ≤ 1
 unflagged w j l e = ltb-false 1 _ (sym (w .flags .same j l) ∙ e)
 
 -- Without a flag there are no kernel pairs,
@@ -155,9 +158,10 @@ unfolding joined
 joined-none f [] h = refl
 joined-none f (x ∷ xs) h = rw (h 0 (omega arith)) (joined-none f xs (λ j l. h (suc j) (omega arith)))
 
-pub none-merged : {target : Structure} {pairs : List Pair} → Merged 0 target pairs → kernelPairs pairs target ≡ []
+pub none-merged : {mask : Mask} {target : Structure} {pairs : List Pair} → Merged mask target pairs → noneSet mask ≡ true → kernelPairs pairs target ≡ []
 unfolding kernelPairs
-none-merged {target} {pairs} w = joined-none (λ (e : ℕ). pairsAmong (fiber pairs e)) (numbersOf target) (λ j l. among-few _ (unflagged w j l (no-flag j)))
+none-merged {mask} {target} {pairs} w e = joined-none (λ (e : ℕ). pairsAmong (fiber pairs e)) (numbersOf target)
+    (λ j l. among-few _ (unflagged w j l (none-no-flag mask e j)))
 
 -- and none of them clash.
 pub no-clash : (sig : Signature) (table : List Variable) (source target : Side) (pairs : List Pair) → kernelPairs pairs (target .structure) ≡ []

@@ -17,11 +17,12 @@ use Rattle.definition.specs.Rows.{imageOf, imageRow, sameRow}
 use Rattle.laws.proofs.Lists.{length-each, each-append}
 use Rattle.records.specs.Places.{stretch}
 use Rattle.records.proofs.Link.{one-more}
+use Rattle.rule.specs.Rows.{Alike}
 use Rattle.rows.specs.Table as table
-use Rattle.rows.specs.Table.{lacksImage, rowLacks, imageIn, Alike, Held, more, Maps}
+use Rattle.rows.specs.Table.{lacksImage, rowLacks, imageIn, Held, more, Maps}
 use Rattle.rows.specs.declared.table.Mapped.{Mapped}
 use Rattle.rows.specs.declared.table.Mapped.the-variants as mapped
-use Rattle.rows.proofs.Parts.{take-more, store-more, kept-get, kept-stretch, put-kept, put-stretch, any-append, and-false}
+use Rattle.records.proofs.Parts.{take-more, store-more, kept-get, kept-stretch, put-kept, put-stretch, any-append, and-false}
 
 -- The first j elements of a row are mapped.
 pub record Mapping (pairs : List Pair) (es els₀ els : List ℕ) (at j : ℕ) : Type 0 where

@@ -14,12 +14,13 @@ use Rattle.definition.specs.Rows.{memberRow, sortRows, members, rowsOf, lastEle
 use Rattle.definition.specs.Signature.{Signature}
 use Rattle.laws.proofs.Lists.{any-mem, any-true, none-any, mem-keep}
 use Rattle.laws.proofs.RowLaws.{sort-mem, mem-sort, members-mem}
-use Rattle.laws.proofs.Sound.{SoundStructure}
 use Rattle.records.proofs.Lists.{keep-append}
+use Rattle.rule.specs.Rows.{hasParents, memberRows}
+use Rattle.laws.specs.Sound.{SoundStructure}
 use Rattle.rows.specs.Table.{rowLacks, isNew}
-use Rattle.rows.specs.Members.{hasParents, memberRows}
-use Rattle.rows.proofs.Parts.{any-append}
+use Rattle.records.proofs.Parts.{any-append}
 use Rattle.rows.proofs.KernelLaws.{both-ways}
+use Rattle.rows.proofs.ArgumentLaws.{or-none}
 
 -- Rows of different kinds are never the same, nor is one the image of the other.
 pub other-kind : (r q : Row) → (r .kind ≡ q .kind → ⊥) → sameRow r q ≡ false
@@ -66,15 +67,6 @@ unfolding keep
 keep-same p q [] h = refl
 keep-same p q (x ∷ xs) h = rw (h x (List·Memᴰ·head refl), keep-same p q xs (λ a m. h a (List·Memᴰ·tail m)))
 
-pub keep-each : {A B : Type 0} (t : B → Bool) (f : A → B) (xs : List A) → keep t (each f xs) ≡ each f (keep (λ (a : A). t (f a)) xs)
-unfolding keep each
-keep-each t f [] = refl
-keep-each t f (x ∷ xs) = rw (keep-each t f xs) (go (t (f x)))
-  where
-    go : (b : Bool) → consIf b (f x) (each f (keep (λ a. t (f a)) xs)) ≡ each f (consIf b x (keep (λ a. t (f a)) xs))
-    go true = refl
-    go false = refl
-
 pub keep-keep : {A : Type 0} (p q : A → Bool) (xs : List A) → keep p (keep q xs) ≡ keep (λ (a : A). q a && p a) xs
 unfolding keep
 keep-keep p q [] = refl
@@ -88,10 +80,6 @@ pub keep-all : {A : Type 0} (p : A → Bool) (xs : List A) → ((a : A) → a �
 unfolding keep
 keep-all p [] h = refl
 keep-all p (x ∷ xs) h = rw (h x (List·Memᴰ·head refl), keep-all p xs (λ a m. h a (List·Memᴰ·tail m)))
-
-or-none : (b : Bool) → (b || false) ≡ b
-or-none true = refl
-or-none false = refl
 
 -- A row is new where it is no image of a source row of its own kind.
 module _ (pairs : List Pair) (st : Structure) (w : KindsOf st) where

@@ -5,14 +5,15 @@ use mathlib.Core.List.{List, [], _∷_}
 use mathlib.Core.Path.{_≡_}
 use lib.Dec.{eqb, ltb}
 use lib.ListN.{length, getD, take}
-use Rattle.definition.specs.Base.{each, _∈_}
+use Rattle.definition.specs.Base.{each}
 use Rattle.definition.specs.Group.{Variable}
 use Rattle.definition.specs.Kinds.{Side, variableIn, typeIn}
 use Rattle.definition.specs.Names.{numbersOf, fiber}
 use Rattle.definition.specs.Rule.{Structure, Pair}
 use Rattle.flags.specs.Flags.{FlagsOf}
-use Rattle.rows.specs.Maps.{pairAt}
-use Rattle.rows.specs.declared.maps.Map.{Map}
+use Rattle.flags.specs.declared.Mask.{Mask}
+use Rattle.rule.specs.MapFields.{pairAt}
+use Rattle.rule.specs.declared.maps.Map.{Map}
 
 -- The variables of a map's keys, in the keys' order.
 pub record KeyVars (source : Side) (pairs : List Pair) (vars : List ℕ) : Type 0 where
@@ -35,14 +36,6 @@ pub record SideAt (els row : List ℕ) (side : Side) : Type 0 where
   pub numbers : numbersOf (side .structure) ≡ els
   pub variables : (i : ℕ) → i < length els → getD row i 0 ≡ getD (side .variables) i 0
 
--- The keys are elements of the source.
-pub record KeysIn (els : List ℕ) (pairs : List Pair) : Type 0 where
-  pub named : (p : Pair) → p ∈ pairs → p .key ∈ els
-
--- The images are elements of the target.
-pub record ImagesIn (target : Structure) (pairs : List Pair) : Type 0 where
-  pub named : (p : Pair) → p ∈ pairs → p .image ∈ numbersOf target
-
 -- Two keys of one image that differ in type.
 abbrev pub clash : (Pair → ℕ) → Pair → Pair → Bool
 clash type a b = eqb (a .image) (b .image) && not (eqb (type a) (type b))
@@ -61,5 +54,5 @@ imagesAscend (p ∷ ps) = imagesAbove (p .image) ps
 abbrev pub severalAt : List ℕ → List Pair → ℕ → Bool
 severalAt els pairs j = ltb 1 (length (fiber pairs (getD els j 0)))
 
-pub record Merged (mask : ℕ) (target : Structure) (pairs : List Pair) : Type 0 where
+pub record Merged (mask : Mask) (target : Structure) (pairs : List Pair) : Type 0 where
   pub flags : FlagsOf mask (severalAt (numbersOf target) pairs) (length (numbersOf target))

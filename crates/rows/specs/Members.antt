@@ -1,23 +1,17 @@
 -- Member rows.
 use Prim.Native.Nat.{ℕ, _<_}
-use mathlib.Core.Bool.{Bool, not, _&&_}
+use mathlib.Core.Bool.{Bool, _&&_}
 use mathlib.Core.List.{List}
-use Rattle.definition.specs.Base.{keep, each, empty, _∈_}
+use Rattle.definition.specs.Base.{_∈_}
 use Rattle.definition.specs.Rule.{Element, Row, Pair}
 use Rattle.definition.specs.Rows.{memberRow}
 use Rattle.rows.specs.Table.{isNew}
-use Rattle.rows.specs.Elements.{elementIn}
+use Rattle.rule.specs.ElementFields.{elementIn}
+use Rattle.rule.specs.Rows.{hasParents}
 
 -- The member row of the element at a place.
 unfoldable pub memberIn : List ℕ → List ℕ → ℕ → ℕ → Row
 memberIn s index k i = memberRow (elementIn s index k i)
-
--- The member rows of elements, in the elements' order.
-abbrev pub hasParents : Element → Bool
-hasParents e = not (empty (e .parents))
-
-unfoldable pub memberRows : List Element → List Row
-memberRows els = each memberRow (keep hasParents els)
 
 -- Whether an element has a member row that is no image of a row of the source.
 unfoldable pub newMember : List Pair → List Row → Element → Bool

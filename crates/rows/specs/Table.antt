@@ -1,19 +1,19 @@
 -- Rows, and the table that holds their images.
-use Prim.Native.Nat.{ℕ, _+_, _*_, _%_, _≤_}
+use Prim.Native.Nat.{ℕ, _+_, _*_, _≤_}
 use mathlib.Core.Bool.{Bool, true, false, not}
 use mathlib.Core.List.{List, [], _∷_, _++_}
 use mathlib.Core.Path.{_≡_}
 use lib.ListN.{length, getD, take}
-use Rattle.definition.specs.Base.{orDefault, each, any, _∈_}
+use Rattle.definition.specs.Base.{orDefault, each, any}
 use Rattle.definition.specs.Limits.{fieldLimit, columnLimit}
-use Rattle.definition.specs.Records.{Field, numbers}
 use Rattle.definition.specs.Rule.{Row, Pair}
 use Rattle.definition.specs.Rows.{imageOf, given, imageRow, sameRow}
-use Rattle.records.specs.Places.{stretch, Run}
+use Rattle.records.specs.Places.{stretch}
 use Rattle.rows.specs.declared.table.Mapped.{Mapped}
 use Rattle.rows.specs.declared.table.Mapped.the-variants as mapped
 use Rattle.rows.specs.declared.table.Images.{Images}
 use Rattle.rows.specs.declared.table.Images.the-variants as images
+use Rattle.rule.specs.Rows.{Alike}
 
 abbrev pub tableSize : ℕ
 tableSize = fieldLimit * columnLimit
@@ -32,26 +32,6 @@ imageIn pairs e = orDefault (imageOf pairs e) 0
 -- Whether a row is no image of a row of the source.
 unfoldable pub isNew : List Pair → List Row → Row → Bool
 isNew pairs sources r = not (any (λ (q : Row). sameRow r (imageRow pairs q)) sources)
-
--- The row of a symbol and the elements in a stretch.
-abbrev pub rowIn : List ℕ → ℕ → ℕ → ℕ → ℕ → Row
-rowIn s kind symbol start count = record { kind = kind; symbol = symbol; elements = numbers (stretch s start (2 * count)) }
-
--- A section of rows: at most 64, each a symbol and at most 8 elements.
-pub record RowSized (f : Field) : Type 0 where
-  pub least : 2 ≤ length (f .content)
-  pub most : length (f .content) ≤ 2 + 2 * columnLimit
-  pub even : length (f .content) % 2 ≡ 0
-
-pub record RowsFrom (s : List ℕ) (from end : ℕ) : Type 0 where
-  pub fields : List Field
-  pub run : Run s from end fields
-  pub few : length fields ≤ fieldLimit
-  pub sized : (f : Field) → f ∈ fields → RowSized f
-
--- Rows of one kind, those of one symbol of one length.
-pub record Alike (kind : ℕ) (columns : ℕ → ℕ) (rows : List Row) : Type 0 where
-  pub same : (r : Row) → r ∈ rows → (r .kind ≡ kind) × (length (r .elements) ≡ columns (r .symbol))
 
 -- The table holds rows from a place on.
 pub data Held (symbols els : List ℕ) : ℕ → List Row → Type 0 where

@@ -1,29 +1,35 @@
 // Constrained elements: arguments and results, not parents, of R and A rows.
 ghost use mathlib.Core.List.{List, _++_};
 ghost use mathlib.Core.Path.{_≡_};
-ghost use Prim.Native.Nat.{ℕ, _+_, _*_, _≤_, _<_};
+ghost use Prim.Native.Nat.{ℕ, _<_};
 ghost use lib.ListN.{length, take};
 ghost use Rattle.definition.specs.Base.{each, joined};
 ghost use Rattle.definition.specs.Letters.{predicate, function};
-ghost use Rattle.definition.specs.Limits.{structureLimit, fieldLimit};
+ghost use Rattle.definition.specs.Limits.{structureLimit};
 ghost use Rattle.definition.specs.Names.{numbersOf};
 ghost use Rattle.definition.specs.Records as definition;
-ghost use Rattle.definition.specs.Records.{numbers};
 ghost use Rattle.definition.specs.Rule.{Structure, rowOf};
 ghost use Rattle.definition.specs.Rows as definition_rows;
 ghost use Rattle.definition.specs.Rows.{constrained};
-ghost use Rattle.records.specs.Places.{stretch, Run};
+ghost use Rattle.records.specs.Places.{Run};
 ghost use Rattle.signature.specs.Index.{signatureAt, Indexed};
 ghost use Rattle.rule.specs.Elements.{countAt, elementNumbers, Elements};
-ghost use Rattle.rows.specs.Arguments.{symbolsOf, rowSymbol, RowsKnown, Marks};
-use crate::table::ROWS;
-use records::fields::Field;
-use records::fields::num;
-use records::fields::read_field;
+ghost use Rattle.flags.specs.Flags.{places};
+ghost use Rattle.rule.specs.Lists.{elsIn, ElsInside};
+ghost use Rattle.rule.specs.Rows.{rowSymbol, RowsKnown};
+ghost use Rattle.rows.specs.Arguments.{symbolsOf, Marks};
+ghost use Rattle.rule.specs.Layout.{placeR, placeA, sectionFrom, sectionTo};
+use flags::PLACES;
 use rule::elements::Found;
 use rule::elements::find_element;
-use rule::ids::ElId;
+use rule::ids::PLACE_A;
+use rule::ids::PLACE_R;
 use rule::ids::RULE_INDEX;
+use rule::lists::Els;
+use rule::lists::behind;
+use rule::lists::el_at;
+use rule::rows::read_row;
+use rule::sections::section_of;
 use signature::ids::Counts;
 use signature::ids::FUNCTION;
 use signature::ids::FuncId;
@@ -34,35 +40,30 @@ use signature::lookup::func_parents;
 use signature::lookup::pred_parents;
 
 // How many parents a row of a kind lists before its arguments.
-fn row_parents(sig: &[u8], arities: &[u16; INDEX], counts: Counts, kind: u8, symbol: u16) -> usize
-    requires { ⌜ Indexed (now sig) (now arities) counts ⌝ }
+fn row_parents(sig: &[u8], symbols: &[u16; INDEX], counts: Counts, kind: u8, symbol: u16) -> usize
+    requires { ⌜ Indexed (now sig) (now symbols) counts ⌝ }
     requires { ⌜ symbol < symbolsOf counts kind ⌝ }
-    ensures { λ r. ⌜ r ≡ length (rowSymbol (signatureAt (now (sig .entry)) (now (arities .entry)) counts) kind symbol .parents) ⌝ }
+    ensures { λ r. ⌜ r ≡ length (rowSymbol (signatureAt (now (sig .entry)) (now (symbols .entry)) counts) kind symbol .parents) ⌝ }
 {
     if kind == PREDICATE {
-        return pred_parents(sig, arities, counts, PredId(symbol));
+        return pred_parents(sig, symbols, counts, PredId(symbol));
     }
-    func_parents(sig, arities, counts, FuncId(symbol))
+    func_parents(sig, symbols, counts, FuncId(symbol))
 }
 
-// The elements that stand in a stretch are marked, by their places.
-fn mark(
-    s: &[u8],
-    index: &[u16; RULE_INDEX],
-    k: usize,
-    start: usize,
-    count: usize,
-    flags: &mut [bool; ROWS],
-)
-    requires { ⌜ (k < structureLimit) × (start + 2 * count ≤ length (now s)) × (length (now flags) ≡ fieldLimit) ⌝ }
+// The elements of a list are marked, by their places.
+fn mark(s: &[u8], index: &[u16; RULE_INDEX], k: usize, l: Els, flags: &mut [bool; PLACES])
+    requires { ⌜ (k < structureLimit) × (length (now flags) ≡ places) ⌝ }
+    requires { ⌜ ElsInside (now s) l ⌝ }
     requires { ⌜ Elements (now s) (now index) k ⌝ }
     ensures { λ r. ⌜ ((seen : List ℕ) → Marks (now (flags .entry)) (elementNumbers (now (s .entry)) (now (index .entry)) k) seen
-        → Marks (now (flags .exit)) (elementNumbers (now (s .entry)) (now (index .entry)) k) (seen ++ numbers (stretch (now (s .entry)) start (2 * count)))) ⌝ }
-    ensures { λ r. ⌜ length (now (flags .exit)) ≡ fieldLimit ⌝ }
+        → Marks (now (flags .exit)) (elementNumbers (now (s .entry)) (now (index .entry)) k) (seen ++ elsIn (now (s .entry)) l)) ⌝ }
+    ensures { λ r. ⌜ length (now (flags .exit)) ≡ places ⌝ }
 {
+    let count = l.count;
     let mut j: usize = 0;
     while j < count {
-        let f = find_element(s, index, k, ElId(num(s, start + 2 * j)));
+        let f = find_element(s, index, k, el_at(s, l, j));
         if let Found::At(i) = f {
             flags[i] = true;
         }
@@ -72,62 +73,53 @@ fn mark(
 
 // The arguments of the rows of a section are marked.
 fn mark_rows(
-    sig: &[u8], arities: &[u16; INDEX], counts: Counts,
+    sig: &[u8], symbols: &[u16; INDEX], counts: Counts,
     s: &[u8], index: &[u16; RULE_INDEX], k: usize,
     kind: u8, from: usize, end: usize,
-    flags: &mut [bool; ROWS],
+    flags: &mut [bool; PLACES],
 )
-    requires { ⌜ Indexed (now sig) (now arities) counts ⌝ }
-    requires { ⌜ (k < structureLimit) × (length (now flags) ≡ fieldLimit) ⌝ }
+    requires { ⌜ Indexed (now sig) (now symbols) counts ⌝ }
+    requires { ⌜ (k < structureLimit) × (length (now flags) ≡ places) ⌝ }
     requires { ⌜ Elements (now s) (now index) k ⌝ }
-    requires { ⌜ RowsKnown (signatureAt (now sig) (now arities) counts) (symbolsOf counts kind) kind (now s) from end ⌝ }
+    requires { ⌜ RowsKnown (signatureAt (now sig) (now symbols) counts) (symbolsOf counts kind) kind (now s) from end ⌝ }
     ensures { λ r. ⌜ ((seen : List ℕ) (fs : List definition.Field) → Run (now (s .entry)) from end fs → Marks (now (flags .entry)) (elementNumbers (now (s .entry)) (now (index .entry)) k) seen
         → Marks (now (flags .exit)) (elementNumbers (now (s .entry)) (now (index .entry)) k)
-        (seen ++ joined (definition_rows.arguments (signatureAt (now (sig .entry)) (now (arities .entry)) counts)) (each (rowOf kind) fs))) ⌝ }
-    ensures { λ r. ⌜ length (now (flags .exit)) ≡ fieldLimit ⌝ }
+        (seen ++ joined (definition_rows.arguments (signatureAt (now (sig .entry)) (now (symbols .entry)) counts)) (each (rowOf kind) fs))) ⌝ }
+    ensures { λ r. ⌜ length (now (flags .exit)) ≡ places ⌝ }
 {
     let mut at = from;
     while at < end {
-        let f = read_field(s, at);
-        let Field::Got {
-            letter: _,
-            start,
-            len,
-            next,
-        } = f
-        else {
-            return;
-        };
-        let parents = row_parents(sig, arities, counts, kind, num(s, start));
-        mark(
-            s,
-            index,
-            k,
-            start + 2 + 2 * parents,
-            len / 2 - 1 - parents,
-            flags,
-        );
-        at = next;
+        let row = read_row(s, at);
+        let parents = row_parents(sig, symbols, counts, kind, row.symbol);
+        mark(s, index, k, behind(s, row.els, parents), flags);
+        at = row.next;
     }
 }
 
-// Which elements of a structure are constrained, by their places. Its R rows stand from one position on, its A rows from a second to a third.
+// Which elements of a structure are constrained, by their places.
 pub fn constrained_els(
-    sig: &[u8], arities: &[u16; INDEX], counts: Counts,
-    s: &[u8], index: &[u16; RULE_INDEX], k: usize,
-    preds: usize, funcs: usize, end: usize,
-) -> [bool; ROWS]
-    requires { ⌜ Indexed (now sig) (now arities) counts ⌝ }
+    sig: &[u8],
+    symbols: &[u16; INDEX],
+    counts: Counts,
+    s: &[u8],
+    index: &[u16; RULE_INDEX],
+    k: usize,
+) -> [bool; PLACES]
+    requires { ⌜ Indexed (now sig) (now symbols) counts ⌝ }
     requires { ⌜ k < structureLimit ⌝ }
     requires { ⌜ Elements (now s) (now index) k ⌝ }
-    requires { ⌜ RowsKnown (signatureAt (now sig) (now arities) counts) (counts .preds) predicate (now s) preds funcs ⌝ }
-    requires { ⌜ RowsKnown (signatureAt (now sig) (now arities) counts) (counts .funcs) function (now s) funcs end ⌝ }
-    ensures { λ r. ⌜ ((st : Structure) (fs gs : List definition.Field) → Run (now (s .entry)) preds funcs fs → Run (now (s .entry)) funcs end gs
+    requires { ⌜ RowsKnown (signatureAt (now sig) (now symbols) counts) (counts .preds) predicate (now s) (sectionFrom (now index) k placeR) (sectionTo (now index) k placeR) ⌝ }
+    requires { ⌜ RowsKnown (signatureAt (now sig) (now symbols) counts) (counts .funcs) function (now s) (sectionFrom (now index) k placeA) (sectionTo (now index) k placeA) ⌝ }
+    ensures { λ r. ⌜ ((st : Structure) (fs gs : List definition.Field) 
+        → Run (now (s .entry)) (sectionFrom (now (index .entry)) k placeR) (sectionTo (now (index .entry)) k placeR) fs
+        → Run (now (s .entry)) (sectionFrom (now (index .entry)) k placeA) (sectionTo (now (index .entry)) k placeA) gs
         → numbersOf st ≡ elementNumbers (now (s .entry)) (now (index .entry)) k → st .predRows ≡ each (rowOf predicate) fs → st .funcRows ≡ each (rowOf function) gs
-        → take (countAt (now (index .entry)) k) r ≡ each (constrained (signatureAt (now (sig .entry)) (now (arities .entry)) counts) st) (numbersOf st)) ⌝ }
+        → take (countAt (now (index .entry)) k) r ≡ each (constrained (signatureAt (now (sig .entry)) (now (symbols .entry)) counts) st) (numbersOf st)) ⌝ }
 {
-    let mut flags = [false; ROWS];
-    mark_rows(sig, arities, counts, s, index, k, PREDICATE, preds, funcs, &mut flags);
-    mark_rows(sig, arities, counts, s, index, k, FUNCTION, funcs, end, &mut flags);
+    let preds = section_of(index, k, PLACE_R);
+    let funcs = section_of(index, k, PLACE_A);
+    let mut flags = [false; PLACES];
+    mark_rows(sig, symbols, counts, s, index, k, PREDICATE, preds.from, preds.to, &mut flags);
+    mark_rows(sig, symbols, counts, s, index, k, FUNCTION, funcs.from, funcs.to, &mut flags);
     flags
 }

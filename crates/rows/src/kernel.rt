@@ -11,17 +11,20 @@ ghost use Rattle.definition.specs.Names.{numbersOf};
 ghost use Rattle.definition.specs.Rule.{Structure, Pair};
 ghost use Rattle.definition.specs.Signature.{Signature};
 ghost use Rattle.rule.specs.Elements.{elementNumbers, Elements};
-ghost use Rattle.rows.specs.Maps.{pairAt, pairsIn, MapIn};
-ghost use Rattle.rows.specs.Kernel.{clash, imagesAscend, KeyVars, KeyTypes, TypesOf, KeysIn, ImagesIn, SideAt, Typed, Merged};
-use crate::maps::Map;
-use crate::maps::pair_image;
-use crate::maps::pair_key;
+ghost use Rattle.rule.specs.MapFields.{pairAt, pairsIn, MapIn, KeysIn, ImagesIn};
+ghost use Rattle.rows.specs.Kernel.{clash, imagesAscend, KeyVars, KeyTypes, TypesOf, SideAt, Typed, Merged};
+use flags::Mask;
+use flags::NO_FLAGS;
+use flags::PLACES;
 use flags::packed_less;
 use rule::elements::Found;
 use rule::elements::element_count;
 use rule::elements::find_element;
 use rule::ids::FIELDS;
 use rule::ids::RULE_INDEX;
+use rule::maps::Map;
+use rule::maps::pair_image;
+use rule::maps::pair_key;
 
 // A variable's number as a place.
 fn variable(v: u16) -> usize
@@ -80,7 +83,7 @@ fn images_ascend(s: &[u8], m: Map) -> bool
 
 // The elements of the target that are images of several keys, a flag for each place. In most maps images ascend, and there are none;
 // else this is one pass over the pairs.
-pub fn merged_els(s: &[u8], index: &[u16; RULE_INDEX], tgt: usize, m: Map) -> u64
+pub fn merged_els(s: &[u8], index: &[u16; RULE_INDEX], tgt: usize, m: Map) -> Mask
     requires { ⌜ MapIn (now s) m ⌝ }
     requires { ⌜ tgt < structureLimit ⌝ }
     requires { ⌜ Elements (now s) (now index) tgt ⌝ }
@@ -88,21 +91,21 @@ pub fn merged_els(s: &[u8], index: &[u16; RULE_INDEX], tgt: usize, m: Map) -> u6
         → Merged r target (pairsIn (now (s .entry)) m)) ⌝ }
 {
     if images_ascend(s, m) {
-        return 0;
+        return NO_FLAGS;
     }
-    let mut seen = [false; FIELDS];
-    let mut merged = [false; FIELDS];
+    let mut seen = [false; PLACES];
+    let mut merged = [false; PLACES];
     let mut p: usize = 0;
     while p < m.pairs {
         let f = find_element(s, index, tgt, pair_image(s, m, p));
         let Found::At(j) = f else {
-            return 0;
+            return NO_FLAGS;
         };
         merged[j] = seen[j];
         seen[j] = true;
         p += 1;
     }
-    packed_less(merged, [false; FIELDS], element_count(index, tgt))
+    packed_less(merged, [false; PLACES], element_count(index, tgt))
 }
 
 // Does the variable of a key differ in type from that of a later key of the same image?

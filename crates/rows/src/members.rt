@@ -1,7 +1,7 @@
 // Member rows: the type, the parents and the element, of each element with parents.
 ghost use mathlib.Core.List.{List};
 ghost use mathlib.Core.Path.{_≡_};
-ghost use Prim.Native.Nat.{ℕ, _+_, _*_, _≤_, _<_};
+ghost use Prim.Native.Nat.{ℕ, _+_, _≤_, _<_};
 ghost use lib.ListN.{length, take};
 ghost use Rattle.definition.specs.Base.{any, each, sameList};
 ghost use Rattle.definition.specs.Letters.{member};
@@ -10,23 +10,26 @@ ghost use Rattle.definition.specs.Rule.{Row, Pair};
 ghost use Rattle.definition.specs.Rows.{memberRow, sameRow};
 ghost use Rattle.records.specs.Places.{stretch};
 ghost use Rattle.rule.specs.Elements.{countAt};
-ghost use Rattle.rows.specs.Maps.{pairsIn, MapIn};
-ghost use Rattle.rows.specs.Table.{tableSize, Maps, Imaged, Held, Alike, Holds};
-ghost use Rattle.rows.specs.Elements.{elementFrom, elementsIn, ElementsAt, Within};
-ghost use Rattle.rows.specs.Members.{hasParents, memberRows, newMember};
-use crate::elements::Element;
-use crate::elements::read_element;
-use crate::maps::Image;
-use crate::maps::Map;
-use crate::maps::image_of;
+ghost use Rattle.rule.specs.MapFields.{pairsIn, MapIn};
+ghost use Rattle.rule.specs.Rows.{Alike, hasParents, memberRows};
+ghost use Rattle.rows.specs.Table.{tableSize, Maps, Imaged, Held, Holds};
+ghost use Rattle.rule.specs.ElementFields.{elementFrom, elementsIn, ElementsAt, Within};
+ghost use Rattle.rows.specs.Members.{newMember};
 use crate::table::Images;
 use crate::table::Mapped;
 use crate::table::ROWS;
 use crate::table::TABLE;
 use crate::table::map_elements;
 use crate::table::same_elements;
+use flags::PLACES;
+use rule::elements::Element;
 use rule::elements::element_count;
+use rule::elements::parents_of;
+use rule::elements::read_element;
 use rule::ids::RULE_INDEX;
+use rule::maps::Image;
+use rule::maps::Map;
+use rule::maps::image_of;
 use signature::ids::COLUMNS;
 
 // Has a structure any member row?
@@ -54,7 +57,7 @@ fn map_member(s: &[u8], e: Element, m: Map, els: &mut [u16; TABLE], at: usize) -
     requires { ⌜ (at + columnLimit ≤ tableSize) × (length (now els) ≡ tableSize) ⌝ }
     ensures { λ r. ⌜ Maps r (pairsIn (now (s .entry)) m) (memberRow (elementFrom (now (s .entry)) e) .elements) (now (els .entry)) (now (els .exit)) at ⌝ }
 {
-    let row = map_elements(s, e.start, e.parents, m, els, at);
+    let row = map_elements(s, parents_of(e), m, els, at);
     let Mapped::All = row else {
         return Mapped::Unmapped;
     };
@@ -111,7 +114,7 @@ fn same_member(s: &[u8], e: Element, els: &[u16; TABLE], at: usize) -> bool
     if els[at + e.parents] != own.0 {
         return false;
     }
-    same_elements(s, e.start, e.parents, els, at)
+    same_elements(s, parents_of(e), els, at)
 }
 
 // Is an element's member row one of those in the table?
@@ -167,7 +170,7 @@ pub fn new_members(
     symbols: &[u16; ROWS],
     els: &[u16; TABLE],
     images: usize,
-) -> [bool; ROWS]
+) -> [bool; PLACES]
     requires { ⌜ k < structureLimit ⌝ }
     requires { ⌜ ElementsAt (now s) (now index) k ⌝ }
     requires { ⌜ (images ≤ fieldLimit) × (length (now els) ≡ tableSize) ⌝ }
@@ -176,7 +179,7 @@ pub fn new_members(
         → take (countAt (now (index .entry)) k) r ≡ each (newMember pairs sources) (elementsIn (now (s .entry)) (now (index .entry)) k)) ⌝ }
 {
     let count = element_count(index, k);
-    let mut flags = [false; ROWS];
+    let mut flags = [false; PLACES];
     let mut i: usize = 0;
     while i < count {
         let e = read_element(s, index, k, i);

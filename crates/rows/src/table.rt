@@ -1,27 +1,31 @@
 // The images of a structure's R or A rows in a table: a symbol for each row, and eight places for its elements.
 ghost use mathlib.Core.List.{List};
 ghost use mathlib.Core.Path.{_≡_};
-ghost use Prim.Native.Nat.{ℕ, _+_, _*_, _≤_, _<_};
+ghost use Prim.Native.Nat.{ℕ, _+_, _≤_};
 ghost use lib.ListN.{length};
 ghost use Rattle.definition.specs.Base.{any, each, sameList};
 ghost use Rattle.definition.specs.Limits.{fieldLimit, columnLimit};
 ghost use Rattle.definition.specs.Records as definition;
-ghost use Rattle.definition.specs.Records.{numbers};
-ghost use Rattle.definition.specs.Rule.{Row, Pair, rowOf};
+ghost use Rattle.definition.specs.Rule as definition_rule;
+ghost use Rattle.definition.specs.Rule.{Pair, rowOf};
 ghost use Rattle.definition.specs.Rows.{sameRow};
 ghost use Rattle.records.specs.Places.{stretch, Run};
 ghost use Rattle.flags.specs.Flags.{Packed};
-ghost use Rattle.rows.specs.Maps.{pairsIn, MapIn};
-ghost use Rattle.rows.specs.Table.{tableSize, RowsFrom, Maps, Imaged, Held, Alike, rowIn, isNew, Holds};
-use crate::maps::Image;
-use crate::maps::Map;
-use crate::maps::image_of;
+ghost use Rattle.rule.specs.MapFields.{pairsIn, MapIn};
+ghost use Rattle.rule.specs.Lists.{elsIn, ElsInside};
+ghost use Rattle.rule.specs.Rows.{rowFrom, RowsFrom, Alike};
+ghost use Rattle.rows.specs.Table.{tableSize, Maps, Imaged, Held, isNew, Holds};
+use flags::Mask;
+use flags::NO_FLAGS;
 use flags::with_flag;
-use records::fields::Field;
-use records::fields::num;
-use records::fields::read_field;
-use rule::ids::ElId;
 use rule::ids::FIELDS;
+use rule::lists::Els;
+use rule::lists::el_at;
+use rule::maps::Image;
+use rule::maps::Map;
+use rule::maps::image_of;
+use rule::rows::Row;
+use rule::rows::read_row;
 use signature::ids::COLUMNS;
 
 // Rows of a letter in a structure, and the table's places for their elements.
@@ -41,22 +45,17 @@ pub enum Images {
     Unmapped,
 }
 
-// The images of the elements that stand in a stretch, into the table from a place on.
-pub fn map_elements(
-    s: &[u8],
-    start: usize,
-    count: usize,
-    m: Map,
-    els: &mut [u16; TABLE],
-    at: usize,
-) -> Mapped
+// The images of the elements of a list, into the table from a place on.
+pub fn map_elements(s: &[u8], l: Els, m: Map, els: &mut [u16; TABLE], at: usize) -> Mapped
     requires { ⌜ MapIn (now s) m ⌝ }
-    requires { ⌜ (start + 2 * count ≤ length (now s)) × (at + count ≤ tableSize) × (length (now els) ≡ tableSize) ⌝ }
-    ensures { λ r. ⌜ Maps r (pairsIn (now (s .entry)) m) (numbers (stretch (now (s .entry)) start (2 * count))) (now (els .entry)) (now (els .exit)) at ⌝ }
+    requires { ⌜ ElsInside (now s) l ⌝ }
+    requires { ⌜ (at + l .count ≤ tableSize) × (length (now els) ≡ tableSize) ⌝ }
+    ensures { λ r. ⌜ Maps r (pairsIn (now (s .entry)) m) (elsIn (now (s .entry)) l) (now (els .entry)) (now (els .exit)) at ⌝ }
 {
+    let count = l.count;
     let mut j: usize = 0;
     while j < count {
-        let i = image_of(s, m, ElId(num(s, start + 2 * j)));
+        let i = image_of(s, m, el_at(s, l, j));
         let Image::Of(e) = i else {
             return Mapped::Unmapped;
         };
@@ -84,35 +83,29 @@ pub fn mapped_rel_apps(
     let mut at = from;
     let mut i: usize = 0;
     while at < end {
-        let f = read_field(s, at);
-        let Field::Got {
-            letter: _,
-            start,
-            len,
-            next,
-        } = f
-        else {
-            return Images::Unmapped;
-        };
-        symbols[i] = num(s, start);
-        let row = map_elements(s, start + 2, len / 2 - 1, m, els, COLUMNS * i);
-        let Mapped::All = row else {
+        let row = read_row(s, at);
+        symbols[i] = row.symbol;
+        let mapped = map_elements(s, row.els, m, els, COLUMNS * i);
+        let Mapped::All = mapped else {
             return Images::Unmapped;
         };
         i += 1;
-        at = next;
+        at = row.next;
     }
     Images::Count(i)
 }
 
-// Are the elements in a stretch those of the table from a place on?
-pub fn same_elements(s: &[u8], start: usize, count: usize, els: &[u16; TABLE], at: usize) -> bool
-    requires { ⌜ (start + 2 * count ≤ length (now s)) × (at + count ≤ tableSize) × (length (now els) ≡ tableSize) ⌝ }
-    ensures { λ r. ⌜ r ≡ sameList (numbers (stretch (now (s .entry)) start (2 * count))) (stretch (now (els .entry)) at count) ⌝ }
+// Are the elements of a list those of the table from a place on?
+pub fn same_elements(s: &[u8], l: Els, els: &[u16; TABLE], at: usize) -> bool
+    requires { ⌜ ElsInside (now s) l ⌝ }
+    requires { ⌜ (at + l .count ≤ tableSize) × (length (now els) ≡ tableSize) ⌝ }
+    ensures { λ r. ⌜ r ≡ sameList (elsIn (now (s .entry)) l) (stretch (now (els .entry)) at (l .count)) ⌝ }
 {
+    let count = l.count;
     let mut j: usize = 0;
     while j < count {
-        if num(s, start + 2 * j) != els[at + j] {
+        let e = el_at(s, l, j);
+        if e.0 != els[at + j] {
             return false;
         }
         j += 1;
@@ -120,26 +113,24 @@ pub fn same_elements(s: &[u8], start: usize, count: usize, els: &[u16; TABLE], a
     true
 }
 
-// Is the row of a symbol and the elements in a stretch one of those in the table? Rows of one symbol are of one length, so only those
-// of its symbol are compared with it.
+// Is a row one of those in the table? Rows of one symbol are of one length, so only those of its symbol are compared with it.
 pub fn is_image(
     s: &[u8],
-    symbol: u16,
-    start: usize,
-    count: usize,
+    row: Row,
     symbols: &[u16; ROWS],
     els: &[u16; TABLE],
     images: usize,
 ) -> bool
-    requires { ⌜ (start + 2 * count ≤ length (now s)) × (count ≤ columnLimit) × (images ≤ fieldLimit) × (length (now els) ≡ tableSize) ⌝ }
-    ensures { λ r. ⌜ ((kind : ℕ) (columns : ℕ → ℕ) (qs : List Row) → Held (now (symbols .entry)) (now (els .entry)) 0 qs → images ≡ length qs
-        → Alike kind columns qs → count ≡ columns symbol → r ≡ any (sameRow (rowIn (now (s .entry)) kind symbol start count)) qs) ⌝ }
+    requires { ⌜ ElsInside (now s) (row .els) ⌝ }
+    requires { ⌜ (row .els .count ≤ columnLimit) × (images ≤ fieldLimit) × (length (now els) ≡ tableSize) ⌝ }
+    ensures { λ r. ⌜ ((kind : ℕ) (columns : ℕ → ℕ) (qs : List definition_rule.Row) → Held (now (symbols .entry)) (now (els .entry)) 0 qs → images ≡ length qs
+        → Alike kind columns qs → row .els .count ≡ columns (row .symbol) → r ≡ any (sameRow (rowFrom (now (s .entry)) kind row)) qs) ⌝ }
 {
     let mut i: usize = 0;
     while i < images {
         let held = symbols[i];
-        if held == symbol {
-            if same_elements(s, start, count, els, COLUMNS * i) {
+        if held == row.symbol {
+            if same_elements(s, row.els, els, COLUMNS * i) {
                 return true;
             }
         }
@@ -148,7 +139,7 @@ pub fn is_image(
     false
 }
 
-// Which rows of a section are no image of a row of the source: a flag for each, in one number.
+// Which rows of a section are no image of a row of the source: a flag for each.
 pub fn new_rows(
     s: &[u8],
     from: usize,
@@ -156,32 +147,23 @@ pub fn new_rows(
     symbols: &[u16; ROWS],
     els: &[u16; TABLE],
     images: usize,
-) -> u64
+) -> Mask
     requires { ⌜ RowsFrom (now s) from end ⌝ }
     requires { ⌜ (images ≤ fieldLimit) × (length (now els) ≡ tableSize) ⌝ }
-    ensures { λ r. ⌜ ((kind : ℕ) (columns : ℕ → ℕ) (pairs : List Pair) (sources : List Row) (fs : List definition.Field)
+    ensures { λ r. ⌜ ((kind : ℕ) (columns : ℕ → ℕ) (pairs : List Pair) (sources : List definition_rule.Row) (fs : List definition.Field)
         → Holds kind columns pairs sources (now (symbols .entry)) (now (els .entry)) images → Run (now (s .entry)) from end fs → Alike kind columns (each (rowOf kind) fs)
         → Packed r (each (isNew pairs sources) (each (rowOf kind) fs)) (length fs)) ⌝ }
 {
-    let mut mask: u64 = 0;
+    let mut mask = NO_FLAGS;
     let mut at = from;
     let mut i: usize = 0;
     while at < end {
-        let f = read_field(s, at);
-        let Field::Got {
-            letter: _,
-            start,
-            len,
-            next,
-        } = f
-        else {
-            return mask;
-        };
-        if !is_image(s, num(s, start), start + 2, len / 2 - 1, symbols, els, images) {
+        let row = read_row(s, at);
+        if !is_image(s, row, symbols, els, images) {
             mask = with_flag(mask, i);
         }
         i += 1;
-        at = next;
+        at = row.next;
     }
     mask
 }

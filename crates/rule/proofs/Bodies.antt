@@ -22,7 +22,8 @@ use Rattle.records.proofs.Index.{length-held, held-get, held-same}
 use Rattle.signature.specs.Faults.{faultOf}
 use Rattle.signature.specs.declared.faults.Fault.{Fault}
 use Rattle.signature.specs.declared.faults.Fault.the-variants.{Sound, Draws}
-use Rattle.rule.specs.Layout.{letterAt, elementsFrom, sections}
+use Rattle.rule.specs.Layout.{letterAt, placeN, placeE, placeR, placeA, placeV, placeI, letters}
+use Rattle.rule.specs.Layout.{elementsFrom, sections, sectionFrom, sectionTo, numberOf, within}
 use Rattle.rule.specs.Elements.{countAt, positionAt, elementFields, elementNumbers, numbersIn, Elements, Known}
 use Rattle.rule.specs.Faults.{nameKey, rowSymbols, rowColumns, checkOf, restFault}
 use Rattle.rule.specs.Answers.{Bodied, Kept, Stored}
@@ -87,44 +88,47 @@ named-is {s} {index} {k} body w e =
 
 -- The sections of a structure, by numbers that the code computes.
 module _ {s index : List ℕ} {k : ℕ} {body : List Field} (b : Bodied s index k body) where
-  run-of : (q letter t u : ℕ) → 3 ≤ q → q ≤ 7 → letterAt q ≡ letter → t ≡ 6 * k + q - 1 → u ≡ 6 * k + q
-      → Run s (getD index t 0) (getD index u 0) (withLetter letter body)
-  run-of q letter t u lo hi e m n = rw (m, n, ← e) (b .run q lo hi)
+  run-of : (q letter : ℕ) → placeE ≤ q → q ≤ placeI → letterAt q ≡ letter
+      → Run s (getD index (letters * k + (q - placeN)) 0) (getD index (letters * k + (q - placeN) + 1) 0) (withLetter letter body)
+  unfolding sectionFrom sectionTo
+  run-of q letter lo hi e = let z : letters * k + (q - placeN) ≡ numberOf (within k q) = omega arith in rw (z, ← e) (b .run q lo hi)
 
-  pub run-e : Run s (getD index (6 * k + 1 + 1) 0) (getD index (6 * k + 1 + 2) 0) (withLetter letterE body)
+  pub run-e : Run s (getD index (letters * k + (placeE - placeN)) 0) (getD index (letters * k + (placeE - placeN) + 1) 0) (withLetter letterE body)
   unfolding letterAt
-  run-e = run-of 3 letterE (6 * k + 1 + 1) (6 * k + 1 + 2) (omega arith) (omega arith) refl (omega arith) (omega arith)
+  run-e = run-of placeE letterE (omega arith) (omega arith) refl
 
-  pub run-r : Run s (getD index (6 * k + 1 + 2) 0) (getD index (6 * k + 1 + 2 + 1) 0) (withLetter letterR body)
+  pub run-r : Run s (getD index (letters * k + (placeR - placeN)) 0) (getD index (letters * k + (placeR - placeN) + 1) 0) (withLetter letterR body)
   unfolding letterAt
-  run-r = run-of 4 letterR (6 * k + 1 + 2) (6 * k + 1 + 2 + 1) (omega arith) (omega arith) refl (omega arith) (omega arith)
+  run-r = run-of placeR letterR (omega arith) (omega arith) refl
 
-  pub run-a : Run s (getD index (6 * k + 1 + 3) 0) (getD index (6 * k + 1 + 3 + 1) 0) (withLetter letterA body)
+  pub run-a : Run s (getD index (letters * k + (placeA - placeN)) 0) (getD index (letters * k + (placeA - placeN) + 1) 0) (withLetter letterA body)
   unfolding letterAt
-  run-a = run-of 5 letterA (6 * k + 1 + 3) (6 * k + 1 + 3 + 1) (omega arith) (omega arith) refl (omega arith) (omega arith)
+  run-a = run-of placeA letterA (omega arith) (omega arith) refl
 
-  pub run-v : Run s (getD index (6 * k + 1 + 4) 0) (getD index (6 * k + 1 + 4 + 1) 0) (withLetter letterV body)
+  pub run-v : Run s (getD index (letters * k + (placeV - placeN)) 0) (getD index (letters * k + (placeV - placeN) + 1) 0) (withLetter letterV body)
   unfolding letterAt
-  run-v = run-of 6 letterV (6 * k + 1 + 4) (6 * k + 1 + 4 + 1) (omega arith) (omega arith) refl (omega arith) (omega arith)
+  run-v = run-of placeV letterV (omega arith) (omega arith) refl
 
-  pub run-i : Run s (getD index (6 * k + 1 + 5) 0) (getD index (6 * k + 1 + 5 + 1) 0) (withLetter letterI body)
+  pub run-i : Run s (getD index (letters * k + (placeI - placeN)) 0) (getD index (letters * k + (placeI - placeN) + 1) 0) (withLetter letterI body)
   unfolding letterAt
-  run-i = run-of 7 letterI (6 * k + 1 + 5) (6 * k + 1 + 5 + 1) (omega arith) (omega arith) refl (omega arith) (omega arith)
+  run-i = run-of placeI letterI (omega arith) (omega arith) refl
 
   -- Where nothing stands behind the R fields, there are no A, V or I fields.
-  pub none-behind : {t u : ℕ} → getD index t 0 ≡ getD index u 0 → t ≡ 6 * k + 4 → u ≡ 6 * k + 7
+  pub none-behind : getD index (letters * k + (placeA - placeN)) 0 ≡ getD index (letters * k + (placeI - placeN + 1)) 0
       → (withLetter letterA body ≡ []) × (withLetter letterV body ≡ []) × (withLetter letterI body ≡ [])
-  unfolding letterAt
-  none-behind {t} {u} e m n =
-      let w : getD index (6 * k + 4) 0 ≡ getD index (6 * k + 7) 0 = rw (m, n) at e in
-      let a : Run s (getD index (6 * k + 4) 0) (getD index (6 * k + 5) 0) (withLetter letterA body) = run-of 5 letterA _ _ (omega arith) (omega arith) refl (omega arith) refl in
-      let v : Run s (getD index (6 * k + 5) 0) (getD index (6 * k + 6) 0) (withLetter letterV body) = run-of 6 letterV _ _ (omega arith) (omega arith) refl (omega arith) refl in
-      let i : Run s (getD index (6 * k + 6) 0) (getD index (6 * k + 7) 0) (withLetter letterI body) = run-of 7 letterI _ _ (omega arith) (omega arith) refl (omega arith) refl in
-      let x = run-le a in let y = run-le v in let z = run-le i in
-      (run-end a (omega arith), run-end v (omega arith), run-end i (omega arith))
+  none-behind e =
+      let a = run-a in let v = run-v in let i = run-i in
+      let av : letters * k + (placeA - placeN) + 1 ≡ letters * k + (placeV - placeN) = omega arith in
+      let vi : letters * k + (placeV - placeN) + 1 ≡ letters * k + (placeI - placeN) = omega arith in
+      let ie : letters * k + (placeI - placeN) + 1 ≡ letters * k + (placeI - placeN + 1) = omega arith in
+      let x = run-le (rw av at a) in let y = run-le (rw vi at v) in let z = run-le (rw ie at i) in
+      (run-end a (rw av (omega arith)), run-end v (rw vi (omega arith)), run-end i (rw ie (omega arith)))
 
 pub bodied-kept : {s index₀ index : List ℕ} {k m : ℕ} {body : List Field} → k < structureLimit → Kept index₀ index m → Bodied s index₀ k body → Bodied s index k body
-bodied-kept {k = k} h kept b = record { run = λ q lo hi. rw (kept .before (6 * k + q - 1) (omega arith), kept .before (6 * k + q) (omega arith)) (b .run q lo hi) }
+unfolding sectionFrom sectionTo
+bodied-kept {k = k} h kept b = record {
+    run = λ q lo hi. rw (kept .before (numberOf (within k q)) (omega arith), kept .before (numberOf (within k q) + 1) (omega arith)) (b .run q lo hi);
+  }
 
 -- R, A, V and I, in that order.
 module _ (sig : Signature) (s index : List ℕ) (k : ℕ) (body : List Field) (e : elementNumbers s index k ≡ namedElements body) where

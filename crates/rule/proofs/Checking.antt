@@ -8,9 +8,9 @@ use lib.Dec.{eqb}
 use borrow.Author.Tests.{eqb-true}
 use Rattle.definition.specs.Base.{consIf, keep, all}
 use Rattle.definition.specs.Records.{Field, withLetter, faultFrom, faultAmong}
+use Rattle.laws.proofs.Lists.{and-left, and-right}
 use Rattle.records.specs.Places.{fieldAt, fieldOf, Run}
 use Rattle.records.specs.declared.fields.Field.the-variants.{Got, Bad}
-use Rattle.records.proofs.Lists.{and-left, and-right}
 use Rattle.records.proofs.Runs.{Behind, run-got, run-bad, run-end}
 use Rattle.signature.specs.Faults.{faultOf}
 use Rattle.signature.specs.declared.faults.Fault.{Fault}

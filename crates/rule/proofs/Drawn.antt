@@ -16,13 +16,15 @@ use Rattle.definition.specs.Limits.{structureLimit, fieldLimit, mapLimit, nameB
 use Rattle.definition.specs.Records.{Field, numbers, numberAt, notAbove, badName, odd}
 use Rattle.definition.specs.Signature.{Signature, typeParents}
 use Rattle.definition.specs.Rule.{Pair, elementOf, rowOf, nameOf, pairsOf, mapOf, auxiliaryOf, rowKey, keysAscend, elementsAt, classFalls, headFault, structureFault, elementFault, rowFault, nameFault, mapFault, kindFault, auxiliaryFault}
+use Rattle.laws.proofs.Lists.{length-each, getD-each, or-right, never}
 use Rattle.records.specs.Places.{twoAt, stretch, fieldOf}
-use Rattle.records.proofs.Lists.{length-each, getD-each, all-get, or-right, never}
-use Rattle.records.proofs.Numbers.{length-stretch, stretch-at, drop-stretch, take-stretch, drop-numbers, take-numbers, length-numbers-in, numbers-in, number-in}
+use Rattle.records.proofs.Lists.{all-get}
+use Rattle.records.proofs.Numbers.{length-stretch, stretch-at, drop-stretch, take-stretch, length-numbers-in, numbers-in, number-in}
 use Rattle.records.specs.Held.{heldAt}
 use Rattle.records.proofs.Index.{length-held}
 use Rattle.signature.specs.Index.{signatureAt, typesFrom, predsFrom, funcsFrom}
 use Rattle.signature.specs.declared.ids.Counts.{Counts}
+use Rattle.laws.proofs.Numbers.{drop-numbers, take-numbers}
 use Rattle.rule.specs.Faults.{nameKey, pairNamed, lastField, LastIn, AboveLast, Fits, rowCheck, lastNamed, checkOf}
 use Rattle.rule.specs.declared.order.Last.{Last}
 use Rattle.rule.specs.declared.order.Last.the-variants.{Content, Nothing}

@@ -14,11 +14,11 @@ use Rattle.definition.specs.Letters.{letterE, start}
 use Rattle.definition.specs.Limits.{fieldLimit}
 use Rattle.definition.specs.Records.{Field, numbers, numberAt, withLetter}
 use Rattle.definition.specs.Rule.{namedElements}
+use Rattle.laws.proofs.Lists.{length-each, getD-each}
 use Rattle.records.specs.Places.{twoAt, stretch, fieldAt, fieldOf, Run}
 use Rattle.records.specs.Held.{fieldIn}
 use Rattle.records.specs.declared.fields.Field.the-variants.{Got, Bad}
 use Rattle.records.proofs.Link.{got-is}
-use Rattle.records.proofs.Lists.{length-each, getD-each}
 use Rattle.records.proofs.Numbers.{length-stretch, number-in}
 use Rattle.records.proofs.Index.{length-held, held-get}
 use Rattle.records.proofs.Runs.{run-got, run-bad, run-end}
@@ -178,3 +178,13 @@ finds-at w = w .is .2
 
 pub finds-none : {e : ℕ} {xs : List ℕ} → Finds Nothing e xs → has e xs ≡ false
 finds-none w = w .is
+
+-- Elements stand in ascending order.
+abbrev pub Ascending : List ℕ → Type 0
+Ascending els = (i j : ℕ) → i < j → j < length els → getD els i 0 < getD els j 0
+
+pub numbers-ascend : {s index : List ℕ} {k : ℕ} → Elements s index k → Ascending (elementNumbers s index k)
+numbers-ascend {s} {index} {k} w i j l h =
+    let n = numbers-length s index k in
+    let a = w .ascend i j l (omega arith) in
+    rw (numbers-get w i (omega arith), numbers-get w j (omega arith)) a

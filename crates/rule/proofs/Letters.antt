@@ -15,8 +15,9 @@ use Rattle.definition.specs.Letters.{letterN, start}
 use Rattle.definition.specs.Limits.{structureLimit}
 use Rattle.definition.specs.Records.{Place, follows}
 use Rattle.definition.specs.Rule.{ruleGrammar}
-use Rattle.records.proofs.Lists.{or-right, or-left, all-get, never}
-use Rattle.rule.specs.Layout.{order, letterAt, placeOf, mayFollow, sectionAt}
+use Rattle.laws.proofs.Lists.{or-right, or-left, never}
+use Rattle.records.proofs.Lists.{all-get}
+use Rattle.rule.specs.Layout.{order, letterAt, placeOf, placeN, placeS, placeE, placeI, placeM, placeX, letters, mayFollow, sectionAt}
 
 -- Where a number stands in a list.
 pub place-ge : (i n : ℕ) (ms : List ℕ) → i ≤ placeFrom i n ms
@@ -66,16 +67,16 @@ below : (p : ℕ → Bool) (n : ℕ) → all p (span n 0) ≡ true → (i : ℕ)
 below p n e i h = rw (getD-span n 0 i 0 h, zero-add i) at (all-get p (span n 0) i 0 e (rw (length-span n 0) h))
 
 -- A letter with a place is the one at that place, and the places differ.
-pub letter-is : (letter q : ℕ) → placeOf letter ≡ q → q ≤ 10 → letter ≡ letterAt q
+pub letter-is : (letter q : ℕ) → placeOf letter ≡ q → q ≤ placeX → letter ≡ letterAt q
 unfolding placeOf letterAt
 letter-is letter q e h = let z : q - 0 ≡ q = omega arith in sym (rw (e, z) at (place-get 0 letter order 0 (rw e (omega arith))))
 
-places-test : all (λ (i : ℕ). eqb (placeOf (letterAt i)) i) (span 11 0) ≡ true
+places-test : all (λ (i : ℕ). eqb (placeOf (letterAt i)) i) (span (placeX + 1) 0) ≡ true
 unfolding all span placeOf letterAt placeFrom
 places-test = refl
 
-pub place-is : (q : ℕ) → q ≤ 10 → placeOf (letterAt q) ≡ q
-place-is q h = eqb-true _ _ (below (λ (i : ℕ). eqb (placeOf (letterAt i)) i) 11 places-test q (omega arith))
+pub place-is : (q : ℕ) → q ≤ placeX → placeOf (letterAt q) ≡ q
+place-is q h = eqb-true _ _ (below (λ (i : ℕ). eqb (placeOf (letterAt i)) i) (placeX + 1) places-test q (omega arith))
 
 pub same-test : (a b c d : ℕ) → (a ≡ b → c ≡ d) → (c ≡ d → a ≡ b) → eqb a b ≡ eqb c d
 same-test a b c d f g = go (ℕ-discrete a b)
@@ -84,7 +85,7 @@ same-test a b c d f g = go (ℕ-discrete a b)
     go (yes e) = eq-eqb a b e ∙ sym (eq-eqb c d (f e))
     go (no e) = ne-eqb a b e ∙ sym (ne-eqb c d (λ q. e (g q)))
 
-pub letter-test : (letter q r : ℕ) → placeOf letter ≡ q → q ≤ 10 → r ≤ 10 → eqb letter (letterAt r) ≡ eqb q r
+pub letter-test : (letter q r : ℕ) → placeOf letter ≡ q → q ≤ placeX → r ≤ placeX → eqb letter (letterAt r) ≡ eqb q r
 letter-test letter q r e h k = same-test letter (letterAt r) q r
     (λ x. sym e ∙ ap placeOf x ∙ place-is r k)
     (λ x. letter-is letter q e h ∙ ap letterAt x)
@@ -101,24 +102,25 @@ same-is false false e = refl
 abbrev follows-row : ℕ → ℕ → Bool
 follows-row i j = same (follows (ruleGrammar .places) (letterAt i) (letterAt j)) (mayFollow i j)
 
-follows-test : all (λ (i : ℕ). all (follows-row i) (span 11 0)) (span 11 0) ≡ true
+follows-test : all (λ (i : ℕ). all (follows-row i) (span (placeX + 1) 0)) (span (placeX + 1) 0) ≡ true
 unfolding all span follows any has letterAt mayFollow
 follows-test = refl
 
-pub follows-is : (b q : ℕ) → b ≤ 10 → q ≤ 10 → follows (ruleGrammar .places) (letterAt b) (letterAt q) ≡ mayFollow b q
+pub follows-is : (b q : ℕ) → b ≤ placeX → q ≤ placeX → follows (ruleGrammar .places) (letterAt b) (letterAt q) ≡ mayFollow b q
 follows-is b q h k =
-    same-is _ _ (below (follows-row b) 11 (below (λ (i : ℕ). all (follows-row i) (span 11 0)) 11 follows-test b (omega arith)) q (omega arith))
+    let row = below (λ (i : ℕ). all (follows-row i) (span (placeX + 1) 0)) (placeX + 1) follows-test b (omega arith) in
+    same-is _ _ (below (follows-row b) (placeX + 1) row q (omega arith))
 
 -- S and every letter behind it may stand last.
 abbrev last-row : ℕ → Bool
-last-row i = same (has (letterAt i) (ruleGrammar .last)) (leb 2 i)
+last-row i = same (has (letterAt i) (ruleGrammar .last)) (leb placeS i)
 
-last-rows : all last-row (span 11 0) ≡ true
+last-rows : all last-row (span (placeX + 1) 0) ≡ true
 unfolding all span any has letterAt
 last-rows = refl
 
-pub last-is : (b : ℕ) → b ≤ 10 → has (letterAt b) (ruleGrammar .last) ≡ leb 2 b
-last-is b h = same-is _ _ (below last-row 11 last-rows b (omega arith))
+pub last-is : (b : ℕ) → b ≤ placeX → has (letterAt b) (ruleGrammar .last) ≡ leb placeS b
+last-is b h = same-is _ _ (below last-row (placeX + 1) last-rows b (omega arith))
 
 follows-none : (ps : List Place) (b letter : ℕ) → has letter (each (λ (p : Place). p .letter) ps) ≡ false → follows ps b letter ≡ false
 unfolding follows any has each
@@ -126,52 +128,54 @@ follows-none [] b letter e = refl
 follows-none (p ∷ ps) b letter e =
     rw (or-left (eqb (p .letter) letter) _ e, follows-none ps b letter (or-right (eqb (p .letter) letter) _ e))
 
-pub follows-far : (b letter : ℕ) → 10 < placeOf letter → follows (ruleGrammar .places) b letter ≡ false
+pub follows-far : (b letter : ℕ) → placeX < placeOf letter → follows (ruleGrammar .places) b letter ≡ false
 unfolding placeOf has any each
 follows-far b letter h = follows-none (ruleGrammar .places) b letter (or-right (eqb 0 letter) _ (place-none 0 letter order (omega arith)))
 
-three-on : (b q : ℕ) → 2 ≤ b → b ≤ q → (q ≡ 2 → ⊥) → 3 ≤ q
-three-on b q m z n = go (ℕ-discrete q 2)
+behind-s : (b q : ℕ) → placeS ≤ b → b ≤ q → (q ≡ placeS → ⊥) → placeE ≤ q
+behind-s b q m z n = go (ℕ-discrete q placeS)
   where
-    go : Dec (q ≡ 2) → 3 ≤ q
+    go : Dec (q ≡ placeS) → placeE ≤ q
     go (yes e) = absurd (n e)
     go (no e) = omega arith
 
 -- What a letter that may follow tells of its place.
-pub may-cases : (b q : ℕ) → mayFollow b q ≡ true → ((q ≡ 1) × (b ≡ 0)) ⊎ (((q ≡ 2) × (1 ≤ b) × (b ≤ 7)) ⊎ ((3 ≤ q) × (q ≤ 10) × (2 ≤ b) × (b ≤ q)))
+pub may-cases : (b q : ℕ) → mayFollow b q ≡ true
+    → ((q ≡ placeN) × (b ≡ 0)) ⊎ (((q ≡ placeS) × (placeN ≤ b) × (b ≤ placeI)) ⊎ ((placeE ≤ q) × (q ≤ placeX) × (placeS ≤ b) × (b ≤ q)))
 unfolding mayFollow
-may-cases b q e = go (eqb q 1) (ltb b 1) (eqb q 2) (ltb b 2) (ltb 10 q) refl refl refl refl refl e
+may-cases b q e = go (eqb q placeN) (ltb b placeN) (eqb q placeS) (ltb b placeS) (ltb placeX q) refl refl refl refl refl e
   where
-    go : (t u v w x : Bool) → eqb q 1 ≡ t → ltb b 1 ≡ u → eqb q 2 ≡ v → ltb b 2 ≡ w → ltb 10 q ≡ x
-        → pick t (eqb b 0) (pick u false (pick v (leb b 7) (pick w false (pick x false (leb b q))))) ≡ true
-        → ((q ≡ 1) × (b ≡ 0)) ⊎ (((q ≡ 2) × (1 ≤ b) × (b ≤ 7)) ⊎ ((3 ≤ q) × (q ≤ 10) × (2 ≤ b) × (b ≤ q)))
+    go : (t u v w x : Bool) → eqb q placeN ≡ t → ltb b placeN ≡ u → eqb q placeS ≡ v → ltb b placeS ≡ w → ltb placeX q ≡ x
+        → pick t (eqb b 0) (pick u false (pick v (leb b placeI) (pick w false (pick x false (leb b q))))) ≡ true
+        → ((q ≡ placeN) × (b ≡ 0)) ⊎ (((q ≡ placeS) × (placeN ≤ b) × (b ≤ placeI)) ⊎ ((placeE ≤ q) × (q ≤ placeX) × (placeS ≤ b) × (b ≤ q)))
     go true u v w x e₁ e₂ e₃ e₄ e₅ h = inl (eqb-true _ _ e₁, eqb-true _ _ h)
     go false true v w x e₁ e₂ e₃ e₄ e₅ h = never h refl
     go false false true w x e₁ e₂ e₃ e₄ e₅ h = inr (inl (eqb-true _ _ e₃, ltb-false _ _ e₂, leb-true _ _ h))
     go false false false true x e₁ e₂ e₃ e₄ e₅ h = never h refl
     go false false false false true e₁ e₂ e₃ e₄ e₅ h = never h refl
     go false false false false false e₁ e₂ e₃ e₄ e₅ h =
-        let l : q ≤ 10 = ltb-false 10 q e₅ in let m : 2 ≤ b = ltb-false b 2 e₄ in let z : b ≤ q = leb-true b q h in
-        let n : q ≡ 2 → ⊥ = eqb-false q 2 e₃ in let k : 3 ≤ q = three-on b q m z n in inr (inr (k, l, m, z))
+        let l : q ≤ placeX = ltb-false placeX q e₅ in let m : placeS ≤ b = ltb-false b placeS e₄ in let z : b ≤ q = leb-true b q h in
+        let n : q ≡ placeS → ⊥ = eqb-false q placeS e₃ in let k : placeE ≤ q = behind-s b q m z n in inr (inr (k, l, m, z))
 
 -- A letter behind S may be repeated.
-pub may-repeat : (b : ℕ) → 2 < b → b ≤ 10 → mayFollow b b ≡ true
+pub may-repeat : (b : ℕ) → placeS < b → b ≤ placeX → mayFollow b b ≡ true
 unfolding mayFollow
 may-repeat b h k =
-    rw (ne-eqb b 1 (λ z. omega arith), le-ltb b 1 (omega arith), ne-eqb b 2 (λ z. omega arith), le-ltb b 2 (omega arith), le-ltb 10 b k) (le-leb b b (omega arith))
+    rw (ne-eqb b placeN (λ z. omega arith), le-ltb b placeN (omega arith), ne-eqb b placeS (λ z. omega arith), le-ltb b placeS (omega arith), le-ltb placeX b k)
+    (le-leb b b (omega arith))
 
 -- The section of a place.
-pub section-first : (n q : ℕ) → q ≤ 1 → sectionAt n q ≡ 0
+pub section-first : (n q : ℕ) → q ≤ placeN → sectionAt n q ≡ 0
 unfolding sectionAt
 section-first n q h = rw (le-leb _ _ h)
 
-pub section-inside : (n q : ℕ) → 2 ≤ q → q ≤ 7 → sectionAt n q ≡ 6 * n + q - 7
+pub section-inside : (n q : ℕ) → placeS ≤ q → q ≤ placeI → sectionAt n q ≡ letters * n + q - placeI
 unfolding sectionAt
-section-inside n q h k = rw (lt-leb q 1 h, lt-ltb q 8 (omega arith))
+section-inside n q h k = rw (lt-leb q placeN h, lt-ltb q placeM (omega arith))
 
-pub section-behind : (n q : ℕ) → 8 ≤ q → sectionAt n q ≡ 6 * structureLimit + q - 7
+pub section-behind : (n q : ℕ) → placeM ≤ q → sectionAt n q ≡ letters * structureLimit + q - placeI
 unfolding sectionAt
-section-behind n q h = rw (lt-leb q 1 (omega arith), le-ltb q 8 h)
+section-behind n q h = rw (lt-leb q placeN (omega arith), le-ltb q placeM h)
 
 -- N stands behind the start alone, and the start behind nothing.
 pub not-first : (b : ℕ) → (b ≡ start → ⊥) → follows (ruleGrammar .places) b letterN ≡ true → ⊥

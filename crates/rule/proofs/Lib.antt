@@ -1,7 +1,6 @@
 -- Laws behind the reader and the lookups.
 pub mod Blocks
 pub mod Letters
-pub mod Sections
 pub mod Passing
 pub mod Filling
 pub mod Keys
@@ -16,4 +15,16 @@ pub mod Structures
 pub mod Whole
 pub mod Saying
 pub mod Sized
-pub mod Maps
+pub mod ListLaws
+pub mod ElementLaws
+pub mod MapLaws
+pub mod RowFields
+pub mod RowReading
+pub mod NameReading
+pub mod Accepted
+pub mod Opening
+pub mod Sound
+pub mod SoundParts
+pub mod MapReading
+pub mod MapSearch
+pub mod Laying

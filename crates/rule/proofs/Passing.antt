@@ -15,15 +15,16 @@ use Rattle.definition.specs.Letters.{letterN, letterS, start}
 use Rattle.definition.specs.Limits.{structureLimit, ruleBytes}
 use Rattle.definition.specs.Records.{Field, Fields, end, bad, _▸_, Part, follows, placed, withLetter, blocks, inFront}
 use Rattle.definition.specs.Rule.{ruleGrammar, rulePart}
+use Rattle.laws.proofs.Lists.{never}
 use Rattle.records.specs.Places.{fieldAt, fieldsAt, fieldOf, Run, none}
 use Rattle.records.specs.declared.fields.Field.the-variants.{Got, Bad}
-use Rattle.records.proofs.Lists.{never}
 use Rattle.records.proofs.Runs.{run-snoc, run-end}
 use Rattle.records.proofs.Placed.{Placing, Placed, passing, placing-start, placing-next, placing-stop, placing-bad, placing-end}
-use Rattle.rule.specs.Layout.{letterAt, placeOf, mayFollow, withOne, sectionAt, Section, front, within, back, numberOf, Stands, fieldsIn, sections, ruleIndex, boundAt, Laid}
+use Rattle.rule.specs.Layout.{letterAt, placeOf, placeN, placeS, placeE, placeI, placeM, placeX, letters, mayFollow, withOne, sectionAt}
+use Rattle.rule.specs.Layout.{Section, front, within, back, numberOf, Proper, fieldsIn, sections, ruleIndex, boundAt, Sectioned, sectionFrom}
 use Rattle.rule.specs.Answers.{Passes}
 use Rattle.rule.proofs.Letters.{letter-is, follows-is, follows-far, last-is, not-first, not-start, may-cases, may-repeat, section-first, section-inside, section-behind}
-use Rattle.rule.proofs.Sections.{none-within, blocks-count, grows}
+use Rattle.rule.proofs.Laying.{none-within, blocks-count, grows}
 
 -- The pass stands at a position, behind the letter of a place, in a section, with so many structures.
 pub record Passing (s index : List ℕ) (at behind section n : ℕ) : Type 0 where
@@ -31,11 +32,11 @@ pub record Passing (s index : List ℕ) (at behind section n : ℕ) : Type 0 whe
   pub placing : Placing ruleGrammar s (rulePart s) (letterAt behind) at passed
   pub counted : n ≡ length (blocks letterS passed)
   pub few : n ≤ structureLimit
-  pub place : behind ≤ 10
+  pub place : behind ≤ placeX
   pub section-is : section ≡ sectionAt n behind
-  pub first : behind ≤ 1 → n ≡ 0
-  pub later : 2 ≤ behind → 1 ≤ n
-  pub runs : (t : Section) → Stands t → Run s (boundAt index section at (numberOf t)) (boundAt index section at (numberOf t + 1)) (fieldsIn t passed)
+  pub first : behind ≤ placeN → n ≡ 0
+  pub later : placeS ≤ behind → 1 ≤ n
+  pub runs : (t : Section) → Proper t → Run s (boundAt index section at (numberOf t)) (boundAt index section at (numberOf t + 1)) (fieldsIn t passed)
 
 module _ (index : List ℕ) (section at t : ℕ) where
   bound-in : t ≤ section → boundAt index section at t ≡ getD index t 0
@@ -67,7 +68,7 @@ unfolding withLetter keep
 no-head b h fs f e d = rw (e, ne-eqb b letterN d) (no-n b h fs)
 
 -- No field has been passed.
-fields-none : (t : Section) → Stands t → fieldsIn t [] ≡ []
+fields-none : (t : Section) → Proper t → fieldsIn t [] ≡ []
 unfolding fieldsIn withLetter keep blocks
 fields-none front v = refl
 fields-none (within k r) v = none-within [] k r (omega arith) (omega (arith, v .1)) (omega (arith, v .2))
@@ -92,38 +93,38 @@ pass-start s index l = record {
 }
 
 -- A section has a number below those of its kind's end.
-number-in : (t : Section) → Stands t → numberOf t + 1 ≤ sections
+number-in : (t : Section) → Proper t → numberOf t + 1 ≤ sections
 number-in front v = omega arith
 number-in (within k r) v = omega (arith, v .0, v .2)
 number-in (back r) v = omega (arith, v .1)
 
 module _ {s index : List ℕ} {at behind section n : ℕ} (p : Passing s index at behind section n) where
   -- The letter of a place may follow or not.
-  follow : (letter q : ℕ) → q ≡ placeOf letter → {b : Bool} → mayFollow behind q ≡ b → q ≤ 10 → follows (ruleGrammar .places) (letterAt behind) letter ≡ b
+  follow : (letter q : ℕ) → q ≡ placeOf letter → {b : Bool} → mayFollow behind q ≡ b → q ≤ placeX → follows (ruleGrammar .places) (letterAt behind) letter ≡ b
   follow letter q e m h = rw (letter-is letter q (sym e) h) (follows-is behind q (p .place) h ∙ m)
 
   -- What the place of a letter that follows tells.
-  pub place-in : (q : ℕ) → mayFollow behind q ≡ true → (1 ≤ q) × (q ≤ 10)
+  pub place-in : (q : ℕ) → mayFollow behind q ≡ true → (placeN ≤ q) × (q ≤ placeX)
   place-in q m = ⊎-elim (λ x. (omega (arith, x .0), omega (arith, x .0))) (λ x. ⊎-elim (λ y. (omega (arith, y .0), omega (arith, y .0))) (λ y. (omega (arith, y .0), y .1)) x) (may-cases behind q m)
 
-  first-place : (q : ℕ) → mayFollow behind q ≡ true → q ≡ 1 → n ≡ 0
+  first-place : (q : ℕ) → mayFollow behind q ≡ true → q ≡ placeN → n ≡ 0
   first-place q m h = p .first (⊎-elim (λ x. omega (arith, x .1)) (λ x. ⊎-elim (λ y. absurd (omega (arith, y .0))) (λ y. absurd (omega (arith, y .0))) x) (may-cases behind q m))
 
-  later-place : (q : ℕ) → mayFollow behind q ≡ true → 3 ≤ q → 1 ≤ n
+  later-place : (q : ℕ) → mayFollow behind q ≡ true → placeE ≤ q → 1 ≤ n
   later-place q m h = p .later (⊎-elim (λ x. absurd (omega (arith, x .0))) (λ x. ⊎-elim (λ y. absurd (omega (arith, y .0))) (λ y. y .2) x) (may-cases behind q m))
 
-  pub some-structure : (q : ℕ) → mayFollow behind q ≡ true → 1 < q → 1 ≤ withOne n q
-  some-structure q m h = go (ℕ-discrete q 2)
+  pub some-structure : (q : ℕ) → mayFollow behind q ≡ true → placeN < q → 1 ≤ withOne n q
+  some-structure q m h = go (ℕ-discrete q placeS)
     where
-      go : Dec (q ≡ 2) → 1 ≤ withOne n q
-      go (yes x) = rw (eq-eqb q 2 x) (omega arith)
-      go (no x) = rw (ne-eqb q 2 x) (later-place q m (omega arith))
+      go : Dec (q ≡ placeS) → 1 ≤ withOne n q
+      go (yes x) = rw (eq-eqb q placeS x) (omega arith)
+      go (no x) = rw (ne-eqb q placeS x) (later-place q m (omega arith))
 
   -- Sections are not gone back to.
-  section-low : section ≤ 6 * n + 0 ⊎ ((8 ≤ behind) × (section ≡ 6 * structureLimit + behind - 7))
-  section-low = go (decLt behind 2) (decLt behind 8)
+  section-low : section ≤ letters * n + 0 ⊎ ((placeM ≤ behind) × (section ≡ numberOf (back behind)))
+  section-low = go (decLt behind placeS) (decLt behind placeM)
     where
-      go : Dec (behind < 2) → Dec (behind < 8) → section ≤ 6 * n + 0 ⊎ ((8 ≤ behind) × (section ≡ 6 * structureLimit + behind - 7))
+      go : Dec (behind < placeS) → Dec (behind < placeM) → section ≤ letters * n + 0 ⊎ ((placeM ≤ behind) × (section ≡ numberOf (back behind)))
       go (yes a) b = inl (omega (arith, p .section-is ∙ section-first n behind (omega arith)))
       go (no a) (yes b) = inl (omega (arith, p .section-is ∙ section-inside n behind (omega arith) (omega arith)))
       go (no a) (no b) = inr (omega arith, p .section-is ∙ section-behind n behind (omega arith))
@@ -138,20 +139,22 @@ module _ {s index : List ℕ} {at behind section n : ℕ} (p : Passing s index a
   pub section-next : (q : ℕ) → mayFollow behind q ≡ true → section ≤ sectionAt (withOne n q) q
   section-next q m = ⊎-elim one (⊎-elim two three) (may-cases behind q m)
     where
-      one : (q ≡ 1) × (behind ≡ 0) → section ≤ sectionAt (withOne n q) q
+      one : (q ≡ placeN) × (behind ≡ 0) → section ≤ sectionAt (withOne n q) q
       one x = omega (arith, p .section-is ∙ section-first n behind (omega (arith, x .1)))
 
-      two : (q ≡ 2) × (1 ≤ behind) × (behind ≤ 7) → section ≤ sectionAt (withOne n q) q
+      two : (q ≡ placeS) × (placeN ≤ behind) × (behind ≤ placeI) → section ≤ sectionAt (withOne n q) q
       two x =
-          let e : sectionAt (withOne n q) q ≡ 6 * n + 1 = section-inside (withOne n q) q (omega (arith, x .0)) (omega (arith, x .0)) ∙ rw (eq-eqb q 2 (x .0)) (omega (arith, x .0)) in
+          let e : sectionAt (withOne n q) q ≡ numberOf (within n placeS)
+          = section-inside (withOne n q) q (omega (arith, x .0)) (omega (arith, x .0)) ∙ rw (eq-eqb q placeS (x .0)) (omega (arith, x .0)) in
           ⊎-elim (λ a. omega arith) (λ a. absurd (omega (arith, a .0, x .2))) section-low
 
-      three : (3 ≤ q) × (q ≤ 10) × (2 ≤ behind) × (behind ≤ q) → section ≤ sectionAt (withOne n q) q
-      three x = go (decLt q 8) (decLt behind 8)
+      three : (placeE ≤ q) × (q ≤ placeX) × (placeS ≤ behind) × (behind ≤ q) → section ≤ sectionAt (withOne n q) q
+      three x = go (decLt q placeM) (decLt behind placeM)
         where
-          go : Dec (q < 8) → Dec (behind < 8) → section ≤ sectionAt (withOne n q) q
+          go : Dec (q < placeM) → Dec (behind < placeM) → section ≤ sectionAt (withOne n q) q
           go (yes a) b =
-              let e : sectionAt (withOne n q) q ≡ 6 * n + q - 7 = section-inside (withOne n q) q (omega (arith, x .0)) (omega arith) ∙ rw (ne-eqb q 2 (λ z. omega (arith, x .0))) in
+              let e : sectionAt (withOne n q) q ≡ letters * n + q - placeI
+              = section-inside (withOne n q) q (omega (arith, x .0)) (omega arith) ∙ rw (ne-eqb q placeS (λ z. omega (arith, x .0))) in
               omega (arith, p .section-is ∙ section-inside n behind (x .2) (omega (arith, x .3)), x .3)
           go (no a) (yes b) =
               omega (arith, section-behind (withOne n q) q (omega arith), p .section-is ∙ section-inside n behind (x .2) (omega arith), p .few)
@@ -159,9 +162,9 @@ module _ {s index : List ℕ} {at behind section n : ℕ} (p : Passing s index a
               omega (arith, section-behind (withOne n q) q (omega arith), p .section-is ∙ section-behind n behind (omega arith), x .3)
 
   pub next-in : (q : ℕ) → mayFollow behind q ≡ true → withOne n q ≤ structureLimit → sectionAt (withOne n q) q ≤ sections
-  next-in q m few = let w = place-in q m in go w (decLt q 2) (decLt q 8)
+  next-in q m few = let w = place-in q m in go w (decLt q placeS) (decLt q placeM)
     where
-      go : (1 ≤ q) × (q ≤ 10) → Dec (q < 2) → Dec (q < 8) → sectionAt (withOne n q) q ≤ sections
+      go : (placeN ≤ q) × (q ≤ placeX) → Dec (q < placeS) → Dec (q < placeM) → sectionAt (withOne n q) q ≤ sections
       go w (yes a) b = omega (arith, section-first (withOne n q) q (omega arith))
       go w (no a) (yes b) = omega (arith, section-inside (withOne n q) q (omega arith) (omega arith))
       go w (no a) (no b) = omega (arith, section-behind (withOne n q) q (omega arith), w .1)
@@ -176,13 +179,13 @@ module _ {s index : List ℕ} {at behind section n : ℕ} (p : Passing s index a
     abbrev f : Field
     f = fieldOf s letter start len
 
-    grown : (t : Section) → Stands t → fieldsIn t (p .passed ++ (f ∷ [])) ≡ fieldsIn t (p .passed) ++ consIf (eqb (numberOf t) to) f []
+    grown : (t : Section) → Proper t → fieldsIn t (p .passed ++ (f ∷ [])) ≡ fieldsIn t (p .passed) ++ consIf (eqb (numberOf t) to) f []
     grown t v = let w = place-in q m in grows (p .passed) f n q (sym place) (w .1) (p .counted) (w .0) (first-place q m) (later-place q m) few t v
 
-    old : (t : Section) → Stands t → Run s (boundAt index′ to at (numberOf t)) (boundAt index′ to at (numberOf t + 1)) (fieldsIn t (p .passed))
+    old : (t : Section) → Proper t → Run s (boundAt index′ to at (numberOf t)) (boundAt index′ to at (numberOf t + 1)) (fieldsIn t (p .passed))
     old t v = rw (same (numberOf t), same (numberOf t + 1)) (p .runs t v)
 
-    ran : (t : Section) → Stands t → Run s (boundAt index′ to next (numberOf t)) (boundAt index′ to next (numberOf t + 1)) (fieldsIn t (p .passed ++ (f ∷ [])))
+    ran : (t : Section) → Proper t → Run s (boundAt index′ to next (numberOf t)) (boundAt index′ to next (numberOf t + 1)) (fieldsIn t (p .passed ++ (f ∷ [])))
     ran t v = go (decLt (numberOf t) to) (ℕ-discrete (numberOf t) to)
       where
         go : Dec (numberOf t < to) → Dec (numberOf t ≡ to) → Run s (boundAt index′ to next (numberOf t)) (boundAt index′ to next (numberOf t + 1)) (fieldsIn t (p .passed ++ (f ∷ [])))
@@ -204,27 +207,28 @@ module _ {s index : List ℕ} {at behind section n : ℕ} (p : Passing s index a
       few = few;
       place = w .1;
       section-is = refl;
-      first = λ h. rw (ne-eqb q 2 (λ z. omega arith)) (first-place q m (omega (arith, w .0)));
+      first = λ h. rw (ne-eqb q placeS (λ z. omega arith)) (first-place q m (omega (arith, w .0)));
       later = λ h. some-structure q m (omega arith);
       runs = ran;
     }
 
   -- A letter that is repeated stays in its section.
-  pub pass-again : (letter start len next : ℕ) → fieldAt s at ≡ Got letter start len next → behind ≡ placeOf letter → 2 < behind → Passing s index next behind section n
+  pub pass-again : (letter start len next : ℕ) → fieldAt s at ≡ Got letter start len next → behind ≡ placeOf letter → placeS < behind
+      → Passing s index next behind section n
   pass-again letter start len next e place h =
-      let one : withOne n behind ≡ n = rw (ne-eqb behind 2 (λ z. omega arith)) in
+      let one : withOne n behind ≡ n = rw (ne-eqb behind placeS (λ z. omega arith)) in
       let to : sectionAt (withOne n behind) behind ≡ section = rw one (sym (p .section-is)) in
       rw (to, one) at (pass-next letter start len next behind index e place (may-repeat behind h (p .place)) (rw one (p .few)) (λ t. rw to))
 
   -- The pass ends: the sections that are left start, and end, here.
   module _ (index′ : List ℕ) (same : (t : ℕ) → boundAt index′ sections at t ≡ boundAt index section at t) where
-    laid : Laid s index′ (p .passed)
+    laid : Sectioned s index′ (p .passed)
     laid = record {
       run = λ t v. let h = number-in t v in
           rw (bound-in index′ sections at (numberOf t) (omega arith), bound-in index′ sections at (numberOf t + 1) h) at (rw (← same (numberOf t), ← same (numberOf t + 1)) at (p .runs t v));
     }
 
-    ended : {whole : Bool} → (whole ≡ true → 2 ≤ behind) → Placed s (rulePart s) at whole (p .passed) → Passes s index′ whole n
+    ended : {whole : Bool} → (whole ≡ true → placeS ≤ behind) → Placed s (rulePart s) at whole (p .passed) → Passes s index′ whole n
     ended m q = record {
       passed = p .passed;
       few = rw (← p .counted) (p .few);
@@ -236,41 +240,45 @@ module _ {s index : List ℕ} {at behind section n : ℕ} (p : Passing s index a
     pass-bad h e = ended (λ z. never z refl) (placing-bad (p .placing) h e)
 
     pub pass-stop : (letter start len next q : ℕ) → fieldAt s at ≡ Got letter start len next → q ≡ placeOf letter → mayFollow behind q ≡ false → Passes s index′ false n
-    pass-stop letter start len next q e place m = ended (λ z. never z refl) (placing-stop (p .placing) e (go (decLt 10 q)))
+    pass-stop letter start len next q e place m = ended (λ z. never z refl) (placing-stop (p .placing) e (go (decLt placeX q)))
       where
-        go : Dec (10 < q) → follows (ruleGrammar .places) (letterAt behind) letter ≡ false
+        go : Dec (placeX < q) → follows (ruleGrammar .places) (letterAt behind) letter ≡ false
         go (yes h) = follows-far (letterAt behind) letter (rw (← place) h)
         go (no h) = follow letter q place m (omega arith)
 
-    pub pass-end : length s ≤ at → Passes s index′ (leb 2 behind) n
-    pass-end h = ended (λ z. leb-true 2 behind z) (placing-end (p .placing) h (last-is behind (p .place)))
+    pub pass-end : length s ≤ at → Passes s index′ (leb placeS behind) n
+    pass-end h = ended (λ z. leb-true placeS behind z) (placing-end (p .placing) h (last-is behind (p .place)))
 
     -- A structure over the limit.
     module _ (letter start len next q : ℕ) (e : fieldAt s at ≡ Got letter start len next) (place : q ≡ placeOf letter)
         (m : mayFollow behind q ≡ true) (over : structureLimit < withOne n q) where
-      is-two : q ≡ 2
-      is-two = go (ℕ-discrete q 2)
+      place-s : q ≡ placeS
+      place-s = go (ℕ-discrete q placeS)
         where
-          go : Dec (q ≡ 2) → q ≡ 2
+          go : Dec (q ≡ placeS) → q ≡ placeS
           go (yes h) = h
-          go (no h) = absurd (omega (arith, rw (ne-eqb q 2 h) at over, p .few))
+          go (no h) = absurd (omega (arith, rw (ne-eqb q placeS h) at over, p .few))
 
       full : structureLimit ≡ n
-      full = omega (arith, rw (eq-eqb q 2 is-two) at over, p .few)
+      full = omega (arith, rw (eq-eqb q placeS place-s) at over, p .few)
 
-      behind-low : behind ≤ 7
-      behind-low = ⊎-elim (λ x. omega (arith, x .1)) (⊎-elim (λ x. x .2) (λ x. absurd (omega (arith, x .0, is-two)))) (may-cases behind q m)
+      behind-low : behind ≤ placeI
+      behind-low = ⊎-elim (λ x. omega (arith, x .1)) (⊎-elim (λ x. x .2) (λ x. absurd (omega (arith, x .0, place-s)))) (may-cases behind q m)
 
-      starts : getD index′ (6 * structureLimit + 1) 0 ≡ at
+      abbrev beyond : ℕ
+      beyond = numberOf (within structureLimit placeS)
+
+      starts : getD index′ beyond 0 ≡ at
       starts =
-          let low : section < 6 * structureLimit + 1 = ⊎-elim (λ a. omega (arith, full)) (λ a. absurd (omega (arith, a .0, behind-low))) section-low in
-          sym (bound-in index′ sections at (6 * structureLimit + 1) (omega arith)) ∙ same (6 * structureLimit + 1) ∙ bound-out index section at (6 * structureLimit + 1) low
+          let low : section < beyond = ⊎-elim (λ a. omega (arith, full)) (λ a. absurd (omega (arith, a .0, behind-low))) section-low in
+          sym (bound-in index′ sections at beyond (omega arith)) ∙ same beyond ∙ bound-out index section at beyond low
 
       is-s : letter ≡ letterS
       unfolding letterAt
-      is-s = letter-is letter 2 (sym place ∙ is-two) (omega arith)
+      is-s = letter-is letter placeS (sym place ∙ place-s) (omega arith)
 
       pub pass-over : Passes s index′ false (withOne n q)
+      unfolding sectionFrom
       pass-over =
           let w = place-in q m in
           let nx = placing-next (p .placing) e (follow letter q place m (w .1)) in
@@ -287,6 +295,6 @@ module _ {s index : List ℕ} {at behind section n : ℕ} (p : Passing s index a
               no-name = rw (is-s) (no-head letterS (λ z. omega arith) (fieldsAt s next) (fieldOf s letterS start len) refl (λ z. omega arith));
               head = record { start = start; len = len; next = next; got = rw (starts, ← is-s) e; same = rw (← is-s) };
               full = full ∙ p .counted;
-              counted = rw (eq-eqb q 2 is-two) (omega (arith, full));
+              counted = rw (eq-eqb q placeS place-s) (omega (arith, full));
             });
           }

@@ -7,15 +7,14 @@ use mathlib.Core.Path.{_≡_, refl, sym, _∙_}
 use lib.ListN.{length, getD, drop, length-drop}
 use Rattle.definition.specs.Base.{each}
 use Rattle.definition.specs.Letters.{letterS}
-use Rattle.definition.specs.Limits.{structureLimit}
 use Rattle.definition.specs.Records.{Field, numbers, numberAt, withLetter, blocks}
 use Rattle.definition.specs.Rule.{Element, MorphismKind, If, SurjThen, NonSurjThen, Noop, kindOf, rulePart, ruleOf, structureOf, elementOf, mapOf, auxiliaryOf}
 use Rattle.definition.specs.Names.{numbersOf}
 use Rattle.definition.specs.Walk.{structureAt, noStructure}
+use Rattle.laws.proofs.Lists.{length-each, getD-each}
 use Rattle.records.specs.Places.{twoAt, stretch, fieldOf, Run}
-use Rattle.records.proofs.Lists.{length-each, getD-each}
 use Rattle.records.proofs.Numbers.{stretch-at, drop-stretch, length-numbers-in, number-in}
-use Rattle.rule.specs.Layout.{letterAt, noBlock, blockAt}
+use Rattle.rule.specs.Layout.{letterAt, noBlock, blockAt, placeM, placeX, behindFrom, behindTo, numberOf, back}
 use Rattle.rule.specs.Elements.{elementFields, elementNumbers, Elements}
 use Rattle.rule.specs.Lookup.{Ready, ruleAt}
 use Rattle.rule.proofs.PairLaws.{pairs-length}
@@ -86,8 +85,9 @@ module _ {s index : List ℕ} (w : Ready s index) where
   structures-are = length-each structureOf (blocks letterS fields) ∙ sym (w .indexed .counted)
 
   -- The section of M, K or X.
-  pub tail-run-at : (q : ℕ) → 8 ≤ q → q ≤ 10 → Run s (getD index (6 * structureLimit + q - 7) 0) (getD index (6 * structureLimit + q - 7 + 1) 0) (withLetter (letterAt q) fields)
-  tail-run-at q lo hi = let z : 6 * structureLimit + q - 7 + 1 ≡ 6 * structureLimit + q - 6 = omega arith in rw z (w .indexed .tail .run q lo hi)
+  pub tail-run-at : (q : ℕ) → placeM ≤ q → q ≤ placeX → Run s (getD index (numberOf (back q)) 0) (getD index (numberOf (back q) + 1) 0) (withLetter (letterAt q) fields)
+  unfolding behindFrom behindTo
+  tail-run-at q lo hi = w .indexed .tail .run q lo hi
 
   module _ {k : ℕ} (h : k < length (ruleAt s .structures)) where
     in-count : k < w .count

@@ -7,15 +7,16 @@ use mathlib.Core.Option.{Option, none, some}
 use mathlib.Core.Path.{_≡_, refl}
 use lib.Dec.{leb}
 use lib.ListN.{length}
-use borrow.Author.Tests.{le-leb, leb-true, ltb-false, eqb-true, not-false}
+use borrow.Author.Tests.{le-leb, leb-true, eqb-true, not-false}
 use Rattle.definition.specs.Base.{orElse, all}
 use Rattle.definition.specs.Letters.{letterN, letterS, letterM, letterK, letterX}
 use Rattle.definition.specs.Records.{Field, withLetter, blocks, faultFrom, faultAmong}
 use Rattle.definition.specs.Signature.{Signature}
 use Rattle.definition.specs.Rule.{headFault, mapFault, kindFault, auxiliaryFault, structuresFault, namedIn, ruleFault}
+use Rattle.laws.proofs.Lists.{lowest-none, and-left, and-right}
 use Rattle.records.specs.Places.{stretch, fieldOf}
-use Rattle.records.proofs.Lists.{lowest-none, or-left, and-left, and-right}
 use Rattle.records.proofs.Numbers.{length-stretch}
+use Rattle.laws.proofs.SoundOrder.{map-long}
 
 -- So many bytes, at least.
 abbrev pub atLeast : ℕ → Field → Bool
@@ -49,10 +50,6 @@ module _ (check : ℕ → Option Field → Field → Option ℕ) (least : ℕ) (
   long-among : (letter : ℕ) (fs : List Field) → faultAmong letter check fs ≡ none → AllLong least (withLetter letter fs)
   unfolding faultAmong
   long-among letter fs e = long-from 0 none (withLetter letter fs) e
-
-map-long : (named : List (List ℕ)) (m : ℕ) (l : Option Field) (f : Field) → mapFault named m l f ≡ none → 4 ≤ length (f .content)
-unfolding mapFault
-map-long named m l f e = ltb-false _ _ (or-left _ _ (lowest-none 3 _ _ e .0))
 
 kind-long : (named : List (List ℕ)) (m : ℕ) (l : Option Field) (f : Field) → kindFault named m l f ≡ none → 5 ≤ length (f .content)
 unfolding kindFault

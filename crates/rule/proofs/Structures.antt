@@ -1,5 +1,5 @@
 -- The structures, front to back.
-use Prim.Native.Nat.{ℕ, _+_, _*_, _≤_, _<_}
+use Prim.Native.Nat.{ℕ, _+_, _≤_, _<_}
 use native.Mathlib.Omega.{arith}
 use native.Mathlib.Decide.{ℕ-discrete}
 use native.Mathlib.Numerals.{add-one}
@@ -17,7 +17,7 @@ use Rattle.definition.specs.Rule.{namedElements, structureFault, bodyFault, str
 use Rattle.signature.specs.Faults.{faultOf}
 use Rattle.signature.specs.declared.faults.Fault.{Fault}
 use Rattle.signature.specs.declared.faults.Fault.the-variants.{Sound, Draws}
-use Rattle.rule.specs.Layout.{noBlock}
+use Rattle.rule.specs.Layout.{noBlock, placeS, sectionFrom, numberOf, within}
 use Rattle.rule.specs.Elements.{elementFields, Known}
 use Rattle.rule.specs.Answers.{HeadAt, Bodied, Structured, Kept, Holds, AllHold}
 use Rattle.rule.proofs.Bodies.{kept-fields, bodied-kept}
@@ -37,8 +37,9 @@ module _ {s index₀ : List ℕ} {n : ℕ} {bs : List Block} (w : Structured s i
   block-on : k < n → drop k bs ≡ getD bs k noBlock ∷ drop (k + 1) bs
   block-on h = let l : k < length bs = in-blocks h in rw (add-one, drop-cons bs k noBlock)
 
-  pub head-here : k < n → k ≤ structureLimit → HeadAt s (getD index (6 * k + 1) 0) (getD bs k noBlock .head)
-  head-here h l = rw (kept .before (6 * k + 1) (omega arith)) (w .head k h)
+  pub head-here : k < n → k ≤ structureLimit → HeadAt s (sectionFrom index k placeS) (getD bs k noBlock .head)
+  unfolding sectionFrom
+  head-here h l = rw (kept .before (numberOf (within k placeS)) (omega arith)) (w .head k h)
 
   pub body-here : k < n → k < structureLimit → Bodied s index k (getD bs k noBlock .body)
   body-here h l = bodied-kept l kept (w .body k h l)

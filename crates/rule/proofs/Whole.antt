@@ -1,5 +1,5 @@
 -- From the pass and the checks to the rule's answer.
-use Prim.Native.Nat.{ℕ, zero, suc, _+_, _-_, _*_, _≤_, _<_}
+use Prim.Native.Nat.{ℕ, zero, suc, _+_, _-_, _≤_, _<_}
 use native.Mathlib.Omega.{arith}
 use native.Mathlib.Decide.{decLt}
 use mathlib.Core.Bool.{Bool, true, false}
@@ -17,22 +17,23 @@ use Rattle.definition.specs.Records.{Field, Block, withLetter, upTo, blocks, fa
 use Rattle.definition.specs.Signature.{Signature}
 use Rattle.definition.specs.Rule.{headFault, namedElements, structuresFault, namedIn, ruleFault, rulePart, ruleOf, readRule, mapFault, kindFault, auxiliaryFault}
 use Rattle.records.specs.Places.{fieldOf, Run, none, more}
-use Rattle.records.proofs.Lists.{keep-append}
 use Rattle.signature.specs.Faults.{faultOf}
 use Rattle.signature.specs.declared.faults.Fault.{Fault}
 use Rattle.signature.specs.declared.faults.Fault.the-variants.{Sound, Draws}
-use Rattle.rule.specs.Layout.{letterAt, front, within, back, noBlock, blockAt, fieldsIn, Laid}
+use Rattle.rule.specs.Layout.{letterAt, front, within, back, noBlock, blockAt, fieldsIn, Sectioned, sectionFrom, sectionTo, behindFrom, behindTo, numberOf}
+use Rattle.rule.specs.Layout.{placeS, placeE, placeI, placeM, placeK, placeX}
 use Rattle.rule.specs.Elements.{elementFields, elementNumbers, numbersIn, Known}
 use Rattle.rule.specs.Faults.{checkOf, tailFault}
 use Rattle.rule.specs.Answers.{HeadAt, Bodied, Structured, Tailed, Ended, Over, Passes, Kept, AllHold, Indexed}
 use Rattle.rule.proofs.Blocks.{blocks-append, head-letter}
 use Rattle.rule.proofs.Letters.{letter-test, place-is}
 use Rattle.rule.proofs.Bodies.{named-is, bodied-kept}
+use Rattle.laws.proofs.Numbers.{with-append}
 
 -- The letters of a structure's fields are not S.
-inner-letter : (q : ℕ) → 3 ≤ q → q ≤ 7 → eqb letterS (letterAt q) ≡ false
+inner-letter : (q : ℕ) → placeE ≤ q → q ≤ placeI → eqb letterS (letterAt q) ≡ false
 unfolding letterAt
-inner-letter q lo hi = letter-test letterS 2 q (place-is 2 (omega arith)) (omega arith) (omega arith) ∙ ne-eqb 2 q (λ e. omega arith)
+inner-letter q lo hi = letter-test letterS placeS q (place-is placeS (omega arith)) (omega arith) (omega arith) ∙ ne-eqb placeS q (λ e. omega arith)
 
 -- The first field of a run.
 run-head : {s : List ℕ} {at end : ℕ} {xs : List Field} → Run s at end xs → (f : Field) (ys : List Field) → xs ≡ f ∷ ys → f .letter ≡ letterS → HeadAt s at f
@@ -43,29 +44,26 @@ run-head {s} (more {at} {letter} {start} {len} {next} g r) f ys e l =
     record { start = start; len = len; next = next; got = rw m at g; same = sym q ∙ rw m }
 
 -- The sections of the structures that were passed.
-module _ {s index : List ℕ} {passed : List Field} (w : Laid s index passed) (k : ℕ) (h : k < length (blocks letterS passed)) (few : k < structureLimit) where
+module _ {s index : List ℕ} {passed : List Field} (w : Sectioned s index passed) (k : ℕ) (h : k < length (blocks letterS passed)) (few : k < structureLimit) where
   head-is : blockAt passed k .head .letter ≡ letterS
   head-is = eqb-true _ _ (head-letter letterS passed k noBlock h)
 
-  head-first : fieldsIn (within k 2) passed ≡ blockAt passed k .head ∷ withLetter letterS (blockAt passed k .body)
+  head-first : fieldsIn (within k placeS) passed ≡ blockAt passed k .head ∷ withLetter letterS (blockAt passed k .body)
   unfolding fieldsIn withLetter keep letterAt
   head-first = rw (head-letter letterS passed k noBlock h)
 
-  laid-head : HeadAt s (getD index (6 * k + 1) 0) (blockAt passed k .head)
+  laid-head : HeadAt s (sectionFrom index k placeS) (blockAt passed k .head)
+  unfolding sectionFrom
   laid-head =
-      let z : 6 * k + 2 - 1 ≡ 6 * k + 1 = omega arith in
-      run-head (rw z at (w .run (within k 2) (few, omega arith, omega arith))) (blockAt passed k .head) (withLetter letterS (blockAt passed k .body)) head-first head-is
+      run-head (w .run (within k placeS) (few, omega arith, omega arith)) (blockAt passed k .head) (withLetter letterS (blockAt passed k .body)) head-first head-is
 
-  body-only : (q : ℕ) → 3 ≤ q → q ≤ 7 → fieldsIn (within k q) passed ≡ withLetter (letterAt q) (blockAt passed k .body)
+  body-only : (q : ℕ) → placeE ≤ q → q ≤ placeI → fieldsIn (within k q) passed ≡ withLetter (letterAt q) (blockAt passed k .body)
   unfolding fieldsIn withLetter keep
   body-only q lo hi = rw (head-is, inner-letter q lo hi)
 
   laid-body : Bodied s index k (blockAt passed k .body)
-  laid-body = record {
-    run = λ q lo hi.
-        let z : 6 * k + q - 1 + 1 ≡ 6 * k + q = omega arith in
-        rw (z, body-only q lo hi) at (w .run (within k q) (few, omega arith, hi));
-  }
+  unfolding sectionFrom sectionTo
+  laid-body = record { run = λ q lo hi. rw (body-only q lo hi) at (w .run (within k q) (few, omega arith, hi)) }
 
 -- Lists one behind the other.
 get-left : (xs ys : List Block) (k : ℕ) (d : Block) → k < length xs → getD (xs ++ ys) k d ≡ getD xs k d
@@ -78,10 +76,6 @@ get-right [] ys y zero d h = refl
 get-right [] ys y (suc k) d h = absurd (omega arith)
 get-right (x ∷ xs) ys y zero d h = absurd (omega arith)
 get-right (x ∷ xs) ys y (suc k) d h = get-right xs ys y k d (omega arith)
-
-with-append : (letter : ℕ) (fs gs : List Field) → withLetter letter (fs ++ gs) ≡ withLetter letter fs ++ withLetter letter gs
-unfolding withLetter
-with-append letter fs gs = keep-append (λ (f : Field). eqb (f .letter) letter) fs gs
 
 module _ {s index : List ℕ} {whole : Bool} {n : ℕ} (p : Passes s index whole n) where
   of-ended : Ended s (p .passed) whole n → Structured s index n (blocks letterS (p .passed))
@@ -102,7 +96,7 @@ module _ {s index : List ℕ} {whole : Bool} {n : ℕ} (p : Passes s index whole
         body = λ k h l. rw (get-left (blocks letterS (p .passed)) (b ∷ bs) k noBlock (omega (arith, o .full))) (laid-body (p .laid) k (omega (arith, o .full)) l);
       }
     where
-      head : (k : ℕ) → k < n → Dec (k < structureLimit) → HeadAt s (getD index (6 * k + 1) 0) (getD (blocks letterS (p .passed) ++ (b ∷ bs)) k noBlock .head)
+      head : (k : ℕ) → k < n → Dec (k < structureLimit) → HeadAt s (sectionFrom index k placeS) (getD (blocks letterS (p .passed) ++ (b ∷ bs)) k noBlock .head)
       head k h (yes l) = rw (get-left (blocks letterS (p .passed)) (b ∷ bs) k noBlock (omega (arith, o .full))) (laid-head (p .laid) k (omega (arith, o .full)) l)
       head k h (no l) =
           let z : k ≡ structureLimit = omega (arith, o .counted) in
@@ -135,12 +129,8 @@ module _ {s index : List ℕ} {whole : Bool} {n : ℕ} (p : Passes s index whole
   few-ended h = ⊎-elim (λ e. e) (λ o. absurd (omega (arith, o .counted))) (p .upto)
 
   pub tailed : n ≤ structureLimit → Tailed s index (rulePart s .fields)
-  unfolding fieldsIn
-  tailed h = let e = few-ended h in
-      record {
-        run = λ q lo hi. let z : 6 * structureLimit + q - 7 + 1 ≡ 6 * structureLimit + q - 6 = omega arith in
-            rw (e .fields) (rw z at (p .laid .run (back q) (lo, hi)));
-      }
+  unfolding fieldsIn behindFrom behindTo
+  tailed h = let e = few-ended h in record { run = λ q lo hi. rw (e .fields) (p .laid .run (back q) (lo, hi)) }
 
 -- The elements that can be named are those that the index holds.
 each-span : {A B : Type 0} (f : A → B) (g : ℕ → B) (xs : List A) (d : A) (a : ℕ) → ((k : ℕ) → k < length xs → g (a + k) ≡ f (getD xs k d)) → each g (span (length xs) a) ≡ each f xs
@@ -188,20 +178,21 @@ module _ (sig : Signature) (fs : List Field) {named : List (List ℕ)} (e : name
     unfolding tailFault
     tail-x {k} hk dk x h = sym (rw (← (of-m m hm), dm, ← (of-k k hk), dk, ← (of-x x h)))
 
--- The run of a section behind the structures, by the number that the code has.
-pub tail-run : {s index : List ℕ} {fs : List Field} → Tailed s index fs → (q letter t u : ℕ) → 8 ≤ q → q ≤ 10 → letterAt q ≡ letter → t ≡ 6 * structureLimit + q - 7 → u ≡ 6 * structureLimit + q - 6
-    → Run s (getD index t 0) (getD index u 0) (withLetter letter fs)
-tail-run b q letter t u lo hi e m n = rw (m, n, ← e) (b .run q lo hi)
+-- The run of a section behind the structures, by its number.
+pub tail-run : {s index : List ℕ} {fs : List Field} → Tailed s index fs → (q letter : ℕ) → placeM ≤ q → q ≤ placeX → letterAt q ≡ letter
+    → Run s (getD index (numberOf (back q)) 0) (getD index (numberOf (back q) + 1) 0) (withLetter letter fs)
+unfolding behindFrom behindTo
+tail-run b q letter lo hi e = rw (← e) (b .run q lo hi)
 
-pub letter-m : letterAt 8 ≡ letterM
+pub letter-m : letterAt placeM ≡ letterM
 unfolding letterAt
 letter-m = refl
 
-pub letter-k : letterAt 9 ≡ letterK
+pub letter-k : letterAt placeK ≡ letterK
 unfolding letterAt
 letter-k = refl
 
-pub letter-x : letterAt 10 ≡ letterX
+pub letter-x : letterAt placeX ≡ letterX
 unfolding letterAt
 letter-x = refl
 
@@ -263,9 +254,10 @@ module _ {s index index′ : List ℕ} {whole : Bool} {n : ℕ} (p : Passes s in
   ended-same = few-ended p (known .few) .same
 
   pub ended-tail : Tailed s index′ (rulePart s .fields)
+  unfolding behindFrom behindTo
   ended-tail = record {
     run = λ q lo hi.
-        rw (kept .before (6 * structureLimit + q - 7) (omega arith), kept .before (6 * structureLimit + q - 6) (omega arith)) (tailed p (known .few) .run q lo hi);
+        rw (kept .before (numberOf (back q)) (omega arith), kept .before (numberOf (back q) + 1) (omega arith)) (tailed p (known .few) .run q lo hi);
   }
 
   module _ (holds : AllHold Sound s index′ n (blocks letterS (rulePart s .fields))) where

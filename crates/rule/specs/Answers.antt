@@ -17,7 +17,7 @@ use Rattle.records.specs.declared.fields.Field.the-variants.{Got}
 use Rattle.signature.specs.Faults.{faultOf}
 use Rattle.signature.specs.declared.faults.Fault.{Fault}
 use Rattle.signature.specs.declared.faults.Fault.the-variants.{Sound, Draws}
-use Rattle.rule.specs.Layout.{letterAt, noBlock, blockAt, Laid, elementsFrom}
+use Rattle.rule.specs.Layout.{placeS, placeE, placeI, placeM, placeX, letterAt, noBlock, blockAt, sectionFrom, sectionTo, behindFrom, behindTo, Sectioned, elementsFrom}
 use Rattle.rule.specs.Elements.{countAt, elementFields, numbersIn, Elements, Known}
 use Rattle.rule.specs.Faults.{checkOf}
 use Rattle.rule.specs.declared.reader.Reading.{Reading}
@@ -36,20 +36,20 @@ pub record HeadAt (s : List ℕ) (at : ℕ) (f : Field) : Type 0 where
   pub got : fieldAt s at ≡ Got letterS start len next
   pub same : f ≡ fieldOf s letterS start len
 
--- The fields of structure k behind its S: the section of each letter, by its place (3 to 7).
+-- The fields of structure k behind its S: the section of each letter, by its place.
 pub record Bodied (s index : List ℕ) (k : ℕ) (body : List Field) : Type 0 where
-  pub run : (q : ℕ) → 3 ≤ q → q ≤ 7 → Run s (getD index (6 * k + q - 1) 0) (getD index (6 * k + q) 0) (withLetter (letterAt q) body)
+  pub run : (q : ℕ) → placeE ≤ q → q ≤ placeI → Run s (sectionFrom index k q) (sectionTo index k q) (withLetter (letterAt q) body)
 
 -- The sections hold n structures; one over the limit, and any behind it, is known by its S alone.
 pub record Structured (s index : List ℕ) (n : ℕ) (bs : List Block) : Type 0 where
   pub counted : (n ≡ length bs) ⊎ ((n ≡ structureLimit + 1) × (n ≤ length bs))
   pub few : n ≤ structureLimit + 1
-  pub head : (k : ℕ) → k < n → HeadAt s (getD index (6 * k + 1) 0) (getD bs k noBlock .head)
+  pub head : (k : ℕ) → k < n → HeadAt s (sectionFrom index k placeS) (getD bs k noBlock .head)
   pub body : (k : ℕ) → k < n → k < structureLimit → Bodied s index k (getD bs k noBlock .body)
 
--- The sections behind the structures: M, K and X, by their places (8 to 10).
+-- The sections behind the structures: M, K and X, by their places.
 pub record Tailed (s index : List ℕ) (fs : List Field) : Type 0 where
-  pub run : (q : ℕ) → 8 ≤ q → q ≤ 10 → Run s (getD index (6 * structureLimit + q - 7) 0) (getD index (6 * structureLimit + q - 6) 0) (withLetter (letterAt q) fs)
+  pub run : (q : ℕ) → placeM ≤ q → q ≤ placeX → Run s (behindFrom index q) (behindTo index q) (withLetter (letterAt q) fs)
 
 -- The part ended, or it goes on with a structure over the limit.
 pub record Ended (s : List ℕ) (passed : List Field) (whole : Bool) (n : ℕ) : Type 0 where
@@ -62,7 +62,7 @@ pub record Over (s index : List ℕ) (passed : List Field) (n : ℕ) : Type 0 wh
   pub next : Field
   pub rest : List Field
   pub fields : rulePart s .fields ≡ passed ++ (next ∷ rest)
-  pub head : HeadAt s (getD index (6 * structureLimit + 1) 0) next
+  pub head : HeadAt s (sectionFrom index structureLimit placeS) next
   pub no-name : withLetter letterN (next ∷ rest) ≡ []
   pub full : structureLimit ≡ length (blocks letterS passed)
   pub counted : n ≡ structureLimit + 1
@@ -71,7 +71,7 @@ pub record Over (s index : List ℕ) (passed : List Field) (n : ℕ) : Type 0 wh
 pub record Passes (s index : List ℕ) (whole : Bool) (n : ℕ) : Type 0 where
   pub passed : List Field
   pub few : length (blocks letterS passed) ≤ structureLimit
-  pub laid : Laid s index passed
+  pub laid : Sectioned s index passed
   pub upto : Ended s passed whole n ⊎ Over s index passed n
 
 -- The index is as it was, but for the elements of structure k and what comes behind them.
@@ -124,7 +124,7 @@ pub record AllStored (r : Fault) (s index₀ index : List ℕ) (n : ℕ) : Type 
 pub record AllHold (r : Fault) (s index : List ℕ) (n : ℕ) (bs : List Block) : Type 0 where
   pub is : AllHoldAs r s index n bs
 
--- The index of an accepted rule: the sections of N, of each structure, and of M, K and X (places 8 to 10); the elements.
+-- The index of an accepted rule: the sections of N, of each structure, and of M, K and X ; the elements.
 pub record Indexed (sig : Signature) (s index : List ℕ) (n : ℕ) : Type 0 where
   pub sound : ruleFault sig (rulePart s .fields) ≡ none
   pub counted : n ≡ length (blocks letterS (rulePart s .fields))

@@ -10,7 +10,7 @@ use Rattle.definition.specs.Limits.{structureLimit, fieldLimit}
 use Rattle.definition.specs.Records.{Field, Block, withLetter, blocks}
 use Rattle.records.specs.Places.{Run}
 
--- The letters in their order, behind the start, and the place of one: N is 1, X is 10.
+-- The letters in their order, behind the start, and the place of one: the start has 0, N the first.
 abbrev pub order : List ℕ
 order = start ∷ letterN ∷ letterS ∷ letterE ∷ letterR ∷ letterA ∷ letterV ∷ letterI ∷ letterM ∷ letterK ∷ letterX ∷ []
 
@@ -20,20 +20,59 @@ letterAt q = getD order q start
 unfoldable pub placeOf : ℕ → ℕ
 placeOf letter = placeFrom 0 letter order
 
+-- The places by name: of N, of a structure's letters from S to I, and of those behind the structures.
+abbrev pub placeN : ℕ
+placeN = 1
+
+abbrev pub placeS : ℕ
+placeS = 2
+
+abbrev pub placeE : ℕ
+placeE = 3
+
+abbrev pub placeR : ℕ
+placeR = 4
+
+abbrev pub placeA : ℕ
+placeA = 5
+
+abbrev pub placeV : ℕ
+placeV = 6
+
+abbrev pub placeI : ℕ
+placeI = 7
+
+abbrev pub placeM : ℕ
+placeM = 8
+
+abbrev pub placeK : ℕ
+placeK = 9
+
+abbrev pub placeX : ℕ
+placeX = 10
+
+-- How many letters a structure has, S with them.
+abbrev pub letters : ℕ
+letters = 6
+
+-- The place of the names that have so many numbers before each: V has one, I two.
+unfoldable pub namePlace : ℕ → ℕ
+namePlace count = placeV + count - 1
+
 -- Whether the letter of a place may stand directly behind that of another.
 unfoldable pub mayFollow : ℕ → ℕ → Bool
-mayFollow behind q = pick (eqb q 1) (eqb behind 0)
-    (pick (ltb behind 1) false (pick (eqb q 2) (leb behind 7) (pick (ltb behind 2) false (pick (ltb 10 q) false (leb behind q)))))
+mayFollow behind q = pick (eqb q placeN) (eqb behind 0)
+    (pick (ltb behind placeN) false (pick (eqb q placeS) (leb behind placeI) (pick (ltb behind placeS) false (pick (ltb placeX q) false (leb behind q)))))
 
 -- The structures, with the one that a letter begins.
 abbrev pub withOne : ℕ → ℕ → ℕ
-withOne n q = pick (eqb q 2) (n + 1) n
+withOne n q = pick (eqb q placeS) (n + 1) n
 
 -- The number of the section of a letter in the last of n structures, or behind them.
 unfoldable pub sectionAt : ℕ → ℕ → ℕ
-sectionAt n q = pick (leb q 1) 0 (pick (ltb q 8) (6 * n + q - 7) (6 * structureLimit + q - 7))
+sectionAt n q = pick (leb q placeN) 0 (pick (ltb q placeM) (letters * n + q - placeI) (letters * structureLimit + q - placeI))
 
--- The sections: that of N, those of a structure by their letters' places (2 to 7), and those behind the structures (8 to 10).
+-- The sections: that of N, those of a structure by their letters' places (S to I), and those behind the structures (M to X).
 pub data Section : Type 0 where
   front : Section
   within : ℕ → ℕ → Section
@@ -41,13 +80,13 @@ pub data Section : Type 0 where
 
 abbrev pub numberOf : Section → ℕ
 numberOf front = 0
-numberOf (within k q) = 6 * k + q - 1
-numberOf (back q) = 6 * structureLimit + q - 7
+numberOf (within k q) = letters * k + q - placeN
+numberOf (back q) = letters * structureLimit + q - placeI
 
-abbrev pub Stands : Section → Type 0
-Stands front = Unit
-Stands (within k q) = (k < structureLimit) × (2 ≤ q) × (q ≤ 7)
-Stands (back q) = (8 ≤ q) × (q ≤ 10)
+abbrev pub Proper : Section → Type 0
+Proper front = Unit
+Proper (within k q) = (k < structureLimit) × (placeS ≤ q) × (q ≤ placeI)
+Proper (back q) = (placeM ≤ q) × (q ≤ placeX)
 
 -- A structure's fields.
 abbrev pub noBlock : Block
@@ -67,7 +106,7 @@ fieldsIn (back q) fs = withLetter (letterAt q) fs
 
 -- The layout: where each section starts, and where the last one ends; the positions of the elements; their counts.
 abbrev pub sections : ℕ
-sections = 6 * structureLimit + 4
+sections = numberOf (back placeX) + 1
 
 abbrev pub elementsFrom : ℕ
 elementsFrom = sections + 1
@@ -82,6 +121,20 @@ ruleIndex = countsFrom + structureLimit
 abbrev pub boundAt : List ℕ → ℕ → ℕ → ℕ → ℕ
 boundAt index section at t = pick (leb t section) (getD index t 0) at
 
+-- Where the fields of a letter begin and end in structure k, by the letter's place.
+unfoldable pub sectionFrom : List ℕ → ℕ → ℕ → ℕ
+sectionFrom index k q = getD index (numberOf (within k q)) 0
+
+unfoldable pub sectionTo : List ℕ → ℕ → ℕ → ℕ
+sectionTo index k q = getD index (numberOf (within k q) + 1) 0
+
+-- And those behind the structures.
+unfoldable pub behindFrom : List ℕ → ℕ → ℕ
+behindFrom index q = getD index (numberOf (back q)) 0
+
+unfoldable pub behindTo : List ℕ → ℕ → ℕ
+behindTo index q = getD index (numberOf (back q) + 1) 0
+
 -- The sections that the index has hold the fields.
-pub record Laid (s index : List ℕ) (fs : List Field) : Type 0 where
-  pub run : (t : Section) → Stands t → Run s (getD index (numberOf t) 0) (getD index (numberOf t + 1) 0) (fieldsIn t fs)
+pub record Sectioned (s index : List ℕ) (fs : List Field) : Type 0 where
+  pub run : (t : Section) → Proper t → Run s (getD index (numberOf t) 0) (getD index (numberOf t + 1) 0) (fieldsIn t fs)

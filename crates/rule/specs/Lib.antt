@@ -4,3 +4,9 @@ pub mod Elements
 pub mod Faults
 pub mod Answers
 pub mod Lookup
+pub mod Lists
+pub mod ElementFields
+pub mod Rows
+pub mod Names
+pub mod Structures
+pub mod MapFields

@@ -10,16 +10,20 @@ ghost use Rattle.definition.specs.Records as definition;
 ghost use Rattle.definition.specs.Records.{numbers, withLetter};
 ghost use Rattle.definition.specs.Rule.{namedElements};
 ghost use Rattle.records.specs.Places.{stretch, Run};
+ghost use Rattle.rule.specs.ElementFields.{elementIn, elementFrom, ElementsAt, Within};
 ghost use Rattle.rule.specs.Elements.{countAt, positionAt, elementAt, elementNumbers, Elements, Finds};
+ghost use Rattle.rule.specs.Lists.{elsIn, ElsInside};
 use crate::ids::COUNTS_FROM;
 use crate::ids::ELEMENTS_FROM;
 use crate::ids::ElId;
 use crate::ids::FIELDS;
 use crate::ids::RULE_INDEX;
+use crate::lists::Els;
 use records::fields::Field;
 use records::fields::num;
 use records::fields::read_field;
 use records::fields::two;
+use signature::ids::TypeId;
 
 pub enum Found {
     At(usize),
@@ -171,4 +175,40 @@ pub fn parents_named(s: &[u8], from: usize, to: usize, start: usize, len: usize)
         i += 1;
     }
     true
+}
+
+// An element, and where its parents stand and how many there are.
+pub struct Element {
+    pub number: ElId,
+    pub ty: TypeId,
+    pub start: usize,
+    pub parents: usize,
+}
+
+// The element at a place of a structure.
+pub fn read_element(s: &[u8], index: &[u16; RULE_INDEX], k: usize, i: usize) -> Element
+    requires { ⌜ (k < structureLimit) × (i < countAt (now index) k) ⌝ }
+    requires { ⌜ ElementsAt (now s) (now index) k ⌝ }
+    ensures { λ r. ⌜ elementFrom (now (s .entry)) r ≡ elementIn (now (s .entry)) (now (index .entry)) k i ⌝ }
+    ensures { λ r. ⌜ Within (now (s .entry)) r ⌝ }
+{
+    let at = element_field(index, k, i);
+    Element {
+        number: ElId(num(s, at + 3)),
+        ty: TypeId(num(s, at + 5)),
+        start: at + 7,
+        parents: two(s, at + 1) / 2 - 2,
+    }
+}
+
+// The parents of an element.
+pub fn parents_of(e: Element) -> Els
+    ensures { λ r. ⌜ r .count ≡ e .parents ⌝ }
+    ensures { λ r. ⌜ ((s : List ℕ) → elsIn s r ≡ elementFrom s e .parents) ⌝ }
+    ensures { λ r. ⌜ ((s : List ℕ) → Within s e → ElsInside s r) ⌝ }
+{
+    Els {
+        start: e.start,
+        count: e.parents,
+    }
 }

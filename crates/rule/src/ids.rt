@@ -63,17 +63,31 @@ pub const NAME_BYTES: usize = 24;
 // The index begins with where each section starts. It ends where the next one starts, so behind X stands the end.
 pub const SECTION_N: usize = 0;
 
-pub const SECTION_S: usize = 1;
-
 pub const LETTERS: usize = 6;
 
-pub const SECTION_M: usize = SECTION_S + LETTERS * STRUCTURES;
+// Those of the first structure; each later one has its own so many letters further on.
+pub const SECTION_S: usize = PLACE_S - PLACE_N;
 
-pub const SECTION_K: usize = SECTION_M + 1;
+pub const SECTION_E: usize = PLACE_E - PLACE_N;
 
-pub const SECTION_X: usize = SECTION_M + 2;
+pub const SECTION_R: usize = PLACE_R - PLACE_N;
 
-pub const SECTIONS: usize = SECTION_M + 3;
+pub const SECTION_A: usize = PLACE_A - PLACE_N;
+
+pub const SECTION_V: usize = PLACE_V - PLACE_N;
+
+pub const SECTION_I: usize = PLACE_I - PLACE_N;
+
+pub const BEHIND_I: usize = SECTION_I + 1;
+
+// Those behind all structures.
+pub const SECTION_M: usize = LETTERS * STRUCTURES + PLACE_M - PLACE_I;
+
+pub const SECTION_K: usize = LETTERS * STRUCTURES + PLACE_K - PLACE_I;
+
+pub const SECTION_X: usize = LETTERS * STRUCTURES + PLACE_X - PLACE_I;
+
+pub const SECTIONS: usize = SECTION_X + 1;
 
 // Then the positions of the E fields, so many for each structure, and for each structure how many there are.
 pub const ELEMENTS_FROM: usize = SECTIONS + 1;

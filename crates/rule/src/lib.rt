@@ -2,7 +2,12 @@
 pub mod elements;
 pub mod faults;
 pub mod ids;
+pub mod lists;
 pub mod lookup;
+pub mod maps;
+pub mod names;
 pub mod order;
 pub mod pass;
 pub mod reader;
+pub mod rows;
+pub mod sections;

@@ -4,18 +4,13 @@ ghost use mathlib.Core.Path.{_≡_};
 ghost use Prim.Native.Nat.{ℕ, _+_, _≤_};
 ghost use lib.Dec.{eqb};
 ghost use lib.ListN.{length};
-ghost use Rattle.definition.specs.Records.{withLetter};
-ghost use Rattle.definition.specs.Rule.{rulePart, mapOf, kindOf, auxiliaryOf};
+ghost use Rattle.definition.specs.Rule.{mapOf, kindOf, auxiliaryOf};
 ghost use Rattle.definition.specs.Walk.{pairsBetween};
-ghost use Rattle.records.specs.Places.{fieldOf, Run};
-ghost use Rattle.rule.specs.Layout.{letterAt};
+ghost use Rattle.records.specs.Places.{fieldOf};
 ghost use Rattle.rule.specs.Lookup.{Ready, ruleAt, kindIs, FindsMap};
-use crate::ids::LETTERS;
-use crate::ids::PLACE_I;
 use crate::ids::RULE_INDEX;
 use crate::ids::SECTION_K;
 use crate::ids::SECTION_M;
-use crate::ids::STRUCTURES;
 use crate::reader::bound;
 use records::fields::Field;
 use records::fields::read_field;
@@ -32,25 +27,6 @@ pub enum MorphismKind {
     SurjThen,
     NonSurjThen,
     Noop,
-}
-
-// The fields from one position to another.
-pub struct Section {
-    pub from: usize,
-    pub to: usize,
-}
-
-// The fields of M, K or X, by the letter's place.
-pub fn section_behind(s: &[u8], index: &[u16; RULE_INDEX], place: usize) -> Section
-    requires { ⌜ Ready (now s) (now index) ⌝ }
-    requires { ⌜ (8 ≤ place) × (place ≤ 10) ⌝ }
-    ensures { λ r. ⌜ Run (now (s .entry)) (r .from) (r .to) (withLetter (letterAt place) (rulePart (now (s .entry)) .fields)) ⌝ }
-{
-    let section = LETTERS * STRUCTURES + place - PLACE_I;
-    Section {
-        from: bound(index, section),
-        to: bound(index, section + 1),
-    }
 }
 
 // An M or K field by its content: source and target.

@@ -3,7 +3,7 @@ ghost use mathlib.Core.Path.{_≡_};
 ghost use Prim.Native.Nat.{ℕ, _+_, _≤_, _<_};
 ghost use lib.ListN.{length};
 ghost use Rattle.definition.specs.Limits.{structureLimit, ruleBytes};
-ghost use Rattle.rule.specs.Layout.{placeOf, mayFollow, withOne, sectionAt, sections, ruleIndex, boundAt};
+ghost use Rattle.rule.specs.Layout.{placeN, placeX, placeOf, mayFollow, withOne, sectionAt, sections, ruleIndex, boundAt};
 ghost use Rattle.rule.specs.Answers.{Passes};
 use crate::ids::AT_START;
 use crate::ids::LETTER_A;
@@ -97,8 +97,8 @@ fn counted(structures: usize, at: usize) -> usize
 
 // The section of a letter in the last of so many structures, or behind them.
 fn section_of(structures: usize, at: usize) -> usize
-    requires { ⌜ (structures ≤ structureLimit) × (at ≤ 10) ⌝ }
-    requires { ⌜ (1 < at → 1 ≤ structures) ⌝ }
+    requires { ⌜ (structures ≤ structureLimit) × (at ≤ placeX) ⌝ }
+    requires { ⌜ (placeN < at → 1 ≤ structures) ⌝ }
     ensures { λ r. ⌜ r ≡ sectionAt structures at ⌝ }
 {
     if at <= PLACE_N {

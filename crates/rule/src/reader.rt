@@ -10,7 +10,7 @@ ghost use Rattle.definition.specs.Records as definition;
 ghost use Rattle.definition.specs.Rule.{namedElements, structureFault, bodyFault, structuresFault, namedIn, readRule};
 ghost use Rattle.signature.specs.Faults.{faultOf};
 ghost use Rattle.signature.specs.Index.{signatureAt, Indexed};
-ghost use Rattle.rule.specs.Layout.{sections, ruleIndex};
+ghost use Rattle.rule.specs.Layout.{sections, ruleIndex, placeS, sectionFrom};
 ghost use Rattle.rule.specs.Elements.{elementNumbers, numbersIn, Known};
 ghost use Rattle.rule.specs.Faults.{Below, restFault, tailFault};
 ghost use Rattle.rule.specs.Answers.{SectionChecked, ElementsChecked, ElementsHeld, HeadAt, Bodied, Structured, Tailed, Stored, Holds, AllStored, AllHold, Usable, ruleReading};
@@ -18,6 +18,7 @@ use crate::elements::wide_entry;
 use crate::faults::element_fault;
 use crate::faults::field_fault;
 use crate::faults::structure_fault;
+use crate::ids::BEHIND_I;
 use crate::ids::COUNTS_FROM;
 use crate::ids::ELEMENTS_FROM;
 use crate::ids::FIELDS;
@@ -32,10 +33,15 @@ use crate::ids::LETTER_X;
 use crate::ids::LETTERS;
 use crate::ids::RULE_BYTES;
 use crate::ids::RULE_INDEX;
+use crate::ids::SECTION_A;
+use crate::ids::SECTION_E;
+use crate::ids::SECTION_I;
 use crate::ids::SECTION_K;
 use crate::ids::SECTION_M;
 use crate::ids::SECTION_N;
+use crate::ids::SECTION_R;
 use crate::ids::SECTION_S;
+use crate::ids::SECTION_V;
 use crate::ids::SECTION_X;
 use crate::order::Last;
 use crate::order::spot_of;
@@ -145,7 +151,7 @@ fn check_elements(
 fn check_head(s: &[u8], index: &[u16; RULE_INDEX], k: usize) -> Fault
     requires { ⌜ k ≤ structureLimit ⌝ }
     ensures { λ r. ⌜ ((f : definition.Field)
-        → HeadAt (now (s .entry)) (getD (now (index .entry)) (6 * k + 1) 0) f → faultOf r ≡ structureFault k f) ⌝ }
+        → HeadAt (now (s .entry)) (sectionFrom (now (index .entry)) k placeS) f → faultOf r ≡ structureFault k f) ⌝ }
     ensures { λ r. ⌜ Below r k ⌝ }
 {
     let f = read_field(s, bound(index, LETTERS * k + SECTION_S));
@@ -171,25 +177,25 @@ fn check_rest(
         → elementNumbers (now (s .entry)) (now (index .entry)) k ≡ namedElements body
         → faultOf r ≡ restFault (signatureAt (now (sig .entry)) (now (symbols .entry)) counts) (namedElements body) body) ⌝ }
 {
-    let section = LETTERS * k + SECTION_S;
-    let r = check_section(sig, symbols, counts, s, index, k + 1, LETTER_R, section + 2);
+    let first = LETTERS * k;
+    let r = check_section(sig, symbols, counts, s, index, k + 1, LETTER_R, first + SECTION_R);
     let Fault::Sound = r else {
         return r;
     };
     // Many structures have no A, V or I fields; then no section is gone into for them.
-    if bound(index, section + 3) == bound(index, section + 6) {
+    if bound(index, first + SECTION_A) == bound(index, first + BEHIND_I) {
         return Fault::Sound;
     }
-    let a = check_section(sig, symbols, counts, s, index, k + 1, LETTER_A, section + 3);
+    let a = check_section(sig, symbols, counts, s, index, k + 1, LETTER_A, first + SECTION_A);
     let Fault::Sound = a else {
         return a;
     };
-    let v = check_section(sig, symbols, counts, s, index, k + 1, LETTER_V, section + 4);
+    let v = check_section(sig, symbols, counts, s, index, k + 1, LETTER_V, first + SECTION_V);
     let Fault::Sound = v else {
         return v;
     };
     // Taken apart, not handed on whole: the processor waits where it reads two bytes back of which only one was just written.
-    let i = check_section(sig, symbols, counts, s, index, k + 1, LETTER_I, section + 5);
+    let i = check_section(sig, symbols, counts, s, index, k + 1, LETTER_I, first + SECTION_I);
     let Fault::Sound = i else {
         return i;
     };
@@ -217,9 +223,9 @@ fn check_body(
     ensures { λ r. ⌜ Stored r (now (s .entry)) (now (index .entry)) (now (index .exit)) k ⌝ }
     ensures { λ r. ⌜ length (now (index .exit)) ≡ ruleIndex ⌝ }
 {
-    let section = LETTERS * k + SECTION_S;
-    let from = bound(index, section + 1);
-    let to = bound(index, section + 2);
+    let section = LETTERS * k + SECTION_E;
+    let from = bound(index, section);
+    let to = bound(index, section + 1);
     let e = check_elements(sig, symbols, counts, s, index, k, from, to);
     let Fault::Sound = e else {
         return e;

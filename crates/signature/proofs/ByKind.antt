@@ -11,8 +11,9 @@ use lib.ListN.{length, getD}
 use Rattle.definition.specs.Base.{lastOf, empty}
 use Rattle.definition.specs.Letters.{predicate, function, member, funcDomain}
 use Rattle.definition.specs.Signature.{Signature, columnCount, typeParents, funcOf, arity, symbolCount, parentModel}
+use Rattle.laws.proofs.Lists.{length-each}
 use Rattle.records.proofs.Index.{length-held}
-use Rattle.records.proofs.Lists.{length-each, last-some, has-some}
+use Rattle.records.proofs.Lists.{last-some, has-some}
 use Rattle.signature.specs.Index.{signatureAt, Indexed}
 use Rattle.signature.specs.declared.ids.Counts.{Counts}
 use Rattle.signature.proofs.Symbols.{func-at, func-sound, columns-of}

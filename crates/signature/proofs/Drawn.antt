@@ -13,8 +13,8 @@ use Rattle.definition.specs.Base.{pick, lowest}
 use Rattle.definition.specs.Limits.{symbolLimit, parentLimit, columnLimit}
 use Rattle.definition.specs.Records.{Field, numbers}
 use Rattle.definition.specs.Signature.{typeFault, symbolFault, named, columnsOf}
+use Rattle.laws.proofs.Lists.{or-left, lowest-none}
 use Rattle.records.specs.Places.{stretch, fieldOf}
-use Rattle.records.proofs.Lists.{or-left, lowest-none}
 use Rattle.records.proofs.Numbers.{length-stretch, stretch-at, drop-stretch, length-numbers-in}
 use Rattle.signature.specs.Faults.{columnsFault}
 

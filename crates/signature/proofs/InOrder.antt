@@ -12,7 +12,8 @@ use Rattle.definition.specs.Base.{any, has, keep, when}
 use Rattle.definition.specs.Letters.{letterT, letterP, letterF, start}
 use Rattle.definition.specs.Records.{Field, Fields, end, bad, _▸_, inFront, follows, placed, fieldsOf, withLetter}
 use Rattle.definition.specs.Signature.{signatureGrammar, signaturePart}
-use Rattle.records.proofs.Lists.{never, keep-append, letter-yes, letter-no}
+use Rattle.laws.proofs.Lists.{never}
+use Rattle.records.proofs.Lists.{keep-append, letter-yes, letter-no}
 
 -- A field kept is one of the letter.
 kept-first : (letter : ℕ) (fs : List Field) {g : Field} {gs : List Field} → withLetter letter fs ≡ g ∷ gs → g .letter ≡ letter

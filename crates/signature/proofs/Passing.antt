@@ -11,10 +11,11 @@ use Rattle.definition.specs.Base.{pick, any, has, keep}
 use Rattle.definition.specs.Letters.{letterT, letterP, letterF, start}
 use Rattle.definition.specs.Records.{Field, follows, withLetter}
 use Rattle.definition.specs.Signature.{signatureGrammar, signaturePart}
+use Rattle.laws.proofs.Lists.{never}
 use Rattle.records.specs.Places.{fieldAt, fieldOf, Parted}
 use Rattle.records.specs.declared.fields.Field.the-variants.{Got, Bad}
 use Rattle.records.proofs.Link.{got-is}
-use Rattle.records.proofs.Lists.{never, keep-append}
+use Rattle.records.proofs.Lists.{keep-append}
 use Rattle.records.proofs.Placed.{Placing, Placed, placing-start, placing-next, placing-stop, placing-bad, placing-end}
 
 -- Any letter of the record may stand last.

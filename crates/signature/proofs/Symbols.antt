@@ -15,11 +15,12 @@ use Rattle.definition.specs.Base.{each}
 use Rattle.definition.specs.Limits.{parentLimit, columnLimit}
 use Rattle.definition.specs.Records.{Field, numbers}
 use Rattle.definition.specs.Signature.{symbolOf, symbolFault, named, columnsOf, columnCount, noSymbol, typeParents, predOf, funcOf}
+use Rattle.laws.proofs.Lists.{getD-each}
 use Rattle.records.specs.Places.{twoAt, stretch}
 use Rattle.records.specs.Held.{fieldIn, heldAt}
 use Rattle.records.proofs.Numbers.{stretch-at, drop-stretch, length-numbers-in, numbers-in}
 use Rattle.records.proofs.Index.{length-held, held-get}
-use Rattle.records.proofs.Lists.{all-get, getD-each}
+use Rattle.records.proofs.Lists.{all-get}
 use Rattle.signature.specs.Faults.{checkOf}
 use Rattle.signature.specs.Index.{typesFrom, predsFrom, funcsFrom, signatureAt, Indexed}
 use Rattle.signature.specs.Entries.{Sits, Columned, AllNamed}

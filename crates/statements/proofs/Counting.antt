@@ -15,20 +15,22 @@ use Rattle.definition.specs.Letters.{member}
 use Rattle.definition.specs.Rows.{memberRow, rowBefore, insertRow, sortRows, members, rowStatement}
 use Rattle.definition.specs.Rule.{Structure, Row}
 use Rattle.definition.specs.Writer.{statementField, fieldBytes}
-use Rattle.laws.proofs.ByteForm.{statementBytes, statements-append}
+use Rattle.laws.proofs.ByteForm.{statements-append}
 use Rattle.laws.proofs.Lists.{length-each}
 use Rattle.records.specs.Buffer.{Put, capped, countLimit}
 use Rattle.records.proofs.Tail.{nothing, counted}
 use Rattle.rule.specs.Elements.{countAt}
-use Rattle.rows.specs.Elements.{elementIn, elementFrom, Within}
-use Rattle.rows.specs.Members.{memberIn, memberRows}
-use Rattle.rows.specs.declared.elements.Element as read
-use Rattle.naming.specs.Structures.{structureIn}
+use Rattle.rule.specs.ElementFields.{elementIn, elementFrom, Within}
+use Rattle.rows.specs.Members.{memberIn}
+use Rattle.rule.specs.declared.elements.Element as read
+use Rattle.flags.specs.declared.Mask.{Mask}
+use Rattle.flags.specs.Flags.{flagAt, noneSet}
+use Rattle.rule.specs.Structures.{structureIn, Stands}
 use Rattle.naming.specs.Variables.{variablesIn}
 use Rattle.naming.proofs.Placed.{elements-are}
-use Rattle.flags.specs.Flags.{flagAt}
+use Rattle.rule.specs.Rows.{memberRows}
+use Rattle.laws.specs.Bytes.{statementBytes}
 use Rattle.statements.specs.Said.{flagged, memberFlag, saidBy}
-use Rattle.statements.specs.Structures.{Stands}
 use Rattle.statements.specs.Parts.{variableBy, chosenStatements, predsBy, funcsBy, membersSaid, typesSaid, elementStatement, typeSetOf}
 use Rattle.statements.specs.Equalities.{equalityOf, equalitiesAmong, TypedVars}
 use Rattle.statements.specs.declared.masks.Masks.{Masks}
@@ -94,17 +96,17 @@ sort-size p [] = refl
 sort-size p (r ∷ rows) = insert-size p r (sortRows rows) ∙ ap (λ (n : ℕ). pick (p r) (6 + 2 * length (r .elements)) 0 + n) (sort-size p rows)
 
 -- How many the elements have from a place on: as flagged member rows, as TypeSets, and together.
-abbrev membersLeft : Structure → ℕ → ℕ → ℕ
+abbrev membersLeft : Structure → Mask → ℕ → ℕ
 membersLeft st mask i = rowsSize (memberFlag st mask) (memberRows (drop i (st .elements)))
 
-abbrev typesLeft : ℕ → Structure → List ℕ → ℕ → ℕ → ℕ
+abbrev typesLeft : ℕ → Structure → List ℕ → Mask → ℕ → ℕ
 typesLeft letter st row mask i = length (typesFrom letter (variableBy st row) mask (st .elements) i)
 
-unfoldable pub elementsSize : ℕ → Structure → List ℕ → ℕ → ℕ → ℕ → ℕ
+unfoldable pub elementsSize : ℕ → Structure → List ℕ → Mask → Mask → ℕ → ℕ
 elementsSize letter st row members free i = membersLeft st members i + typesLeft letter st row free i
 
 -- From the first place on these are the member rows in their order and the TypeSets.
-pub elements-all : (letter : ℕ) (st : Structure) (row : List ℕ) (members free : ℕ)
+pub elements-all : (letter : ℕ) (st : Structure) (row : List ℕ) (members free : Mask)
     → elementsSize letter st row members free 0 ≡ length (statementBytes letter (membersSaid st row members)) + length (statementBytes letter (typesSaid st row (flagged free (st .elements))))
 unfolding elementsSize memberRows typesFrom members
 elements-all letter st row mask free =
@@ -113,11 +115,12 @@ elements-all letter st row mask free =
     omega arith
 
 -- Where no flag is set nothing is counted.
-pub elements-unsaid : (letter : ℕ) (st : Structure) (row : List ℕ) {members free from : ℕ} → members ≡ 0 → free ≡ 0 → from ≤ countLimit
+pub elements-unsaid : (letter : ℕ) (st : Structure) (row : List ℕ) (members free : Mask) {from : ℕ}
+    → noneSet members ≡ true → noneSet free ≡ true → from ≤ countLimit
     → from ≡ capped (from + (length (statementBytes letter (membersSaid st row members)) + length (statementBytes letter (typesSaid st row (flagged free (st .elements))))))
-elements-unsaid letter st row m f h =
-    let a = unsaid [] letter (members-none st row m) h .size in
-    let b = unsaid [] letter (types-none st row f (st .elements)) h .size in
+elements-unsaid letter st row members free m f h =
+    let a = unsaid [] letter (members-none st row members m) h .size in
+    let b = unsaid [] letter (types-none st row free f (st .elements)) h .size in
     omega arith
 
 -- There are no parents where their number is 0.
@@ -126,7 +129,7 @@ empty-is [] = refl
 empty-is (p ∷ ps) = sym (ne-eqb (length (p ∷ ps)) 0 (λ e. omega arith))
 
 -- A loop along the elements.
-module _ {s index : List ℕ} {k : ℕ} (w : Stands s index k) (letter : ℕ) (row : List ℕ) (members free : ℕ) {count i : ℕ} (c : count ≡ countAt index k) where
+module _ {s index : List ℕ} {k : ℕ} (w : Stands s index k) (letter : ℕ) (row : List ℕ) (members free : Mask) {count i : ℕ} (c : count ≡ countAt index k) where
   pub elements-end : count ≤ i → elementsSize letter (structureIn s k) row members free i ≡ 0
   unfolding elementsSize memberRows keep each rowsSize
   elements-end h =

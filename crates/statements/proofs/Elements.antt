@@ -1,5 +1,5 @@
 -- Elements as statements: member rows, and TypeSets.
-use Prim.Native.Nat.{ℕ, _+_, _*_, _≤_, _<_}
+use Prim.Native.Nat.{ℕ, _+_, _≤_, _<_}
 use native.Mathlib.Omega.{arith}
 use native.Mathlib.Numerals.{add-one}
 use mathlib.Core.Bool.{Bool, true, false}
@@ -11,28 +11,29 @@ use Rattle.definition.specs.Base.{consIf, keep, each, joined, empty, _∈_}
 use Rattle.definition.specs.Group.{Statement}
 use Rattle.definition.specs.Letters.{member, typeSet}
 use Rattle.definition.specs.Limits.{fieldLimit}
-use Rattle.definition.specs.Records.{numbers}
 use Rattle.definition.specs.Rows.{memberRow, sortRows, members, rowStatement, typeSets}
 use Rattle.definition.specs.Rule.{Structure, Element}
 use Rattle.definition.specs.Writer.{statementField, fieldBytes, recordBytes}
-use Rattle.laws.proofs.ByteForm.{statementBytes, statements-append}
+use Rattle.laws.proofs.ByteForm.{statements-append}
 use Rattle.laws.proofs.Lists.{each-append, length-each, getD-each, mem-at}
-use Rattle.records.specs.Places.{stretch}
 use Rattle.rule.specs.Elements.{countAt, elementAt, elementNumbers, Finds}
 use Rattle.rule.specs.declared.elements.Found.the-variants.{At}
 use Rattle.rule.proofs.Finding.{search-found}
-use Rattle.rows.specs.Elements.{elementIn, elementsIn, elementFrom, Within}
-use Rattle.rows.specs.Members.{memberIn, memberRows, Below}
-use Rattle.rows.specs.declared.elements.Element as read
-use Rattle.rows.proofs.Parts.{store-more, count-in}
-use Rattle.rows.proofs.ElementLaws.{noElement, element-is, elements-on}
-use Rattle.rows.proofs.Kept.{member-last, members-are}
+use Rattle.rule.specs.ElementFields.{elementIn, elementsIn, elementFrom, Within}
+use Rattle.rows.specs.Members.{memberIn, Below}
+use Rattle.rule.specs.declared.elements.Element as read
+use Rattle.records.proofs.Parts.{store-more}
+use Rattle.rule.proofs.ElementLaws.{noElement, element-is, parents-many, elements-on}
+use Rattle.rows.proofs.Kept.{members-are}
 use Rattle.rows.proofs.OrderLaws.{below-at}
-use Rattle.naming.specs.Structures.{structureIn, Laid}
+use Rattle.flags.specs.declared.Mask.{Mask}
+use Rattle.flags.specs.Flags.{places, flagAt}
+use Rattle.rule.specs.Structures.{structureIn, Laid, Stands}
 use Rattle.naming.proofs.Placed.{elements-are, numbers-are, element-get}
-use Rattle.flags.specs.Flags.{flagAt}
+use Rattle.rule.specs.Rows.{memberRows}
+use Rattle.laws.specs.Bytes.{statementBytes}
+use Rattle.laws.proofs.RowLaws.{member-last}
 use Rattle.statements.specs.Said.{flaggedFrom, memberFlag}
-use Rattle.statements.specs.Structures.{Stands}
 use Rattle.statements.specs.Parts.{variableBy, NamedIn, elementStatement, typeSetOf}
 use Rattle.statements.proofs.Variables.{variable-found}
 
@@ -46,7 +47,7 @@ unfolding statementBytes recordBytes joined each
 statements-none letter = refl
 
 -- A loop along a list with flags.
-module _ {A : Type 0} (mask : ℕ) (xs : List A) (i : ℕ) {x : A} (e : drop i xs ≡ x ∷ drop (i + 1) xs) where
+module _ {A : Type 0} (mask : Mask) (xs : List A) (i : ℕ) {x : A} (e : drop i xs ≡ x ∷ drop (i + 1) xs) where
   pub flagged-on : flagAt mask i ≡ true → flaggedFrom mask i (drop i xs) ≡ x ∷ flaggedFrom mask (i + 1) (drop (i + 1) xs)
   unfolding flaggedFrom
   flagged-on f = rw (e, f)
@@ -55,7 +56,7 @@ module _ {A : Type 0} (mask : ℕ) (xs : List A) (i : ℕ) {x : A} (e : drop i x
   unfolding flaggedFrom
   flagged-pass f = rw (e, f)
 
-pub flagged-end : {A : Type 0} (mask : ℕ) (xs : List A) (i : ℕ) → length xs ≤ i → flaggedFrom mask i (drop i xs) ≡ []
+flagged-end : {A : Type 0} (mask : Mask) (xs : List A) (i : ℕ) → length xs ≤ i → flaggedFrom mask i (drop i xs) ≡ []
 unfolding flaggedFrom
 flagged-end mask xs i h = rw (drop-of-length-le xs h)
 
@@ -73,31 +74,32 @@ module _ {s index : List ℕ} {k : ℕ} (w : Stands s index k) {i : ℕ} (h : i 
   found-own : Finds (At i) (elementIn s index k i .number) (elementNumbers s index k)
   found-own = let e : elementAt s index k i ≡ elementIn s index k i .number = ap (λ (x : Element). x .number) (element-is (l .elements) i h) in search-found (l .elements .elements) _ i h e
 
-  pub own-variable : (row : List ℕ) → getD row i 0 ≡ variableBy st row (elementIn s index k i .number)
+  own-variable : (row : List ℕ) → getD row i 0 ≡ variableBy st row (elementIn s index k i .number)
   own-variable row = variable-found l row found-own
 
-  pub own-flag : (mask : ℕ) → memberFlag st mask (memberIn s index k i) ≡ flagAt mask i
+  pub own-flag : (mask : Mask) → memberFlag st mask (memberIn s index k i) ≡ flagAt mask i
   unfolding memberFlag memberIn
   own-flag mask = rw (member-last (elementIn s index k i), numbers-are l, ← (found-own .is .0))
 
   -- As it was read.
   module _ {e : read.Element} (q : elementFrom s e ≡ elementIn s index k i) (b : Within s e) where
-    parents-are : elementIn s index k i .parents ≡ numbers (stretch s (e .start) (2 * e .parents))
-    parents-are = sym (ap (λ (x : Element). x .parents) q)
-
-    pub parents-named : NamedIn st (numbers (stretch s (e .start) (2 * e .parents)))
-    parents-named = record { named = λ p m. w .at .sound .elements-sound (elementIn s index k i) element-mem .parents-in p (rw parents-are m) }
-
-    pub element-said : (row : List ℕ) (kind : ℕ) (vars : List ℕ) → e .parents < length vars
-        → take (e .parents) vars ≡ each (variableBy st row) (numbers (stretch s (e .start) (2 * e .parents)))
-        → record { kind = kind; symbol = e .ty .0; variables = take (e .parents + 1) (set vars (e .parents) (getD row i 0)) } ≡ elementStatement (variableBy st row) kind (elementIn s index k i)
-    unfolding elementStatement each
-    element-said row kind vars few t =
-        let a : e .ty .0 ≡ elementIn s index k i .type = ap (λ (x : Element). x .type) q in
-        rw (store-more vars (e .parents) (getD row i 0) few, t, own-variable row, each-append, parents-are, a)
-
     pub parents-count : length (elementIn s index k i .parents) ≡ e .parents
-    parents-count = rw parents-are (count-in s (e .start) (e .parents) (b .inside))
+    parents-count = rw (← q) (parents-many b)
+
+    module _ {ns : List ℕ} (p : ns ≡ elementFrom s e .parents) where
+      parents-are : elementIn s index k i .parents ≡ ns
+      parents-are = sym (p ∙ ap (λ (x : Element). x .parents) q)
+
+      pub parents-named : NamedIn st ns
+      parents-named = record { named = λ x m. w .at .sound .elements-sound (elementIn s index k i) element-mem .parents-in x (rw parents-are m) }
+
+      pub element-said : (row : List ℕ) (kind : ℕ) (vars : List ℕ) (n : ℕ) → n < length vars → take n vars ≡ each (variableBy st row) ns
+          → record { kind = kind; symbol = e .ty .0; variables = take (n + 1) (set vars n (getD row i 0)) }
+          ≡ elementStatement (variableBy st row) kind (elementIn s index k i)
+      unfolding elementStatement each
+      element-said row kind vars n few t =
+          let a : e .ty .0 ≡ elementIn s index k i .type = ap (λ (x : Element). x .type) q in
+          rw (store-more vars n (getD row i 0) few, t, own-variable row, each-append, parents-are, a)
 
     pub element-many : (row : List ℕ) (kind : ℕ) → length (elementStatement (variableBy st row) kind (elementIn s index k i) .variables) ≡ e .parents + 1
     unfolding elementStatement
@@ -131,14 +133,14 @@ module _ {s index : List ℕ} {k : ℕ} (w : Stands s index k) {count i : ℕ} (
   pub in-place : i < countAt index k
   in-place = rw (← c) h
 
-  pub few-places : i < fieldLimit
+  pub few-places : i < places
   few-places = let f = w .at .laid .elements .elements .few in omega arith
 
   pub elements-left : drop i (structureIn s k .elements) ≡ elementIn s index k i ∷ drop (i + 1) (structureIn s k .elements)
   elements-left = rw (w .at .laid .same) (elements-on s index k i in-place)
 
 -- The TypeSets of the flagged elements, from a place on.
-unfoldable pub typesFrom : ℕ → (ℕ → ℕ) → ℕ → List Element → ℕ → List ℕ
+unfoldable pub typesFrom : ℕ → (ℕ → ℕ) → Mask → List Element → ℕ → List ℕ
 typesFrom letter variable mask els i = statementBytes letter (typeSets variable (flaggedFrom mask i (drop i els)))
 
 types-cons : (variable : ℕ → ℕ) (e : Element) (es : List Element) → typeSets variable (e ∷ es) ≡ typeSets variable (e ∷ []) ++ typeSets variable es
@@ -150,7 +152,7 @@ types-cons variable e es = go (empty (e .parents))
     go true = refl
     go false = refl
 
-module _ {s index : List ℕ} {k : ℕ} (w : Stands s index k) (letter : ℕ) (row : List ℕ) (mask : ℕ) {count i : ℕ} (c : count ≡ countAt index k) where
+module _ {s index : List ℕ} {k : ℕ} (w : Stands s index k) (letter : ℕ) (row : List ℕ) (mask : Mask) {count i : ℕ} (c : count ≡ countAt index k) where
   module _ (h : i < count) where
     pub types-on : flagAt mask i ≡ true → typesFrom letter (variableBy (structureIn s k) row) mask (structureIn s k .elements) i
         ≡ statementBytes letter (typeSets (variableBy (structureIn s k) row) (elementIn s index k i ∷ [])) ++ typesFrom letter (variableBy (structureIn s k) row) mask (structureIn s k .elements) (i + 1)
@@ -166,15 +168,15 @@ module _ {s index : List ℕ} {k : ℕ} (w : Stands s index k) (letter : ℕ) (r
   unfolding typesFrom typeSets keep each statementBytes recordBytes joined
   types-end h = let n = elements-are (w .at .laid) in rw (flagged-end mask (structureIn s k .elements) i (omega arith))
 
-pub types-all : (letter : ℕ) (variable : ℕ → ℕ) (mask : ℕ) (els : List Element) → typesFrom letter variable mask els 0 ≡ statementBytes letter (typeSets variable (flaggedFrom mask 0 els))
+pub types-all : (letter : ℕ) (variable : ℕ → ℕ) (mask : Mask) (els : List Element) → typesFrom letter variable mask els 0 ≡ statementBytes letter (typeSets variable (flaggedFrom mask 0 els))
 unfolding typesFrom
 types-all letter variable mask els = refl
 
 -- The flagged member rows, from a place of their order on.
-unfoldable pub membersFrom : ℕ → Structure → List ℕ → ℕ → ℕ → List ℕ
+unfoldable pub membersFrom : ℕ → Structure → List ℕ → Mask → ℕ → List ℕ
 membersFrom letter st row mask n = statementBytes letter (each (rowStatement (variableBy st row)) (keep (memberFlag st mask) (drop n (members st))))
 
-pub members-all : (letter : ℕ) (st : Structure) (row : List ℕ) (mask : ℕ)
+pub members-all : (letter : ℕ) (st : Structure) (row : List ℕ) (mask : Mask)
     → membersFrom letter st row mask 0 ≡ statementBytes letter (each (rowStatement (variableBy st row)) (keep (memberFlag st mask) (members st)))
 unfolding membersFrom
 members-all letter st row mask = refl
@@ -190,10 +192,10 @@ module _ {s index : List ℕ} {k : ℕ} (w : Stands s index k) {order : List ℕ
   pub order-below : getD order n 0 < countAt index k
   order-below = below-at order n (o .below) h (omega (arith, o .long, o .few))
 
-  pub order-few : getD order n 0 < fieldLimit
+  pub order-few : getD order n 0 < places
   order-few = let f = w .at .laid .elements .elements .few in let b = order-below in omega arith
 
-module _ {s index : List ℕ} {k : ℕ} (w : Stands s index k) (letter : ℕ) (row : List ℕ) (mask : ℕ) {order : List ℕ} {count : ℕ} (o : Ordered s index k order count) where
+module _ {s index : List ℕ} {k : ℕ} (w : Stands s index k) (letter : ℕ) (row : List ℕ) (mask : Mask) {order : List ℕ} {count : ℕ} (o : Ordered s index k order count) where
   in-order : members (structureIn s k) ≡ each (memberIn s index k) (take count order)
   in-order = members-are s index k (structureIn s k) (w .at .laid .same) ∙ sym (o .sorted)
 

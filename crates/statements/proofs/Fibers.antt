@@ -12,7 +12,7 @@ use Rattle.definition.specs.Kinds.{Side, variableIn}
 use Rattle.definition.specs.Names.{numbersOf, variableAt, fiber}
 use Rattle.definition.specs.Rule.{Pair}
 use Rattle.definition.specs.Writer.{statementField, fieldBytes, recordBytes}
-use Rattle.laws.proofs.ByteForm.{statementBytes, statements-append}
+use Rattle.laws.proofs.ByteForm.{statements-append}
 use Rattle.laws.proofs.Lists.{each-append, length-each}
 use Rattle.records.proofs.Link.{one-more}
 use Rattle.records.proofs.Lists.{keep-append}
@@ -20,12 +20,14 @@ use Rattle.rule.specs.Elements.{countAt, elementAt, elementNumbers, Finds}
 use Rattle.rule.specs.declared.elements.Found.the-variants.{At}
 use Rattle.rule.proofs.Finding.{numbers-length, numbers-get}
 use Rattle.rows.specs.Kernel.{SideAt}
-use Rattle.rows.specs.Maps.{pairAt, pairsIn, noPair, MapIn}
-use Rattle.rows.specs.declared.maps.Map.{Map}
-use Rattle.rows.proofs.MapLaws.{pairs-many}
-use Rattle.rows.proofs.Parts.{take-more, store-more}
-use Rattle.naming.specs.Structures.{structureIn, Laid}
+use Rattle.rule.specs.MapFields.{pairAt, pairsIn, MapIn}
+use Rattle.rule.specs.declared.maps.Map.{Map}
+use Rattle.rule.proofs.MapLaws.{pairs-many}
+use Rattle.records.proofs.Parts.{take-more, store-more}
+use Rattle.rule.specs.Structures.{structureIn, Laid}
 use Rattle.naming.proofs.Placed.{numbers-are}
+use Rattle.laws.specs.Bytes.{statementBytes}
+use Rattle.rule.specs.Lookup.{noPair}
 use Rattle.statements.specs.Equalities.{equalityOf, equalitiesAmong, equalitiesOver, TypedVars}
 use Rattle.statements.proofs.Elements.{statements-cons, statements-none}
 

@@ -18,11 +18,10 @@ use Rattle.definition.specs.Signature.{Signature}
 use Rattle.laws.proofs.Lists.{mem-keep, mem-each, each-append, getD-each, length-each, joined-same, mem-at}
 use Rattle.rule.specs.Elements.{elementNumbers}
 use Rattle.rule.proofs.Finding.{numbers-length}
-use Rattle.rows.specs.Kernel.{TypesOf, KeysIn, SideAt}
-use Rattle.rows.specs.Maps.{pairsIn}
-use Rattle.rows.specs.declared.maps.Map.{Map}
-use Rattle.naming.specs.Maps.{Joins}
-use Rattle.naming.specs.Structures.{structureIn, Laid}
+use Rattle.rows.specs.Kernel.{TypesOf, SideAt}
+use Rattle.rule.specs.MapFields.{pairsIn, KeysIn, Joins}
+use Rattle.rule.specs.declared.maps.Map.{Map}
+use Rattle.rule.specs.Structures.{structureIn, Laid}
 use Rattle.naming.specs.Variables.{GivenOut}
 use Rattle.naming.proofs.Placed.{elements-are, numbers-are}
 use Rattle.statements.specs.Structures.{sideIn}

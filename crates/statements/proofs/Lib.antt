@@ -1,4 +1,3 @@
-pub mod Structures
 pub mod Variables
 pub mod Elements
 pub mod Unsaid

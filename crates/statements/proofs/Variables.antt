@@ -4,25 +4,26 @@ use native.Mathlib.Omega.{arith}
 use mathlib.Core.List.{List, [], _∷_, _++_}
 use mathlib.Core.Path.{_≡_, refl, sym, _∙_}
 use lib.ListN.{length, getD, set, take, drop, length-set, drop-of-length-le}
-use lib.Seq.{getD-take, length-take-le, take-all}
+use lib.Seq.{getD-take, length-take-le}
 use Rattle.definition.specs.Base.{each, _∈_}
 use Rattle.definition.specs.Group.{Statement}
 use Rattle.definition.specs.Limits.{columnLimit}
 use Rattle.definition.specs.Names.{numbersOf, variableAt}
-use Rattle.definition.specs.Records.{numbers}
 use Rattle.definition.specs.Rule.{Structure}
 use Rattle.definition.specs.Writer.{twoBytes, numberBytes, statementField, fieldBytes}
-use Rattle.laws.proofs.Lists.{never, mem-has, each-append, length-each, getD-each, mem-at}
+use Rattle.laws.proofs.Lists.{never, mem-has, each-append, length-each, getD-each}
 use Rattle.laws.proofs.Numbers.{length-numbers-written}
-use Rattle.records.specs.Places.{twoAt, stretch}
 use Rattle.records.specs.Buffer.{Put}
 use Rattle.records.proofs.Link.{one-more}
 use Rattle.records.proofs.Tail.{then}
 use Rattle.rule.specs.Elements.{elementNumbers, Finds}
 use Rattle.rule.specs.declared.elements.Found.the-variants.{At, Nothing}
 use Rattle.rule.proofs.Finding.{numbers-length}
-use Rattle.rows.proofs.Parts.{take-more, store-more, count-in, element-in}
-use Rattle.naming.specs.Structures.{structureIn, Laid}
+use Rattle.records.proofs.Parts.{store-more}
+use Rattle.rule.specs.Lists.{elsIn, ElsInside}
+use Rattle.rule.specs.Structures.{structureIn, Laid}
+use Rattle.rule.specs.declared.lists.Els.{Els}
+use Rattle.rule.proofs.ListLaws.{els-many, els-more, el-mem, els-all}
 use Rattle.naming.proofs.Placed.{elements-are, numbers-are}
 use Rattle.statements.specs.Parts.{statementHead, variableBy, NamedIn}
 
@@ -34,7 +35,7 @@ module _ {s index : List ℕ} {k : ℕ} (l : Laid s index k) where
       let n : i < length (structureIn s k .elements) = omega (arith, f .is .1, numbers-length s index k, elements-are l) in
       rw (numbers-are l, ← (f .is .0)) (sym (getD-take (length (structureIn s k .elements)) row i 0 n))
 
-  pub not-absent : {A : Type 0} {e : ℕ} → e ∈ numbersOf (structureIn s k) → Finds Nothing e (elementNumbers s index k) → A
+  not-absent : {A : Type 0} {e : ℕ} → e ∈ numbersOf (structureIn s k) → Finds Nothing e (elementNumbers s index k) → A
   not-absent {e = e} m f = never (mem-has e (elementNumbers s index k) (rw (numbers-are l) at m)) (f .is)
 
 -- The variables of the first i numbers.
@@ -46,36 +47,27 @@ pub taking : (st : Structure) (row ns : List ℕ) {vars : List ℕ} → length v
 unfolding each
 taking st row ns e = record { long = e; same = refl }
 
-module _ {s index : List ℕ} {k : ℕ} (l : Laid s index k) (start count : ℕ) (h : start + 2 * count ≤ length s) (i : ℕ) (b : i < count) where
-  pub named-at : {A : Type 0} → NamedIn (structureIn s k) (numbers (stretch s start (2 * count))) → Finds Nothing (twoAt s (start + 2 * i)) (elementNumbers s index k) → A
-  named-at n f =
-      let c = count-in s start count h in
-      not-absent l (n .named _ (mem-at (numbers (stretch s start (2 * count))) i 0 (omega arith))) (rw (element-in s start count h i b) f)
+-- A loop along elements of the structure reads one: it is found, and its variable is the next.
+module _ {s index : List ℕ} {k : ℕ} (l : Laid s index k) {els : Els} (w : ElsInside s els) {i : ℕ} (b : i < els .count)
+    {e : ℕ} (is : e ≡ getD (elsIn s els) i 0) where
+  pub named-at : {A : Type 0} → NamedIn (structureIn s k) (elsIn s els) → Finds Nothing e (elementNumbers s index k) → A
+  named-at n f = not-absent l (n .named e (el-mem w i b is)) f
 
-  pub take-next : {row vars : List ℕ} {j : ℕ} → count ≤ columnLimit → Taking (structureIn s k) row (numbers (stretch s start (2 * count))) vars i
-      → Finds (At j) (twoAt s (start + 2 * i)) (elementNumbers s index k) → Taking (structureIn s k) row (numbers (stretch s start (2 * count))) (set vars i (getD row j 0)) (i + 1)
+  pub take-next : {row vars : List ℕ} {j : ℕ} → els .count ≤ columnLimit → Taking (structureIn s k) row (elsIn s els) vars i
+      → Finds (At j) e (elementNumbers s index k) → Taking (structureIn s k) row (elsIn s els) (set vars i (getD row j 0)) (i + 1)
   unfolding each
   take-next {row} {vars} {j} m t f =
-      let c = count-in s start count h in
       let n = t .long in
       record {
         long = rw length-set n;
-        same = rw (
-          store-more vars i (getD row j 0) (omega arith),
-          t .same,
-          take-more (numbers (stretch s start (2 * count))) i 0 (omega arith),
-          element-in s start count h i b,
-          each-append,
-          variable-found l row f,
-        );
+        same = rw (store-more vars i (getD row j 0) (omega arith), t .same, els-more w i b is, each-append, variable-found l row f);
       }
 
-pub took : {st : Structure} (s : List ℕ) {row vars : List ℕ} (start count : ℕ) {i : ℕ} → start + 2 * count ≤ length s → i ≤ count → count ≤ i → Taking st row (numbers (stretch s start (2 * count))) vars i
-    → take count vars ≡ each (variableBy st row) (numbers (stretch s start (2 * count)))
-took s start count {i} h a b t =
-    let e : i ≡ count = omega arith in
-    let c = count-in s start count h in
-    rw e at (t .same) ∙ rw (take-all count (numbers (stretch s start (2 * count))) (omega arith))
+pub took : {st : Structure} {s : List ℕ} {els : Els} {row vars : List ℕ} {i : ℕ} → ElsInside s els → i ≤ els .count → els .count ≤ i
+    → Taking st row (elsIn s els) vars i → take (els .count) vars ≡ each (variableBy st row) (elsIn s els)
+took {els = els} {i = i} w a b t =
+    let e : i ≡ els .count = omega arith in
+    rw e at (t .same) ∙ rw (els-all w (els .count) (omega arith))
 
 -- The bytes of variables, from an index on.
 unfoldable pub varsFrom : List ℕ → ℕ → List ℕ
@@ -98,22 +90,22 @@ module _ (vars : List ℕ) {count : ℕ} (h : count ≤ length vars) (i : ℕ) w
   pub first-end : count ≤ i → varsFrom (take count vars) i ≡ []
   first-end b = let n = length-take-le count vars h in vars-end (take count vars) i (omega arith)
 
--- Those of the elements that stand in a stretch.
-module _ (s : List ℕ) (start count : ℕ) (h : start + 2 * count ≤ length s) (variable : ℕ → ℕ) where
-  pub stretch-many : length (each variable (numbers (stretch s start (2 * count)))) ≡ count
-  stretch-many = length-each variable (numbers (stretch s start (2 * count))) ∙ count-in s start count h
+-- Those of elements.
+module _ {s : List ℕ} {els : Els} (w : ElsInside s els) (variable : ℕ → ℕ) where
+  pub els-said : length (each variable (elsIn s els)) ≡ els .count
+  els-said = length-each variable (elsIn s els) ∙ els-many w
 
   module _ (i : ℕ) where
-    pub stretch-on : i < count → {v : ℕ} → v ≡ variable (twoAt s (start + 2 * i))
-        → varsFrom (each variable (numbers (stretch s start (2 * count)))) i ≡ twoBytes v ++ varsFrom (each variable (numbers (stretch s start (2 * count)))) (i + 1)
-    stretch-on b e =
-        let c = count-in s start count h in
-        let n = stretch-many in
-        let g = getD-each variable (numbers (stretch s start (2 * count))) i 0 0 (omega arith) in
-        rw (e, ← (element-in s start count h i b), ← g) (vars-on (each variable (numbers (stretch s start (2 * count)))) i (omega arith))
+    pub els-said-on : i < els .count → {e v : ℕ} → e ≡ getD (elsIn s els) i 0 → v ≡ variable e
+        → varsFrom (each variable (elsIn s els)) i ≡ twoBytes v ++ varsFrom (each variable (elsIn s els)) (i + 1)
+    els-said-on b is q =
+        let c = els-many w in
+        let n = els-said in
+        let g = getD-each variable (elsIn s els) i 0 0 (omega arith) in
+        rw (q, is, ← g) (vars-on (each variable (elsIn s els)) i (omega arith))
 
-    pub stretch-end : count ≤ i → varsFrom (each variable (numbers (stretch s start (2 * count)))) i ≡ []
-    stretch-end b = let n = stretch-many in vars-end (each variable (numbers (stretch s start (2 * count)))) i (omega arith)
+    pub els-said-end : els .count ≤ i → varsFrom (each variable (elsIn s els)) i ≡ []
+    els-said-end b = let n = els-said in vars-end (each variable (elsIn s els)) i (omega arith)
 
 -- A statement: what stands before its variables, then these.
 statement-parts : (letter : ℕ) (x : Statement) {count : ℕ} → length (x .variables) ≡ count

@@ -13,18 +13,20 @@ use Rattle.definition.specs.Letters.{predicate, function, funcDomain}
 use Rattle.definition.specs.Names.{variableAt}
 use Rattle.definition.specs.Rule.{Structure, Row}
 use Rattle.definition.specs.Rows.{members, rowStatement, typeSets}
-use Rattle.laws.proofs.ByteForm.{statementBytes, statements-append}
+use Rattle.laws.proofs.ByteForm.{statements-append}
 use Rattle.laws.proofs.Lists.{each-append}
+use Rattle.flags.specs.declared.Mask.{Mask}
 use Rattle.flags.specs.Flags.{flagAt}
-use Rattle.naming.specs.Structures.{structureIn}
+use Rattle.rule.specs.Structures.{structureIn, Stands}
 use Rattle.naming.specs.Variables.{variablesIn}
-use Rattle.naming.proofs.Choices.{each-same}
+use Rattle.laws.proofs.Choices.{each-same, each-alike}
+use Rattle.laws.specs.Bytes.{statementBytes}
 use Rattle.statements.specs.Said.{flaggedFrom, flagged, memberFlag, appsBy, saidBy, domainsBy}
-use Rattle.statements.specs.Structures.{Stands}
-use Rattle.statements.specs.Parts.{variableBy, placeA, partStatement, chosenStatements, predsBy, funcsBy}
+use Rattle.statements.specs.Parts.{variableBy, partStatement, chosenStatements, predsBy, funcsBy}
 use Rattle.statements.specs.declared.masks.Masks.{Masks}
+use Rattle.rule.specs.Layout.{placeA}
 
-flagged-mem : {A : Type 0} (mask i : ℕ) (xs : List A) {a : A} → a ∈ flaggedFrom mask i xs → a ∈ xs
+flagged-mem : {A : Type 0} (mask : Mask) (i : ℕ) (xs : List A) {a : A} → a ∈ flaggedFrom mask i xs → a ∈ xs
 unfolding flaggedFrom
 flagged-mem mask i [] m = m
 flagged-mem {A} mask i (x ∷ xs) {a} m = go (flagAt mask i) (λ n. flagged-mem mask (i + 1) xs n) m
@@ -32,11 +34,6 @@ flagged-mem {A} mask i (x ∷ xs) {a} m = go (flagAt mask i) (λ n. flagged-mem 
     go : (b : Bool) → (a ∈ flaggedFrom mask (i + 1) xs → a ∈ xs) → a ∈ consIf b x (flaggedFrom mask (i + 1) xs) → a ∈ x ∷ xs
     go true f n = ⊎-elim (λ e. List·Memᴰ·head e) (λ t. List·Memᴰ·tail (f t)) (List·Memᴰ·cases-cons n)
     go false f n = List·Memᴰ·tail (f n)
-
-each-on : {A B : Type 0} (f g : A → B) (xs : List A) → ((a : A) → a ∈ xs → f a ≡ g a) → each f xs ≡ each g xs
-unfolding each
-each-on f g [] h = refl
-each-on f g (x ∷ xs) h = rw (h x (List·Memᴰ·head refl), each-on f g xs (λ a m. h a (List·Memᴰ·tail m)))
 
 -- A row taken whole, and a row without its last element.
 whole-row : (variable : ℕ → ℕ) (kind : ℕ) (r : Row) → r .kind ≡ kind → partStatement variable kind 0 r ≡ rowStatement variable r
@@ -54,15 +51,15 @@ module _ {s index : List ℕ} {k : ℕ} (w : Stands s index k) (row : List ℕ) 
   abbrev st : Structure
   st = structureIn s k
 
-  rows-whole : (kind mask : ℕ) (rows : List Row) → ((r : Row) → r ∈ rows → r .kind ≡ kind)
+  rows-whole : (kind : ℕ) (mask : Mask) (rows : List Row) → ((r : Row) → r ∈ rows → r .kind ≡ kind)
       → each (partStatement (variableBy st row) kind 0) (flagged mask rows) ≡ each (rowStatement (variableBy st row)) (flagged mask rows)
-  rows-whole kind mask rows h = each-on _ _ (flagged mask rows) (λ r m. whole-row (variableBy st row) kind r (h r (flagged-mem mask 0 rows m)))
+  rows-whole kind mask rows h = each-alike _ _ (flagged mask rows) (λ r m. whole-row (variableBy st row) kind r (h r (flagged-mem mask 0 rows m)))
 
-  preds-whole : (mask : ℕ) → chosenStatements st row (predsBy mask) ≡ each (rowStatement (variableBy st row)) (flagged mask (st .predRows))
+  preds-whole : (mask : Mask) → chosenStatements st row (predsBy mask) ≡ each (rowStatement (variableBy st row)) (flagged mask (st .predRows))
   unfolding chosenStatements
   preds-whole mask = rows-whole predicate mask (st .predRows) (λ r m. w .at .sound .preds-sound r m .0)
 
-  funcs-whole : (mask : ℕ) → chosenStatements st row (funcsBy mask) ≡ each (rowStatement (variableBy st row)) (flagged mask (st .funcRows))
+  funcs-whole : (mask : Mask) → chosenStatements st row (funcsBy mask) ≡ each (rowStatement (variableBy st row)) (flagged mask (st .funcRows))
   unfolding chosenStatements
   funcs-whole mask = rows-whole function mask (st .funcRows) (λ r m. w .at .sound .funcs-sound r m .0)
 
@@ -72,7 +69,7 @@ module _ {s index : List ℕ} {k : ℕ} (w : Stands s index k) (row : List ℕ) 
       ++ statementBytes letter (each (rowStatement (variableBy st row)) (keep (memberFlag st (masks .members)) (members st)))
   apps-parts letter masks = rw (preds-whole (masks .preds), funcs-whole (masks .funcs), each-append, each-append, statements-append, statements-append)
 
-  pub domains-are : (letter mask : ℕ) → statementBytes letter (chosenStatements st row (record { place = placeA; mask = mask; kind = funcDomain; omitted = 1 })) ≡ statementBytes letter (domainsBy st (variablesIn st row) mask)
+  pub domains-are : (letter : ℕ) (mask : Mask) → statementBytes letter (chosenStatements st row (record { place = placeA; mask = mask; kind = funcDomain; omitted = 1 })) ≡ statementBytes letter (domainsBy st (variablesIn st row) mask)
   unfolding chosenStatements domainsBy partStatement
   domains-are letter mask = ap (statementBytes letter) (each-same _ _ domain (flagged mask (st .funcRows)))
     where

@@ -9,10 +9,9 @@ use Rattle.definition.specs.Group.{Statement}
 use Rattle.definition.specs.Limits.{fieldLimit}
 use Rattle.definition.specs.Names.{numbersOf, fiber}
 use Rattle.definition.specs.Rule.{Pair}
-use Rattle.rows.specs.Kernel.{KeysIn}
-use Rattle.rows.specs.Maps.{pairsIn}
-use Rattle.rows.specs.declared.maps.Map.{Map}
-use Rattle.naming.specs.Structures.{structureIn}
+use Rattle.rule.specs.MapFields.{pairsIn, KeysIn}
+use Rattle.rule.specs.declared.maps.Map.{Map}
+use Rattle.rule.specs.Structures.{structureIn}
 use Rattle.naming.specs.Variables.{GivenOut}
 
 -- The Equality of two variables; its type is the first one's.

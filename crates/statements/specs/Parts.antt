@@ -5,20 +5,22 @@ use lib.Dec.{eqb}
 use lib.ListN.{length, take}
 use Rattle.definition.specs.Base.{pick, keep, each, _∈_}
 use Rattle.definition.specs.Letters.{predicate, function, typeSet}
-use Rattle.definition.specs.Records.{numbers}
 use Rattle.definition.specs.Rule.{Structure, Element, Row}
 use Rattle.definition.specs.Group.{Statement}
 use Rattle.definition.specs.Names.{numbersOf, variableAt}
 use Rattle.definition.specs.Rows.{members, rowStatement, typeSets}
 use Rattle.definition.specs.Writer.{twoBytes}
 use Rattle.records.specs.Buffer.{headBytes}
-use Rattle.records.specs.Places.{twoAt, stretch}
-use Rattle.rows.specs.Elements.{elementIn}
-use Rattle.naming.specs.Structures.{structureIn}
+use Rattle.rule.specs.ElementFields.{elementIn}
+use Rattle.rule.specs.Lists.{elsIn}
+use Rattle.rule.specs.declared.lists.Els.{Els}
+use Rattle.flags.specs.declared.Mask.{Mask}
+use Rattle.rule.specs.Structures.{structureIn}
 use Rattle.naming.specs.Variables.{variablesIn}
 use Rattle.statements.specs.Said.{flagged, memberFlag}
 use Rattle.statements.specs.declared.statement.Statement as put
 use Rattle.statements.specs.declared.masks.Chosen.{Chosen}
+use Rattle.rule.specs.Layout.{placeR, placeA}
 
 -- A statement that was put together, as the definition's.
 abbrev pub statementOf : put.Statement → Statement
@@ -36,13 +38,7 @@ variableBy st row = variableAt st (variablesIn st row)
 pub record NamedIn (st : Structure) (ns : List ℕ) : Type 0 where
   pub named : (e : ℕ) → e ∈ ns → e ∈ numbersOf st
 
--- The places of the letters R and A in a rule, and a structure's rows by the letter's place.
-abbrev pub placeR : ℕ
-placeR = 4
-
-abbrev pub placeA : ℕ
-placeA = 5
-
+-- A structure's rows by the place of their letter, R or A.
 abbrev pub rowsAt : Structure → ℕ → List Row
 rowsAt st place = pick (eqb place placeR) (st .predRows) (st .funcRows)
 
@@ -50,9 +46,9 @@ rowsAt st place = pick (eqb place placeR) (st .predRows) (st .funcRows)
 unfoldable pub partStatement : (ℕ → ℕ) → ℕ → ℕ → Row → Statement
 partStatement variable kind omitted r = record { kind = kind; symbol = r .symbol; variables = each variable (take (length (r .elements) - omitted) (r .elements)) }
 
--- The row at a position as a statement of a kind, with so many of its elements.
-abbrev pub rowSaid : List ℕ → ℕ → List ℕ → ℕ → ℕ → ℕ → Statement
-rowSaid s k row kind start count = record { kind = kind; symbol = twoAt s start; variables = each (variableBy (structureIn s k) row) (numbers (stretch s (start + 2) (2 * count))) }
+-- A symbol and elements as a statement of a kind.
+abbrev pub rowSaid : List ℕ → ℕ → List ℕ → ℕ → ℕ → Els → Statement
+rowSaid s k row kind symbol els = record { kind = kind; symbol = symbol; variables = each (variableBy (structureIn s k) row) (elsIn s els) }
 
 -- The statements of the chosen rows. R rows are taken whole, of A rows the result may be left out.
 unfoldable pub chosenStatements : Structure → List ℕ → Chosen → List Statement
@@ -63,10 +59,10 @@ pub record Chooses (c : Chosen) : Type 0 where
   pub most : c .place ≤ placeA
 
 -- The flagged R rows, and the flagged A rows, each taken whole.
-abbrev pub predsBy : ℕ → Chosen
+abbrev pub predsBy : Mask → Chosen
 predsBy mask = record { place = placeR; mask = mask; kind = predicate; omitted = 0 }
 
-abbrev pub funcsBy : ℕ → Chosen
+abbrev pub funcsBy : Mask → Chosen
 funcsBy mask = record { place = placeA; mask = mask; kind = function; omitted = 0 }
 
 -- An element as a statement of a kind: its type, its parents and itself.
@@ -81,7 +77,7 @@ typeSetOf type v = record { kind = typeSet; symbol = type; variables = v ∷ [] 
 abbrev pub elementSaid : List ℕ → List ℕ → ℕ → List ℕ → ℕ → ℕ → Statement
 elementSaid s index k row kind i = elementStatement (variableBy (structureIn s k) row) kind (elementIn s index k i)
 
-abbrev pub membersSaid : Structure → List ℕ → ℕ → List Statement
+abbrev pub membersSaid : Structure → List ℕ → Mask → List Statement
 membersSaid st row mask = each (rowStatement (variableBy st row)) (keep (memberFlag st mask) (members st))
 
 abbrev pub typesSaid : Structure → List ℕ → List Element → List Statement

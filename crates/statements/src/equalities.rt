@@ -11,25 +11,22 @@ ghost use Rattle.definition.specs.Limits.{structureLimit, fieldLimit};
 ghost use Rattle.definition.specs.Names.{numbersOf, fiber};
 ghost use Rattle.definition.specs.Signature.{Signature};
 ghost use Rattle.definition.specs.Writer.{statementField, fieldBytes};
-ghost use Rattle.laws.proofs.ByteForm.{statementBytes};
 ghost use Rattle.records.specs.Buffer.{Put, countLimit};
 ghost use Rattle.rule.specs.Elements.{elementNumbers, Elements};
-ghost use Rattle.rows.specs.Kernel.{TypesOf, KeysIn, SideAt, Merged};
-ghost use Rattle.rows.specs.Maps.{pairsIn, MapIn};
-ghost use Rattle.naming.specs.Maps.{Joins};
-ghost use Rattle.naming.specs.Structures.{structureIn};
+ghost use Rattle.rows.specs.Kernel.{TypesOf, SideAt, Merged};
+ghost use Rattle.rule.specs.MapFields.{pairsIn, MapIn, KeysIn, Joins};
+ghost use Rattle.rule.specs.Structures.{structureIn, Stands};
 ghost use Rattle.naming.specs.Variables.{GivenOut};
-ghost use Rattle.statements.specs.Structures.{Stands, sideIn};
+ghost use Rattle.laws.specs.Bytes.{statementBytes};
+ghost use Rattle.statements.specs.Structures.{sideIn};
 ghost use Rattle.statements.specs.Equalities.{equalityOf, equalitiesAmong, equalitiesOver, TypedVars, KeysGiven};
 use crate::statement::Statement;
 use crate::statement::put_statement;
+use flags::Mask;
 use flags::flag;
 use records::fields::place;
 use records::fields::short;
 use records::write::past;
-use rows::maps::Map;
-use rows::maps::pair_image;
-use rows::maps::pair_key;
 use rule::elements::Found;
 use rule::elements::element_count;
 use rule::elements::element_number;
@@ -37,6 +34,9 @@ use rule::elements::find_element;
 use rule::ids::ElId;
 use rule::ids::FIELDS;
 use rule::ids::RULE_INDEX;
+use rule::maps::Map;
+use rule::maps::pair_image;
+use rule::maps::pair_key;
 use signature::ids::EQUALITY;
 
 // How many variables an Equality has.
@@ -192,7 +192,7 @@ fn put_kernel_pairs(
     row: &[u16; FIELDS],
     m: Map,
     types: &[u8],
-    merged: u64,
+    merged: Mask,
 ) -> usize
     requires { ⌜ from ≤ countLimit ⌝ }
     requires { ⌜ Stands (now s) (now index) src × Stands (now s) (now index) tgt ⌝ }
@@ -227,7 +227,7 @@ pub fn put_equalities(
     row: &[u16; FIELDS],
     m: Map,
     types: &[u8],
-    merged: u64,
+    merged: Mask,
 ) -> usize
     requires { ⌜ from ≤ countLimit ⌝ }
     requires { ⌜ Stands (now s) (now index) src × Stands (now s) (now index) tgt ⌝ }

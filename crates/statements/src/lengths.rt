@@ -5,26 +5,25 @@ ghost use Prim.Native.Nat.{ℕ, _+_, _≤_};
 ghost use lib.Dec.{eqb};
 ghost use lib.ListN.{length};
 ghost use Rattle.definition.specs.Base.{pick};
-ghost use Rattle.laws.proofs.ByteForm.{statementBytes};
 ghost use Rattle.records.specs.Buffer.{capped, countLimit};
-ghost use Rattle.naming.specs.Structures.{structureIn};
+ghost use Rattle.rule.specs.Structures.{structureIn, Stands};
 ghost use Rattle.naming.specs.Variables.{variablesIn};
+ghost use Rattle.laws.specs.Bytes.{statementBytes};
 ghost use Rattle.statements.specs.Said.{flagged, saidBy};
-ghost use Rattle.statements.specs.Structures.{Stands};
 ghost use Rattle.statements.specs.Parts.{chosenStatements, Chooses, membersSaid, typesSaid};
 use crate::masks::Chosen;
 use crate::masks::Masks;
 use crate::masks::flagged_funcs;
 use crate::masks::flagged_preds;
 use crate::statement::counted;
+use flags::Mask;
 use flags::flag;
-use records::fields::Field;
-use records::fields::read_field;
-use rows::elements::read_element;
+use flags::none_set;
 use rule::elements::element_count;
-use rule::ids::LETTERS;
+use rule::elements::read_element;
 use rule::ids::RULE_INDEX;
-use rule::reader::bound;
+use rule::rows::read_row;
+use rule::sections::section_of;
 
 // Where the chosen rows of a structure end, along their section. Each counts as many variables as it has elements that are not left
 // out; none is looked up.
@@ -40,28 +39,19 @@ fn section_length(
     ensures { λ r. ⌜ ((letter : ℕ) (row : List ℕ) → r ≡ capped (from + length (statementBytes letter (chosenStatements (structureIn (now (s .entry)) k) row chosen)))) ⌝ }
     ensures { λ r. ⌜ r ≤ countLimit ⌝ }
 {
-    let section = LETTERS * k + chosen.place;
-    let end = bound(index, section);
-    let mut field = bound(index, section - 1);
+    let section = section_of(index, k, chosen.place);
+    let end = section.to;
+    let mut field = section.from;
     let mut at = from;
     let mut i: usize = 0;
     while field < end {
-        let f = read_field(s, field);
-        let Field::Got {
-            letter: _,
-            start: _,
-            len,
-            next,
-        } = f
-        else {
-            return at;
-        };
-        let count = len / 2 - 1 - chosen.omitted;
+        let r = read_row(s, field);
+        let els = r.els;
         if flag(chosen.mask, i) {
-            at = counted(at, count);
+            at = counted(at, els.count - chosen.omitted);
         }
         i += 1;
-        field = next;
+        field = r.next;
     }
     at
 }
@@ -80,14 +70,14 @@ pub fn rows_length(
     ensures { λ r. ⌜ r ≤ countLimit ⌝ }
 {
     // No flag is set: nothing is said, and the section need not be gone along.
-    if chosen.mask == 0 {
+    if none_set(chosen.mask) {
         return from;
     }
     section_length(from, s, index, k, chosen)
 }
 
 // The flags that an element goes by: with parents it has a member row, without any a TypeSet.
-fn flags_of(parents: usize, members: u64, free: u64) -> u64
+fn flags_of(parents: usize, members: Mask, free: Mask) -> Mask
     ensures { λ r. ⌜ r ≡ pick (eqb parents 0) free members ⌝ }
 {
     if parents == 0 {
@@ -103,8 +93,8 @@ fn elements_length(
     s: &[u8],
     index: &[u16; RULE_INDEX],
     k: usize,
-    members: u64,
-    free: u64,
+    members: Mask,
+    free: Mask,
 ) -> usize
     requires { ⌜ from ≤ countLimit ⌝ }
     requires { ⌜ Stands (now s) (now index) k ⌝ }
@@ -113,8 +103,8 @@ fn elements_length(
     ensures { λ r. ⌜ r ≤ countLimit ⌝ }
 {
     // No flag is set: nothing is said, and the elements need not be gone along.
-    if members == 0 {
-        if free == 0 {
+    if none_set(members) {
+        if none_set(free) {
             return from;
         }
     }

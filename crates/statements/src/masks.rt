@@ -1,6 +1,7 @@
 // Which rows, members and elements of a structure are meant, a flag for each place.
 ghost use mathlib.Core.Path.{_≡_};
 ghost use Rattle.statements.specs.Parts.{Chooses, predsBy, funcsBy};
+use flags::Mask;
 use rule::ids::PLACE_A;
 use rule::ids::PLACE_R;
 use signature::ids::FUNCTION;
@@ -8,23 +9,23 @@ use signature::ids::PREDICATE;
 
 // Those of a structure.
 pub struct Masks {
-    pub preds: u64,
-    pub funcs: u64,
-    pub members: u64,
-    pub free: u64,
+    pub preds: Mask,
+    pub funcs: Mask,
+    pub members: Mask,
+    pub free: Mask,
 }
 
 // Rows of one letter: the place of the letter, and a flag for each. And what statements they become: the kind, and how many of a row's
 // last elements are left out, so that a function's row is also its domain.
 pub struct Chosen {
     pub place: usize,
-    pub mask: u64,
+    pub mask: Mask,
     pub kind: u8,
     pub omitted: usize,
 }
 
 // The flagged R rows, and the flagged A rows, each taken whole.
-pub fn flagged_preds(mask: u64) -> Chosen
+pub fn flagged_preds(mask: Mask) -> Chosen
     ensures { λ r. ⌜ r ≡ predsBy mask ⌝ }
     ensures { λ r. ⌜ Chooses r ⌝ }
 {
@@ -36,7 +37,7 @@ pub fn flagged_preds(mask: u64) -> Chosen
     }
 }
 
-pub fn flagged_funcs(mask: u64) -> Chosen
+pub fn flagged_funcs(mask: Mask) -> Chosen
     ensures { λ r. ⌜ r ≡ funcsBy mask ⌝ }
     ensures { λ r. ⌜ Chooses r ⌝ }
 {

@@ -2,26 +2,28 @@
 ghost use Prim.Native.Nat.{_≤_, _<_};
 ghost use mathlib.Core.List.{_∷_, []};
 ghost use Rattle.definition.specs.Writer.{statementField, fieldBytes};
-ghost use Rattle.laws.proofs.ByteForm.{statementBytes};
 ghost use Rattle.records.specs.Buffer.{Put, countLimit};
 ghost use Rattle.rule.specs.Elements.{countAt};
-ghost use Rattle.rows.specs.Elements.{elementIn};
-ghost use Rattle.naming.specs.Structures.{structureIn};
+ghost use Rattle.rule.specs.ElementFields.{elementIn};
+ghost use Rattle.rule.specs.Structures.{structureIn, Stands};
+ghost use Rattle.laws.specs.Bytes.{statementBytes};
 ghost use Rattle.statements.specs.Said.{flagged};
-ghost use Rattle.statements.specs.Structures.{Stands};
 ghost use Rattle.statements.specs.Parts.{elementSaid, membersSaid, typeSetOf, typesSaid};
 use crate::sections::vars_of;
 use crate::statement::Statement;
 use crate::statement::put_statement;
 use crate::statement::put_statement_head;
+use flags::Mask;
 use flags::flag;
+use flags::none_set;
 use records::fields::wide;
 use records::write::past;
 use records::write::put_num;
 use records::write::rest_at;
-use rows::elements::read_element;
 use rows::order::sorted_members;
 use rule::elements::element_count;
+use rule::elements::parents_of;
+use rule::elements::read_element;
 use rule::ids::FIELDS;
 use rule::ids::RULE_INDEX;
 use signature::ids::MEMBER;
@@ -48,10 +50,10 @@ fn put_element(
     ensures { λ r. ⌜ Put (now (out .entry)) (now (out .exit)) (fieldBytes (statementField letter (elementSaid (now (s .entry)) (now (index .entry)) k (now (row .entry)) kind i))) from r ⌝ }
 {
     let e = read_element(s, index, k, i);
-    let n = e.parents;
     let ty = e.ty;
-    let parents = vars_of(s, index, k, row, e.start, n);
-    let mut vars = parents;
+    let parents = parents_of(e);
+    let n = parents.count;
+    let mut vars = vars_of(s, index, k, row, parents);
     vars[n] = row[i];
     put_statement(
         out,
@@ -75,14 +77,14 @@ pub fn put_members(
     index: &[u16; RULE_INDEX],
     k: usize,
     row: &[u16; FIELDS],
-    mask: u64,
+    mask: Mask,
 ) -> usize
     requires { ⌜ from ≤ countLimit ⌝ }
     requires { ⌜ Stands (now s) (now index) k ⌝ }
     ensures { λ r. ⌜ Put (now (out .entry)) (now (out .exit)) (statementBytes letter (membersSaid (structureIn (now (s .entry)) k) (now (row .entry)) mask)) from r ⌝ }
 {
     // No flag is set: nothing is said, and the members need not be sorted.
-    if mask == 0 {
+    if none_set(mask) {
         return from;
     }
     let m = sorted_members(s, index, k);
@@ -140,14 +142,14 @@ pub fn put_type_sets(
     index: &[u16; RULE_INDEX],
     k: usize,
     row: &[u16; FIELDS],
-    mask: u64,
+    mask: Mask,
 ) -> usize
     requires { ⌜ from ≤ countLimit ⌝ }
     requires { ⌜ Stands (now s) (now index) k ⌝ }
     ensures { λ r. ⌜ Put (now (out .entry)) (now (out .exit)) (statementBytes letter (typesSaid (structureIn (now (s .entry)) k) (now (row .entry)) (flagged mask (structureIn (now (s .entry)) k .elements)))) from r ⌝ }
 {
     // No flag is set: nothing is said, and the elements need not be gone along.
-    if mask == 0 {
+    if none_set(mask) {
         return from;
     }
     let count = element_count(index, k);

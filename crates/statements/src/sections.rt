@@ -1,54 +1,52 @@
 // The rows of a structure as statements.
 ghost use mathlib.Core.Path.{_≡_};
-ghost use Prim.Native.Nat.{_+_, _*_, _≤_};
-ghost use lib.ListN.{length, take};
+ghost use Prim.Native.Nat.{_≤_};
+ghost use lib.ListN.{take};
 ghost use Rattle.definition.specs.Base.{each};
 ghost use Rattle.definition.specs.Limits.{columnLimit};
-ghost use Rattle.definition.specs.Records.{numbers};
 ghost use Rattle.definition.specs.Writer.{statementField, fieldBytes};
-ghost use Rattle.laws.proofs.ByteForm.{statementBytes};
-ghost use Rattle.records.specs.Places.{stretch};
 ghost use Rattle.records.specs.Buffer.{Put, countLimit};
-ghost use Rattle.naming.specs.Structures.{structureIn, Laid};
-ghost use Rattle.statements.specs.Structures.{Stands};
+ghost use Rattle.rule.specs.Lists.{elsIn, ElsInside};
+ghost use Rattle.rule.specs.Structures.{structureIn, Laid, Stands};
+ghost use Rattle.laws.specs.Bytes.{statementBytes};
 ghost use Rattle.statements.specs.Parts.{variableBy, NamedIn, rowSaid, chosenStatements, Chooses};
 use crate::lengths::rows_length;
 use crate::masks::Chosen;
 use crate::statement::put_statement_head;
 use flags::flag;
-use records::fields::Field;
-use records::fields::num;
-use records::fields::read_field;
+use flags::none_set;
 use records::write::past;
 use records::write::put_num;
 use records::write::rest_at;
 use rule::elements::Found;
 use rule::elements::find_element;
-use rule::ids::ElId;
 use rule::ids::FIELDS;
-use rule::ids::LETTERS;
 use rule::ids::RULE_INDEX;
-use rule::reader::bound;
+use rule::lists::Els;
+use rule::lists::el_at;
+use rule::lists::first;
+use rule::rows::read_row;
+use rule::sections::section_of;
 use signature::ids::COLUMNS;
 
-// The variables of the elements that stand in a stretch; `row` has those of the structure's elements, by their places.
+// The variables of elements; `row` has those of the structure's elements, by their places.
 pub fn vars_of(
     s: &[u8],
     index: &[u16; RULE_INDEX],
     k: usize,
     row: &[u16; FIELDS],
-    start: usize,
-    count: usize,
+    els: Els,
 ) -> [u16; COLUMNS]
     requires { ⌜ Laid (now s) (now index) k ⌝ }
-    requires { ⌜ (start + 2 * count ≤ length (now s)) × (count ≤ columnLimit) ⌝ }
-    requires { ⌜ NamedIn (structureIn (now s) k) (numbers (stretch (now s) start (2 * count))) ⌝ }
-    ensures { λ r. ⌜ take count r ≡ each (variableBy (structureIn (now (s .entry)) k) (now (row .entry))) (numbers (stretch (now (s .entry)) start (2 * count))) ⌝ }
+    requires { ⌜ ElsInside (now s) els × (els .count ≤ columnLimit) ⌝ }
+    requires { ⌜ NamedIn (structureIn (now s) k) (elsIn (now s) els) ⌝ }
+    ensures { λ r. ⌜ take (els .count) r ≡ each (variableBy (structureIn (now (s .entry)) k) (now (row .entry))) (elsIn (now (s .entry)) els) ⌝ }
 {
+    let count = els.count;
     let mut vars = [0u16; COLUMNS];
     let mut i: usize = 0;
     while i < count {
-        let f = find_element(s, index, k, ElId(num(s, start + 2 * i)));
+        let f = find_element(s, index, k, el_at(s, els, i));
         let Found::At(j) = f else {
             return vars;
         };
@@ -67,18 +65,20 @@ fn write_row(
     index: &[u16; RULE_INDEX],
     k: usize,
     row: &[u16; FIELDS],
-    start: usize,
-    count: usize,
+    symbol: u16,
+    els: Els,
 ) -> usize
-    requires { ⌜ (start + 2 + 2 * count ≤ length (now s)) × (count ≤ columnLimit) ⌝ }
+    requires { ⌜ ElsInside (now s) els × (els .count ≤ columnLimit) ⌝ }
     requires { ⌜ Laid (now s) (now index) k ⌝ }
-    requires { ⌜ NamedIn (structureIn (now s) k) (numbers (stretch (now s) (start + 2) (2 * count))) ⌝ }
-    ensures { λ r. ⌜ Put (now (out .entry)) (now (out .exit)) (fieldBytes (statementField letter (rowSaid (now (s .entry)) k (now (row .entry)) kind start count))) 0 r ⌝ }
+    requires { ⌜ NamedIn (structureIn (now s) k) (elsIn (now s) els) ⌝ }
+    ensures { λ r. ⌜ Put (now (out .entry)) (now (out .exit))
+        (fieldBytes (statementField letter (rowSaid (now (s .entry)) k (now (row .entry)) kind symbol els))) 0 r ⌝ }
 {
-    let mut at = put_statement_head(out, letter, kind, num(s, start), count);
+    let count = els.count;
+    let mut at = put_statement_head(out, letter, kind, symbol, count);
     let mut i: usize = 0;
     while i < count {
-        let f = find_element(s, index, k, ElId(num(s, start + 2 + 2 * i)));
+        let f = find_element(s, index, k, el_at(s, els, i));
         let Found::At(j) = f else {
             return at;
         };
@@ -88,7 +88,7 @@ fn write_row(
     at
 }
 
-// A row as a statement of a kind, with so many of its elements.
+// A row as a statement of a kind: its symbol, and those of its elements that are said.
 fn put_row(
     out: &mut [u8],
     from: usize,
@@ -98,13 +98,14 @@ fn put_row(
     index: &[u16; RULE_INDEX],
     k: usize,
     row: &[u16; FIELDS],
-    start: usize,
-    count: usize,
+    symbol: u16,
+    els: Els,
 ) -> usize
-    requires { ⌜ (from ≤ countLimit) × (start + 2 + 2 * count ≤ length (now s)) × (count ≤ columnLimit) ⌝ }
+    requires { ⌜ (from ≤ countLimit) × ElsInside (now s) els × (els .count ≤ columnLimit) ⌝ }
     requires { ⌜ Laid (now s) (now index) k ⌝ }
-    requires { ⌜ NamedIn (structureIn (now s) k) (numbers (stretch (now s) (start + 2) (2 * count))) ⌝ }
-    ensures { λ r. ⌜ Put (now (out .entry)) (now (out .exit)) (fieldBytes (statementField letter (rowSaid (now (s .entry)) k (now (row .entry)) kind start count))) from r ⌝ }
+    requires { ⌜ NamedIn (structureIn (now s) k) (elsIn (now s) els) ⌝ }
+    ensures { λ r. ⌜ Put (now (out .entry)) (now (out .exit))
+        (fieldBytes (statementField letter (rowSaid (now (s .entry)) k (now (row .entry)) kind symbol els))) from r ⌝ }
 {
     let rest = rest_at(from, out.len());
     let len = write_row(
@@ -115,8 +116,8 @@ fn put_row(
         index,
         k,
         row,
-        start,
-        count,
+        symbol,
+        els,
     );
     past(from, len)
 }
@@ -136,28 +137,20 @@ fn put_section(
     requires { ⌜ Stands (now s) (now index) k ⌝ }
     ensures { λ r. ⌜ Put (now (out .entry)) (now (out .exit)) (statementBytes letter (chosenStatements (structureIn (now (s .entry)) k) (now (row .entry)) chosen)) from r ⌝ }
 {
-    let section = LETTERS * k + chosen.place;
-    let end = bound(index, section);
-    let mut field = bound(index, section - 1);
+    let section = section_of(index, k, chosen.place);
+    let end = section.to;
+    let mut field = section.from;
     let mut at = from;
     let mut i: usize = 0;
     while field < end {
-        let f = read_field(s, field);
-        let Field::Got {
-            letter: _,
-            start,
-            len,
-            next,
-        } = f
-        else {
-            return at;
-        };
-        let count = len / 2 - 1 - chosen.omitted;
+        let r = read_row(s, field);
+        let els = r.els;
         if flag(chosen.mask, i) {
-            at = put_row(out, at, letter, chosen.kind, s, index, k, row, start, count);
+            let said = first(s, els, els.count - chosen.omitted);
+            at = put_row(out, at, letter, chosen.kind, s, index, k, row, r.symbol, said);
         }
         i += 1;
-        field = next;
+        field = r.next;
     }
     at
 }
@@ -182,7 +175,7 @@ pub fn put_rows(
         return rows_length(from, s, index, k, chosen);
     }
     // No flag is set: nothing is said, and the section need not be gone along.
-    if chosen.mask == 0 {
+    if none_set(chosen.mask) {
         return from;
     }
     put_section(out, from, letter, s, index, k, row, chosen)

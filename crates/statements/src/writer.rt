@@ -1,11 +1,10 @@
 // What a structure says, as bytes.
 ghost use Prim.Native.Nat.{_≤_};
-ghost use Rattle.laws.proofs.ByteForm.{statementBytes};
 ghost use Rattle.records.specs.Buffer.{Put, countLimit};
-ghost use Rattle.naming.specs.Structures.{structureIn};
+ghost use Rattle.rule.specs.Structures.{structureIn, Stands};
 ghost use Rattle.naming.specs.Variables.{variablesIn};
+ghost use Rattle.laws.specs.Bytes.{statementBytes};
 ghost use Rattle.statements.specs.Said.{appsBy, saidBy, domainsBy};
-ghost use Rattle.statements.specs.Structures.{Stands};
 use crate::lengths::said_length;
 use crate::masks::Chosen;
 use crate::masks::Masks;
@@ -14,6 +13,7 @@ use crate::masks::flagged_preds;
 use crate::members::put_members;
 use crate::members::put_type_sets;
 use crate::sections::put_rows;
+use flags::Mask;
 use rule::ids::FIELDS;
 use rule::ids::PLACE_A;
 use rule::ids::RULE_INDEX;
@@ -89,7 +89,7 @@ pub fn put_domains(
     index: &[u16; RULE_INDEX],
     k: usize,
     row: &[u16; FIELDS],
-    mask: u64,
+    mask: Mask,
 ) -> usize
     requires { ⌜ from ≤ countLimit ⌝ }
     requires { ⌜ Stands (now s) (now index) k ⌝ }

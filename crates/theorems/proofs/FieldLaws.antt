@@ -9,18 +9,7 @@ use lib.Dec.{eqb}
 use lib.ListN.{length}
 use Rattle.definition.specs.Base.{pick, consIf, keep, each, joined, has, _∈_}
 use Rattle.definition.specs.Records.{Field, Grammar, follows, placed, withLetter, upTo, blocks, faultFrom}
-use Rattle.laws.proofs.Numbers.{listed}
-
--- The fields of a letter: of two lists, those of each.
-pub with-append : (letter : ℕ) (xs ys : List Field) → withLetter letter (xs ++ ys) ≡ withLetter letter xs ++ withLetter letter ys
-unfolding withLetter keep
-with-append letter [] ys = refl
-with-append letter (x ∷ xs) ys = go (eqb (x .letter) letter) (with-append letter xs ys)
-  where
-    go : (b : Bool) → withLetter letter (xs ++ ys) ≡ withLetter letter xs ++ withLetter letter ys
-        → consIf b x (withLetter letter (xs ++ ys)) ≡ consIf b x (withLetter letter xs) ++ withLetter letter ys
-    go true e = rw e
-    go false e = e
+use Rattle.laws.proofs.Numbers.{listed, with-append}
 
 module _ {A : Type 0} (letter : ℕ) where
   -- All, where each field is of the letter.

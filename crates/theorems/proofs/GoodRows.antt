@@ -14,8 +14,8 @@ use Rattle.definition.specs.Group.{Statement, premiseKinds, conclusionKinds}
 use Rattle.definition.specs.Names.{numbersOf}
 use Rattle.definition.specs.Rows.{memberRow, rowsOf, rowStatement, typeSets}
 use Rattle.laws.proofs.Lists.{never, mem-keep, mem-each, length-each}
-use Rattle.laws.proofs.Sound.{SoundRow, SoundStructure}
 use Rattle.laws.proofs.RowLaws.{but-last-mem, length-but-last, rows-cases, number-in, member-elements}
+use Rattle.laws.specs.Sound.{SoundRow, SoundStructure}
 use Rattle.theorems.proofs.Good.{GoodStatement}
 
 -- The kinds of rows are premise and conclusion kinds.

@@ -18,8 +18,8 @@ use Rattle.definition.specs.Group.{Variable, Statement, FlatRule, Group, groupG
 use Rattle.definition.specs.Writer.{numberBytes, variableField, statementField, flatRuleFields, groupFields, groupBytesOf}
 use Rattle.laws.proofs.Lists.{mem-has, mem-all, length-each}
 use Rattle.theorems.proofs.Good.{GoodStatement, GoodVariable, GoodRule, GoodGroup}
-use Rattle.laws.proofs.Numbers.{numbers-front, numbers-written, length-numbers-written, fields-written}
-use Rattle.theorems.proofs.FieldLaws.{with-append, with-each, with-each-none, with-joined-none, each-back, Steps, placed-whole, steps-each, upto-skip, blocks-skip, faults-none}
+use Rattle.laws.proofs.Numbers.{numbers-front, numbers-written, length-numbers-written, fields-written, with-append}
+use Rattle.theorems.proofs.FieldLaws.{with-each, with-each-none, with-joined-none, each-back, Steps, placed-whole, steps-each, upto-skip, blocks-skip, faults-none}
 
 -- A variable's field means the variable.
 pub variable-back : (v : Variable) → variableOf (variableField v) ≡ v

@@ -22,6 +22,7 @@ use Rattle.laws.proofs.Sound.{read-part, read-within}
 use Rattle.laws.proofs.Numbers.{take-numbers, drop-numbers, length-numbers}
 use Rattle.theorems.proofs.ReadingRefusals.{Low, signature-refusal, group-refusal}
 use Rattle.theorems.proofs.PlaceLaws.{FieldAt, fields-stand, conclusion-stands}
+use Rattle.laws.proofs.Lists.{first-mem}
 
 -- Bytes are what is before a part, the part and what is behind it.
 middle : (k n : ℕ) (s : List ℕ) → s ≡ take k s ++ take n (drop k s) ++ drop n (drop k s)
@@ -37,17 +38,6 @@ owners-part signature group position = go (scopeOf signature group position)
     go (accepted global) = ([], group, refl)
     go (accepted (model m owners)) = let at : ℕ = ownersAt group position in let size : ℕ = 2 * length owners in
         (take at group, drop size (drop at group), middle at size group)
-
--- A first value is one of a member.
-first-some : {A B : Type 0} (f : A → Option B) (xs : List A) {b : B} → firstOf f xs ≡ some b → (a : A) × (a ∈ xs) × (f a ≡ some b)
-unfolding firstOf
-first-some f [] e = let z : _≡_ {A = ℕ} 0 1 = cc in absurd (omega arith)
-first-some {A} {B} f (x ∷ xs) {b} e = go (f x) refl (λ i. first-some f xs i) e
-  where
-    go : (o : Option B) → f x ≡ o → (firstOf f xs ≡ some b → (a : A) × (a ∈ xs) × (f a ≡ some b)) → orElse o (firstOf f xs) ≡ some b
-        → (a : A) × (a ∈ (x ∷ xs)) × (f a ≡ some b)
-    go none p ih e = let r = ih e in (r .0, List·Memᴰ·tail (r .1), r .2)
-    go (some c) p ih e = (x, List·Memᴰ·head refl, p ∙ e)
 
 -- A first choice that there is, is one of the two.
 or-else-some : {A : Type 0} (a b : Option A) {v : A} → orElse a b ≡ some v → (a ≡ some v) ⊎ (b ≡ some v)
@@ -117,8 +107,8 @@ model-case sig table r m s ss p few = go _ refl
         → RuleCase sig r (settle o (accepted (model m owners)))
     go none e = owned m s ss p few refl
     go (some v) e = ⊎-elim
-        (λ q. let x = first-some (conclusionVerdict sig table m owners) (r .conclusion) q in elsewhere (conclusion-verdict sig table m owners (x .0) (x .2)))
-        (λ q. let x = first-some (premiseVerdict sig table m owners) (r .premise) q in
+        (λ q. let x = first-mem (conclusionVerdict sig table m owners) (r .conclusion) q in elsewhere (conclusion-verdict sig table m owners (x .0) (x .2)))
+        (λ q. let x = first-mem (premiseVerdict sig table m owners) (r .premise) q in
         ⊎-elim (λ d. equated (x .0) (x .1) (d .0) (d .1)) (λ d. elsewhere d) (premise-verdict sig table m owners (x .0) (x .2)))
         (or-else-some _ _ e)
 
@@ -247,8 +237,8 @@ variables-stand f rest count one few =
     let held : 2 * count ≤ length (drop 3 c) = omega (arith, length-drop 3 c) in
     let three : 3 ≤ length c = omega arith in
     let e : take (2 * count) (drop 3 (c ++ rest)) ≡ take (2 * count) (drop 3 c) = rw (drop-append-le 3 c rest three) (take-append-le (2 * count) (drop 3 c) rest held) in
-    let d : numbers (drop 3 c) ≡ drop 1 (numbers (drop 1 c)) = ap numbers (sym (drop-drop 2 1 c)) ∙ drop-numbers 1 (drop 1 c) in
-    (rw (e, take-numbers count (drop 3 c), d), rw e (length-take-le (2 * count) (drop 3 c) held))
+    let d : numbers (drop 3 c) ≡ drop 1 (numbers (drop 1 c)) = ap numbers (sym (drop-drop 2 1 c)) ∙ sym (drop-numbers 1 (drop 1 c)) in
+    (rw (e, ← (take-numbers count (drop 3 c)), d), rw e (length-take-le (2 * count) (drop 3 c) held))
 
 -- The bytes sought hold the first variables of the first conclusion.
 owned-stands : (sig : Signature) (group : List ℕ) (position : ℕ) (g : Group) (r : FlatRule) (s : Statement) (ss : List Statement) (count : ℕ)

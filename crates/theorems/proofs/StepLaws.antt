@@ -14,16 +14,16 @@ use Rattle.definition.specs.Letters.{predicate, member, equality, typeSet}
 use Rattle.definition.specs.Signature.{Signature, arity, symbolCount, predOf, funcOf}
 use Rattle.definition.specs.Rule.{Structure, Element, Row, Pair, MorphismKind, If, SurjThen, NonSurjThen, Noop}
 use Rattle.definition.specs.Group.{Variable, Statement, premiseKinds, conclusionKinds}
-use Rattle.definition.specs.Names.{numbersOf, fiber}
-use Rattle.definition.specs.Rows.{memberRow, rowsOf, lastElement, rowStatement, typeSets, pairImage, imageOf, inImage, given, imageRow, sameRow, newRows, pairsAmong, kernelPairs, arguments, constrained}
+use Rattle.definition.specs.Names.{numbersOf}
+use Rattle.definition.specs.Rows.{memberRow, rowsOf, lastElement, rowStatement, typeSets, pairImage, imageOf, inImage, given, imageRow, sameRow, newRows, arguments, constrained}
 use Rattle.definition.specs.Kinds.{Side, variableIn, Emitted, Step, unless, typeIn, kernelVariables, equalities, rowUnmapped, newElements, addedRows, constrainedMember, freeElements, ifStatements, surjConclusion, yields, yieldingRow, domainStatement, domainStep, nonSurjStep, ifStep, surjStep, mapStep}
 use Rattle.definition.specs.Demands.{Occurs}
 use Rattle.laws.proofs.Fibers.{kernel-in}
 use Rattle.laws.proofs.Lists.{and-left, and-right, not-false, not-and-right, never, bool-cases, mem-keep, keep-mem, mem-each, each-mem, mem-joined, any-mem, any-false, none-any, all-mem, has-mem, lowest-none, first-mem, picked}
+use Rattle.laws.specs.Sound.{SoundStructure}
 use Rattle.theorems.proofs.Good.{GoodStatement}
-use Rattle.laws.proofs.Sound.{SoundStructure}
 use Rattle.laws.proofs.Numbering.{last-mem, last-none}
-use Rattle.laws.proofs.RowLaws.{pred-in, func-in, member-in, mem-members, in-number, row-elements, but-last-mem}
+use Rattle.laws.proofs.RowLaws.{pred-in, func-in, member-in, mem-members, in-number, row-elements, but-last-mem, member-last}
 use Rattle.theorems.proofs.GoodRows.{premise-three, conclusion-three, row-good, domain-good, type-set-good}
 
 -- What is known of a map when it is walked: its sides, and the source's statements over so many variables.
@@ -109,10 +109,6 @@ last-in r h = go (lastOf (r .elements)) refl
     go : (o : Option ℕ) → lastOf (r .elements) ≡ o → orDefault o 0 ∈ r .elements
     go none e = absurd (none-of (r .elements) h (λ a m. last-none (r .elements) e m))
     go (some a) e = last-mem (r .elements) e
-
-member-last : (x : Element) → lastElement (memberRow x) ≡ x .number
-unfolding lastElement memberRow
-member-last x = rw (last-append (x .parents) (x .number))
 
 pub member-lists : (x : Element) → x .number ∈ memberRow x .elements
 unfolding memberRow

@@ -19,8 +19,9 @@ use Rattle.definition.specs.Walk.{State, Reached, structureAt, initialState, wa
 use Rattle.definition.specs.Writer.{groupBytesOf}
 use Rattle.definition.specs.Flatten.{groupLeft, fitted, flattenOf}
 use Rattle.definition.specs.Demands.{IsReached, Occurs, Bound, ExactKeys, NoTrailingDigit, endsInDigit, variablesAt, variableGot, printedName, DifferentNames, Demand3}
+use Rattle.laws.specs.Sound.{SoundRule}
 use Rattle.theorems.proofs.Good.{GoodGroup}
-use Rattle.laws.proofs.Sound.{SoundRule, sound-signature}
+use Rattle.laws.proofs.Sound.{sound-signature}
 use Rattle.laws.proofs.SoundRule.{sound-rule}
 use Rattle.laws.proofs.NameLaws.{name-tells}
 use Rattle.theorems.proofs.WalkLaws.{BaseOf, noVariable, reached-few, group-name-good}

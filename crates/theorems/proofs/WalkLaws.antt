@@ -23,13 +23,16 @@ use Rattle.definition.specs.Kinds.{Side, variableIn, Emitted, Step, initialStat
 use Rattle.definition.specs.Walk.{State, Reached, structureAt, noStructure, groupName, anonymousRule, namedRules, sideOf, reach, untouched, nothingTaken, initialState}
 use Rattle.definition.specs.Demands.{Occurs, Bound}
 use Rattle.laws.proofs.Lists.{bool-cases, keep-mem, mem-each, each-mem, length-each, first-mem, picked, mem-at}
+use Rattle.laws.specs.Numbering.{fresh}
+use Rattle.laws.specs.Sound.{SoundStructure, SoundRule}
 use Rattle.theorems.proofs.Good.{GoodName, GoodStatement, GoodVariable, GoodRule}
-use Rattle.laws.proofs.Sound.{SoundStructure, SoundRule}
 use Rattle.laws.proofs.NameLaws.{Fine, fine, not-bad, fine-append, fine-within, fine-decimal}
-use Rattle.laws.proofs.Numbering.{fresh, fresh-few, new-length, new-at, new-mem, variable-taken, variable-new, new-differ}
+use Rattle.laws.proofs.Numbering.{fresh-few, new-length, new-at, new-mem, variable-taken, variable-new, new-differ}
 use Rattle.laws.proofs.RowLaws.{member-in, mem-members, in-number}
 use Rattle.theorems.proofs.GoodRows.{premise-three, row-good, type-set-good}
 use Rattle.theorems.proofs.StepLaws.{StepGood, member-lists, occurs-left, occurs-right, row-occurs}
+use Rattle.laws.proofs.Choices.{each-each}
+use Rattle.laws.proofs.ByteForm.{named-length}
 
 -- A base of names: `el`, or a V or I name of a structure.
 abbrev pub BaseOf : Rule → List ℕ → Type 0
@@ -152,11 +155,6 @@ unfolding namedRules
 named-mem group count [] m = absurd (List·Memᴰ·not-nil m)
 named-mem group count (e ∷ es) m = ⊎-elim (λ q. (e, List·Memᴰ·head refl, count, q))
     (λ t. let r = named-mem group (count + 1) es t in (r .0, List·Memᴰ·tail (r .1), r .2, r .3)) (List·Memᴰ·cases-cons m)
-
-named-length : (group : List ℕ) (count : ℕ) (ems : List Emitted) → length (namedRules group count ems) ≡ length ems
-unfolding namedRules
-named-length group count [] = refl
-named-length group count (e ∷ es) = ap suc (named-length group (count + 1) es)
 
 rule-name-good : (sig : Signature) (rule : Rule) → SoundRule sig rule → (k : ℕ) → GoodName (groupName rule ++ (underscore ∷ decimal k))
 unfolding badName all
@@ -294,12 +292,6 @@ untouched-good sig rule = record {
   where
     clash : {r : Reached} → none ≡ some r → _≡_ {A = ℕ} 0 1
     clash e = cc
-
--- Structure 0.
-each-each : {A B C : Type 0} (f : B → C) (g : A → B) (xs : List A) → each f (each g xs) ≡ each (λ (a : A). f (g a)) xs
-unfolding each
-each-each f g [] = refl
-each-each f g (x ∷ xs) = rw (each-each f g xs)
 
 module _ (sig : Signature) (rule : Rule) (sound : SoundRule sig rule) where
   abbrev first : Structure

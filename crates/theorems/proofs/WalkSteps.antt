@@ -20,8 +20,8 @@ use Rattle.definition.specs.Rows.{inImage}
 use Rattle.definition.specs.Kinds.{Step, typeIn, mapStep}
 use Rattle.definition.specs.Walk.{State, Reached, structureAt, noStructure, mapOfPair, pairsBetween, ofPair, completed, walkedKinds, sideOf, reach, takenOver, walkMap, walkFrom, walkOf, initialState, unmappedAuxiliary, unmappedKind}
 use Rattle.laws.proofs.Lists.{and-left, and-right, and-true, never, mem-keep, keep-mem, mem-joined, joined-mem, first-mem, picked, length-each, mem-at}
+use Rattle.laws.specs.Sound.{SoundRule}
 use Rattle.theorems.proofs.Good.{GoodVariable}
-use Rattle.laws.proofs.Sound.{SoundRule}
 use Rattle.laws.proofs.Numbering.{carried-pair, not-carried, one-image, variable-taken}
 use Rattle.theorems.proofs.StepLaws.{MapFacts, step-good}
 use Rattle.theorems.proofs.WalkLaws.{SlotGood, StateGood, Taken, target-below, countOf, reach-good, statement-more, initial-good}

@@ -8,12 +8,12 @@ use mathlib.Core.Option.{some}
 use Rattle.definition.specs.Rule.{MorphismKind, If, SurjThen, NonSurjThen, Noop}
 use Rattle.definition.specs.Group.{Variable, Statement}
 use Rattle.definition.specs.Signature.{Signature}
-use Rattle.laws.proofs.StepForm.{own, conclusions}
-use Rattle.rows.specs.declared.maps.Map.{Map}
-use Rattle.kinds.specs.Table.{kindIn}
-use Rattle.steps.specs.Steps.{IfDoes, SurjDoes, NonSurjDoes}
-use Rattle.steps.specs.declared.step.Step.{Step}
-use Rattle.steps.specs.declared.step.Step.the-variants.{Adds, Refused}
+use Rattle.rule.specs.declared.maps.Map.{Map}
+use Rattle.plan.specs.Table.{kindIn}
+use Rattle.kinds.specs.Steps.{IfDoes, SurjDoes, NonSurjDoes}
+use Rattle.kinds.specs.declared.step.Step.{Step}
+use Rattle.kinds.specs.declared.step.Step.the-variants.{Adds, Refused}
+use Rattle.laws.specs.Steps.{own, conclusions}
 use Rattle.walk.specs.Tables.{ownBy, concludedBy}
 use Rattle.walk.specs.Went.{Does}
 

@@ -19,19 +19,19 @@ use Rattle.definition.specs.Walk.{walkFrom, initialState, walkedKinds, nothingT
 use Rattle.laws.proofs.WalkRefusals.{walk-refuses}
 use Rattle.rule.specs.Elements.{countAt}
 use Rattle.rule.specs.Lookup.{ruleAt}
-use Rattle.naming.specs.Structures.{structureIn}
+use Rattle.rule.specs.Structures.{structureIn}
+use Rattle.flags.specs.Flags.{Held}
 use Rattle.naming.specs.Variables.{rowOf, newIn}
 use Rattle.naming.proofs.News.{typesOf}
 use Rattle.naming.proofs.Placed.{elements-are}
-use Rattle.kinds.specs.Table.{kindIn, entryAt, Tabled}
+use Rattle.plan.specs.Table.{kindIn, entryAt, Tabled}
 use Rattle.walk.specs.Tables.{Tables, tables, unreached, sourceAt, kindOn}
 use Rattle.walk.specs.Left.{leftOf, Going}
 use Rattle.walk.specs.Ended.{Ground}
-use Rattle.walk.specs.Went.{stopIn}
-use Rattle.walk.specs.Went.{Met, wholeWalk, Went, toWalk, Begun, Walks}
+use Rattle.walk.specs.Went.{stopIn, Met, wholeWalk, Went, toWalk, Begun, Walks}
 use Rattle.walk.specs.declared.walk.Walked.{Walked}
 use Rattle.walk.specs.declared.walk.Walked.the-variants.{On, Refused}
-use Rattle.kinds.proofs.TableLaws.{kind-some, kind-none}
+use Rattle.plan.proofs.TableLaws.{kind-some, kind-none}
 use Rattle.walk.proofs.Grounds.{first-laid, first-rows}
 use Rattle.walk.proofs.Starting.{started}
 use Rattle.walk.proofs.Reaching.{news-none, emitted-none}
@@ -157,7 +157,7 @@ pub first-typed : {sig : Signature} {s index : List ℕ} (types : List ℕ) {n :
 first-typed types gr e h = let o = gr .some-one in omega arith
 
 -- The walk begins: of the structures only 0 has a row of variables.
-pub begin-walk : {sig : Signature} {s index : List ℕ} → Ground sig s index → {sources types types′ row : List ℕ} {masks vars : List (List ℕ)} {next n : ℕ} → Begun sources masks vars types
+pub begin-walk : {sig : Signature} {s index : List ℕ} → Ground sig s index → {sources types types′ row : List ℕ} {masks : List (List Held)} {vars : List (List ℕ)} {next n : ℕ} → Begun sources masks vars types
     → n ≡ length (ruleAt s .structures) → fieldLimit * n ≤ length types
     → row ≡ rowOf (numbered 0 (nothingTaken (structureIn s 0))) → types′ ≡ sets types 0 (typesOf (newIn (structureIn s 0) 0 row)) → next ≡ countAt index 0
     → Under On sig s (tables sources masks (set vars 0 row)) types′ next 0 0

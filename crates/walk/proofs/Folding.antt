@@ -3,14 +3,15 @@ use Prim.Native.Nat.{ℕ, zero, suc, _+_, _-_, _≤_, _<_}
 use native.Mathlib.Omega.{arith}
 use mathlib.Core.Path.{_≡_, refl, ap, sym, _∙_}
 use mathlib.Core.Option.{none}
-use mathlib.Core.List.{List, [], _∷_, _++_, append-assoc}
+use mathlib.Core.List.{List, _∷_, _++_, append-assoc}
 use lib.ListN.{length}
 use Rattle.definition.specs.Base.{refused, accepted, onAccepted, joined, span}
 use Rattle.definition.specs.Rule.{Kind, MorphismKind}
 use Rattle.definition.specs.Signature.{Signature}
 use Rattle.definition.specs.Walk.{State, groupName, namedRules, walkFrom, walkedKinds}
-use Rattle.laws.proofs.KindTable.{kindsOf, Once, walked-table}
+use Rattle.laws.proofs.KindTable.{walked-table}
 use Rattle.rule.specs.Lookup.{ruleAt}
+use Rattle.laws.specs.KindTable.{kindsOf, Once}
 use Rattle.walk.specs.Tables.{Tables, unreached, sourceAt, kindOn, pairsOn}
 use Rattle.walk.specs.Walks.{Walking}
 use Rattle.walk.specs.Left.{into, leftOf, left, Going}
@@ -72,10 +73,6 @@ left-next s t h = go (length (ruleAt s .structures)) h
         split : (k : ℕ) → n - suc t ≡ k → leftOf s n (n - t) t n ≡ leftOf s n (n - suc t) (suc t) 0
         split zero e = let f : n - t ≡ 1 = omega arith in rw (e, f) (last-of s n t)
         split (suc k) e = let f : n - t ≡ suc (suc k) = omega arith in rw (e, f) (next-of s n k t)
-
-pub left-none : (s : List ℕ) (t : ℕ) → length (ruleAt s .structures) ≤ t → left s t 0 ≡ []
-unfolding leftOf
-left-none s t h = let e : length (ruleAt s .structures) - t ≡ 0 = omega arith in rw e
 
 -- A step of the fold.
 pub walk-on : (sig : Signature) (s : List ℕ) (state : State) (u t : ℕ) (kind : MorphismKind) (ks : List Kind)

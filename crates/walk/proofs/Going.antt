@@ -3,7 +3,7 @@ use Prim.Native.Nat.{ℕ, _+_, _≤_, _<_}
 use native.Mathlib.Omega.{arith}
 use mathlib.Core.Path.{_≡_, refl, ap, _∙_}
 use mathlib.Core.Logic.{_⊎_, inl, inr}
-use mathlib.Core.List.{List, [], _∷_}
+use mathlib.Core.List.{List, []}
 use mathlib.Core.Option.{Option, none, some}
 use lib.ListN.{length, getD, set}
 use lib.Seq.{sets}
@@ -14,26 +14,29 @@ use Rattle.definition.specs.Group.{Variable}
 use Rattle.definition.specs.Signature.{Signature}
 use Rattle.definition.specs.Names.{numbered}
 use Rattle.definition.specs.Walk.{State, Reached}
-use Rattle.laws.proofs.Numbering.{fresh}
 use Rattle.rule.specs.Elements.{countAt}
 use Rattle.rule.specs.Lookup.{ruleAt}
 use Rattle.rows.specs.Kernel.{TypesOf, Merged}
-use Rattle.rows.specs.Maps.{pairsIn}
-use Rattle.rows.specs.declared.maps.Map.{Map}
-use Rattle.naming.specs.Structures.{structureIn, Laid}
+use Rattle.rule.specs.MapFields.{pairsIn}
+use Rattle.rule.specs.declared.maps.Map.{Map}
+use Rattle.rule.specs.Structures.{structureIn, Laid}
+use Rattle.flags.specs.declared.Mask.{Mask}
+use Rattle.flags.specs.Flags.{Held}
+use Rattle.flags.proofs.Words.{mask-held}
 use Rattle.naming.specs.Variables.{rowOf, keptIn, GivenOut, newIn}
 use Rattle.naming.specs.Maps.{takenOver}
 use Rattle.naming.proofs.Whole.{kept-row}
 use Rattle.naming.proofs.News.{typesOf}
 use Rattle.naming.proofs.Placed.{elements-are}
 use Rattle.statements.specs.declared.masks.Masks.{Masks}
-use Rattle.kinds.specs.Table.{kindIn}
-use Rattle.steps.specs.Steps.{Reaches}
-use Rattle.steps.specs.declared.step.Step.{Step}
-use Rattle.steps.specs.declared.step.Step.the-variants as step
+use Rattle.plan.specs.Table.{kindIn}
+use Rattle.kinds.specs.Steps.{Reaches}
+use Rattle.kinds.specs.declared.step.Step.{Step}
+use Rattle.kinds.specs.declared.step.Step.the-variants as step
+use Rattle.laws.specs.Numbering.{fresh}
 use Rattle.walk.specs.declared.walk.Walked.{Walked}
 use Rattle.walk.specs.declared.walk.Walked.the-variants.{On, Refused}
-use Rattle.walk.specs.Tables.{Tables, tables, unreached, sourceAt, rowAt}
+use Rattle.walk.specs.Tables.{Tables, tables, unreached, sourceAt, rowAt, masksOf, heldMasks}
 use Rattle.walk.specs.Walks.{Tie, Walking}
 use Rattle.walk.specs.Left.{Going}
 use Rattle.walk.specs.Ended.{Ground}
@@ -54,8 +57,9 @@ reached-or {sig} {s} {tb = tb} {state = state} w k h = go (getD (state .slots) k
     go none e = inl e
     go (some r) e = inr (e .source-in)
 
-abbrev pub flags : Masks → ℕ → List ℕ
-flags masks merged = masks .preds ∷ masks .funcs ∷ masks .members ∷ masks .free ∷ merged ∷ []
+-- A row of masks says what was put into it.
+masks-held : (masks : Masks) (merged : Mask) → masksOf (heldMasks masks merged) ≡ masks
+masks-held masks merged = rw (mask-held (masks .preds), mask-held (masks .funcs), mask-held (masks .members), mask-held (masks .free))
 
 module _ {sig : Signature} {s index types : List ℕ} {tb : Tables} {next t u number : ℕ} (gr : Ground sig s index) (met : Met s u t number) (g : Going sig s tb types next t u) where
   read-source : getD (tb .sources) u 0 ≡ sourceAt tb u
@@ -158,12 +162,14 @@ module _ {sig : Signature} {s index types : List ℕ} {tb : Tables} {next t u nu
   fresh-is : {more count : ℕ} → more ≡ fresh (keptIn next count target) → count ≡ countAt index t → next + more ≡ next + fresh (taken o p)
   fresh-is e c = ap (λ (x : ℕ). next + x) (e ∙ rw (target-row, c, ← (elements-are (target-laid o))) (ap fresh (kept-row (below o p) (long o p))))
 
-  pub went-on : {r : Step} {masks : Masks} {merged : ℕ} {sources′ types′ : List ℕ} {masks′ grown : List (List ℕ)} {more count next′ : ℕ} → Answered r → r ≡ step.Adds masks
+  pub went-on : {r : Step} {masks : Masks} {merged : Mask} {sources′ types′ : List ℕ} {masks′ : List (List Held)} {grown : List (List ℕ)} {more count next′ : ℕ} → Answered r → r ≡ step.Adds masks
       → more ≡ fresh (keptIn next count target) → count ≡ countAt index t → types′ ≡ sets types next (typesOf (newIn (structureIn s t) next target))
-      → sources′ ≡ set (tb .sources) t u → masks′ ≡ set (tb .masks) t (flags masks merged) → Merged merged (structureIn s t) (pairsIn s m) → next′ ≡ next + more → grown ≡ set (tb .vars) t target
+      → sources′ ≡ set (tb .sources) t u → masks′ ≡ set (tb .masks) t (heldMasks masks merged) → Merged merged (structureIn s t) (pairsIn s m) → next′ ≡ next + more → grown ≡ set (tb .vars) t target
       → Went On sig s (tables sources′ masks′ grown) types′ next′ t u
   unfolding rowAt
   went-on {masks = masks} {merged} d e f c y x q g n v =
       let d′ : Does sig (o .going .state .variables) s u t m (rowAt tb u) (row o p) kind (step.Adds masks) = rw e at (does d) in
-      let w = stepped o p (flags masks merged) g (fresh-is f c) (rw target-row at y) in
-      record { is = rw (v, target-row, x, q, n) (go-on (o .going) (o .met) (map-accepted o p (flags masks merged) (d′ .is .0) (d′ .is .1 .0) (d′ .is .1 .1)) w) }
+      let w = stepped o p (heldMasks masks merged) (rw (mask-held merged) g) (fresh-is f c) (rw target-row at y) in
+      let h = masks-held masks merged in
+      record { is = rw (v, target-row, x, q, n) (go-on (o .going) (o .met)
+        (map-accepted o p (heldMasks masks merged) (d′ .is .0) (rw h (d′ .is .1 .0)) (rw (h, mask-held (masks .funcs)) (d′ .is .1 .1))) w) }

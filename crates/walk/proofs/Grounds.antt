@@ -22,25 +22,23 @@ use Rattle.rule.specs.Lookup.{Ready, ruleAt}
 use Rattle.rule.proofs.Saying.{structures-are}
 use Rattle.records.specs.Places.{Run}
 use Rattle.records.proofs.Runs.{run-same}
-use Rattle.rows.proofs.Accepted.{small-arities}
-use Rattle.naming.specs.Structures.{structureIn, Laid, ByteTypes}
-use Rattle.naming.proofs.Opening.{headed}
-use Rattle.statements.specs.Structures.{SoundAt}
-use Rattle.statements.proofs.Structures.{sound-at}
-use Rattle.kinds.proofs.SoundParts.{between, sound-map, structures-few, kinds-once}
-use Rattle.kinds.proofs.Walked.{kind-mapped}
+use Rattle.rule.proofs.Accepted.{small-arities}
+use Rattle.rule.specs.Structures.{structureIn, Laid, ByteTypes, SoundAt}
+use Rattle.rule.proofs.Opening.{headed}
+use Rattle.rule.proofs.Sound.{sound-at}
+use Rattle.rule.proofs.SoundParts.{between, sound-map, structures-few, kinds-once}
+use Rattle.plan.proofs.Walked.{kind-mapped}
 use Rattle.walk.specs.Tables.{Keyed, kindOn, pairsOn}
-use Rattle.walk.specs.Ended.{Ground}
-use Rattle.walk.specs.Ended.{Readable}
+use Rattle.walk.specs.Ended.{Ground, Readable}
 use Rattle.walk.proofs.Starting.{FewRows}
 
 -- Every auxiliary and every kind has its map.
 abbrev pub AllMapped : List ℕ → Type 0
 AllMapped s = (unmappedAuxiliary (ruleAt s) ≡ false) × (unmappedKind (ruleAt s) ≡ false)
 
-module _ {sig arities s index : List ℕ} {counts : Counts} {n : ℕ} (w : Readable sig arities counts s index n) where
+module _ {sig symbols s index : List ℕ} {counts : Counts} {n : ℕ} (w : Readable sig symbols counts s index n) where
   pub ready : Ready s index
-  ready = record { sig = signatureAt sig arities counts; count = n; indexed = w .rule-indexed }
+  ready = record { sig = signatureAt sig symbols counts; count = n; indexed = w .rule-indexed }
 
   pub counted : n ≡ length (ruleAt s .structures)
   unfolding ready
@@ -59,10 +57,10 @@ module _ {sig arities s index : List ℕ} {counts : Counts} {n : ℕ} (w : Reada
           let q = sound-map ready (b .map) (b .in-maps) in
           let k : p .key ∈ numbersOf (structureAt (ruleAt s) (b .map .source)) = q .keys-in p (rw (b .pairs-are) i) in rw (b .source-is) at k
 
-  pub sound-one : (k : ℕ) → k < length (ruleAt s .structures) → SoundAt (signatureAt sig arities counts) s index k
+  pub sound-one : (k : ℕ) → k < length (ruleAt s .structures) → SoundAt (signatureAt sig symbols counts) s index k
   sound-one k h = let c = counted in sound-at (w .rule-indexed) (small-arities sig (w .signature-read)) k (omega arith)
 
-  pub ground : AllMapped s → Ground (signatureAt sig arities counts) s index
+  pub ground : AllMapped s → Ground (signatureAt sig symbols counts) s index
   unfolding kindOn
   ground a = record {
     ready = ready;
@@ -72,7 +70,7 @@ module _ {sig arities s index : List ℕ} {counts : Counts} {n : ℕ} (w : Reada
     mapped = λ u t kind e. kind-mapped ready (a .0) (a .1) u t e .has-map;
     keyed = keyed;
     once = kinds-once ready;
-    headed = headed (signatureAt sig arities counts) s (w .rule-read);
+    headed = headed (signatureAt sig symbols counts) s (w .rule-read);
     types-few = sound-signature sig (w .signature-read) .types-few;
   }
 

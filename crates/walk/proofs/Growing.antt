@@ -1,11 +1,11 @@
 -- A structure is reached: what the tables said of the others they say still.
 use Prim.Native.Nat.{ℕ, _<_}
-use mathlib.Core.Path.{_≡_, refl, ap, _∙_}
+use mathlib.Core.Path.{_≡_, ap, _∙_}
 use mathlib.Core.Option.{Option, none, some}
-use mathlib.Core.List.{List, [], _∷_, _++_, List·Memᴰ·head, List·Memᴰ·tail}
-use lib.ListN.{length, getD, set, List·getD-append}
+use mathlib.Core.List.{List, [], _++_}
+use lib.ListN.{length, set, List·getD-append}
 use lib.Seq.{getD-set-same, getD-set-other}
-use Rattle.definition.specs.Base.{each, _∈_}
+use Rattle.definition.specs.Base.{_∈_}
 use Rattle.definition.specs.Rule.{Pair}
 use Rattle.definition.specs.Group.{Variable}
 use Rattle.definition.specs.Signature.{Signature}
@@ -13,15 +13,11 @@ use Rattle.definition.specs.Kinds.{Side, variableIn, typeIn, kernelVariables, e
 use Rattle.definition.specs.Walk.{Reached}
 use Rattle.laws.proofs.Lists.{mem-each}
 use Rattle.laws.proofs.Fibers.{kernel-in}
-use Rattle.naming.specs.Structures.{structureIn}
+use Rattle.rule.specs.Structures.{structureIn}
 use Rattle.naming.specs.Variables.{GivenOut}
-use Rattle.walk.specs.Tables.{Tables, unreached, sourceAt, rowAt, masksOf, masksAt, mergedAt, pairsOn, Keyed, reachedBy, equalitiesAt, saidAt, domainsAt, ownAt, concludedAt, statementsOf, statementsAt, before}
-
--- Functions that agree on a list.
-pub each-alike : {A B : Type 0} (f g : A → B) (xs : List A) → ((a : A) → a ∈ xs → f a ≡ g a) → each f xs ≡ each g xs
-unfolding each
-each-alike f g [] h = refl
-each-alike f g (x ∷ xs) h = rw (h x (List·Memᴰ·head refl), each-alike f g xs (λ a m. h a (List·Memᴰ·tail m)))
+use Rattle.walk.specs.Tables.{Tables, unreached, sourceAt, rowAt, masksOf, masksAt, mergedAt, pairsOn, Keyed, reachedBy, equalitiesAt, saidAt, domainsAt, ownAt, concludedAt, statementsOf, statementsAt, before, maskIn}
+use Rattle.flags.specs.Flags.{Held}
+use Rattle.laws.proofs.Choices.{each-alike}
 
 -- The type of a variable stays when others are given out.
 pub type-stays : (table news : List Variable) (v : ℕ) → v < length table → typeIn (table ++ news) v ≡ typeIn table v
@@ -42,10 +38,10 @@ equalities-stay sig table news source target pairs h =
         rw (type-stays table news (p .key) l))
 
 -- The tables with a structure more.
-abbrev pub grown : Tables → ℕ → ℕ → List ℕ → List ℕ → Tables
+abbrev pub grown : Tables → ℕ → ℕ → List Held → List ℕ → Tables
 grown tb t u ms row = record { sources = set (tb .sources) t u; masks = set (tb .masks) t ms; vars = set (tb .vars) t row }
 
-module _ (tb : Tables) (t u : ℕ) (ms row : List ℕ) where
+module _ (tb : Tables) (t u : ℕ) (ms : List Held) (row : List ℕ) where
   pub source-other : (k : ℕ) → (k ≡ t → ⊥) → sourceAt (grown tb t u ms row) k ≡ sourceAt tb k
   unfolding sourceAt
   source-other k d = getD-set-other (tb .sources) t k u unreached d
@@ -60,7 +56,7 @@ module _ (tb : Tables) (t u : ℕ) (ms row : List ℕ) where
 
   pub merged-other : (k : ℕ) → (k ≡ t → ⊥) → mergedAt (grown tb t u ms row) k ≡ mergedAt tb k
   unfolding mergedAt
-  merged-other k d = ap (λ (r : List ℕ). getD r 4 0) (getD-set-other (tb .masks) t k ms [] d)
+  merged-other k d = ap (λ (r : List Held). maskIn r 4) (getD-set-other (tb .masks) t k ms [] d)
 
   pub source-same : t < length (tb .sources) → sourceAt (grown tb t u ms row) t ≡ u
   unfolding sourceAt
@@ -74,12 +70,12 @@ module _ (tb : Tables) (t u : ℕ) (ms row : List ℕ) where
   unfolding masksAt
   masks-same h = ap masksOf (getD-set-same (tb .masks) t ms [] h)
 
-  pub merged-same : t < length (tb .masks) → mergedAt (grown tb t u ms row) t ≡ getD ms 4 0
+  pub merged-same : t < length (tb .masks) → mergedAt (grown tb t u ms row) t ≡ maskIn ms 4
   unfolding mergedAt
-  merged-same h = ap (λ (r : List ℕ). getD r 4 0) (getD-set-same (tb .masks) t ms [] h)
+  merged-same h = ap (λ (r : List Held). maskIn r 4) (getD-set-same (tb .masks) t ms [] h)
 
 -- A structure reached before stays as it was.
-module _ (sig : Signature) (s : List ℕ) (keyed : Keyed s) (table news : List Variable) (tb : Tables) (t u : ℕ) (ms row : List ℕ) (k : ℕ) (d : k ≡ t → ⊥) (e : sourceAt tb k ≡ t → ⊥)
+module _ (sig : Signature) (s : List ℕ) (keyed : Keyed s) (table news : List Variable) (tb : Tables) (t u : ℕ) (ms : List Held) (row : List ℕ) (k : ℕ) (d : k ≡ t → ⊥) (e : sourceAt tb k ≡ t → ⊥)
     (given : GivenOut (structureIn s (sourceAt tb k)) (rowAt tb (sourceAt tb k)) (length table)) where
   abbrev more : Tables
   more = grown tb t u ms row
@@ -111,7 +107,7 @@ module _ (sig : Signature) (s : List ℕ) (keyed : Keyed s) (table news : List V
   concluded-stays = rw (kind-stays, equalities-at, said-stays, domains-stay, masks-other tb t u ms row k d)
 
 -- The statements of another slot.
-module _ (slots : List (Option Reached)) (tb : Tables) (t u : ℕ) (ms row : List ℕ) (r : Reached) where
+module _ (slots : List (Option Reached)) (tb : Tables) (t u : ℕ) (ms : List Held) (row : List ℕ) (r : Reached) where
   pub statements-other : (k : ℕ) → (k ≡ t → ⊥) → statementsAt (set slots t (some r)) k ≡ statementsAt slots k
   unfolding statementsAt
   statements-other k d = ap statementsOf (getD-set-other slots t k (some r) none d)

@@ -13,14 +13,16 @@ use Rattle.definition.specs.Names.{numbered}
 use Rattle.definition.specs.Kinds.{Side, Step, unless}
 use Rattle.definition.specs.Walk as walk
 use Rattle.definition.specs.Walk.{Reached, State, sideOf, structureAt, reach, walkMap}
-use Rattle.laws.proofs.StepForm.{stepFault, own, conclusions, stepWith, step-form}
+use Rattle.laws.proofs.StepForm.{step-form}
 use Rattle.rule.specs.Lookup.{ruleAt}
-use Rattle.rows.specs.Maps.{pairsIn}
-use Rattle.rows.specs.declared.maps.Map.{Map}
-use Rattle.naming.specs.Structures.{structureIn}
+use Rattle.rule.specs.MapFields.{pairsIn}
+use Rattle.rule.specs.declared.maps.Map.{Map}
+use Rattle.rule.specs.Structures.{structureIn}
+use Rattle.flags.specs.Flags.{Held}
 use Rattle.naming.specs.Variables.{variablesIn}
 use Rattle.naming.proofs.Whole.{take-row, length-numbered}
 use Rattle.statements.specs.Structures.{sideIn}
+use Rattle.laws.specs.Steps.{stepFault, own, conclusions, stepWith}
 use Rattle.walk.specs.Tables.{Tables, unreached, sourceAt, rowAt, masksOf, pairsOn, ownBy, concludedBy}
 use Rattle.walk.specs.Walks.{Tie, Ties, Walking}
 use Rattle.walk.proofs.Reaching.{is-reached}
@@ -105,7 +107,7 @@ module _ {sig : Signature} {s index : List ℕ} {tb : Tables} {types : List ℕ}
   pub map-refused : {n : ℕ} → fault ≡ some n → walked sig s (o .going .state) u t kind ≡ refused n
   map-refused e = walked-form ∙ rw e
 
-  pub map-accepted : (ms : List ℕ) → fault ≡ none → appended ≡ ownBy (some kind) (eqs o p) (said o p ms)
+  pub map-accepted : (ms : List Held) → fault ≡ none → appended ≡ ownBy (some kind) (eqs o p) (said o p ms)
       → concludes ≡ concludedBy (some kind) (masksOf ms .funcs) (eqs o p) (said o p ms) (domains o p ms)
       → walked sig s (o .going .state) u t kind ≡ accepted (state′ o p ms)
   map-accepted ms e a b = walked-form ∙ rw e (ap accepted (reach-is o p ms _ _ (rw (o .met .on) a) (rw (o .met .on) b)))

@@ -13,15 +13,16 @@ use Rattle.definition.specs.Limits.{structureLimit, fieldLimit, variableLimit}
 use Rattle.definition.specs.Rule.{Structure}
 use Rattle.definition.specs.Writer.{recordBytes, variableField}
 use Rattle.laws.proofs.Lists.{each-append, length-each}
-use Rattle.laws.proofs.Numbering.{fresh, fresh-few, new-length}
+use Rattle.laws.proofs.Numbering.{fresh-few, new-length}
 use Rattle.laws.proofs.ByteForm.{record-append}
 use Rattle.records.specs.Buffer.{Put, countLimit}
 use Rattle.records.proofs.Tail.{nothing, then}
 use Rattle.rule.specs.Elements.{countAt}
 use Rattle.rule.specs.Lookup.{ruleAt}
-use Rattle.naming.specs.Structures.{structureIn, Laid}
+use Rattle.rule.specs.Structures.{structureIn, Laid}
 use Rattle.naming.specs.Variables.{keptBy, keptIn, newIn}
 use Rattle.naming.proofs.Placed.{elements-are, element-few}
+use Rattle.laws.specs.Numbering.{fresh}
 use Rattle.walk.specs.Tables.{Tables, unreached, sourceAt, rowAt, newsTo}
 use Rattle.walk.specs.Ended.{Numbered}
 

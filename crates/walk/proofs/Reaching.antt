@@ -16,10 +16,11 @@ use Rattle.definition.specs.Rule.{Structure}
 use Rattle.definition.specs.Group.{Variable}
 use Rattle.definition.specs.Signature.{Signature}
 use Rattle.definition.specs.Walk.{Reached, State}
-use Rattle.laws.proofs.StepForm.{emitted}
 use Rattle.rule.specs.Lookup.{ruleAt}
-use Rattle.naming.specs.Structures.{structureIn}
+use Rattle.rule.specs.Structures.{structureIn}
+use Rattle.flags.specs.Flags.{Held}
 use Rattle.naming.specs.Variables.{GivenOut, newIn}
+use Rattle.laws.specs.Steps.{emitted}
 use Rattle.walk.specs.Tables.{Tables, unreached, sourceAt, concludedAt, before, newsTo, emittedTo}
 use Rattle.walk.specs.Walks.{ReachedAt, Tie, Ties}
 use Rattle.walk.proofs.Walkable.{Walkable}
@@ -54,7 +55,7 @@ unfolding emittedTo
 emitted-none sig s tb state t e = rw (e, append-nil)
 
 module _ {sig : Signature} {s index : List ℕ} {tb : Tables} {types : List ℕ} {next t u number : ℕ} (o : Walkable sig s index tb types next t u number)
-    (news : List Variable) (ms row : List ℕ) (r : Reached) where
+    (news : List Variable) (ms : List Held) (row : List ℕ) (r : Reached) where
   abbrev table : List Variable
   table = o .going .state .variables
 

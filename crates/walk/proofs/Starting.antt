@@ -4,12 +4,11 @@ use native.Mathlib.Omega.{arith}
 use native.Mathlib.Decide.{ℕ-discrete}
 use native.Mathlib.Nat.{zero-add}
 use mathlib.Core.Path.{_≡_, refl, ap, sym, _∙_}
-use mathlib.Core.Bool.{true}
 use mathlib.Core.Option.{Option, none, some}
-use mathlib.Core.List.{List, [], _∷_, List·Memᴰ·head, List·Memᴰ·tail}
+use mathlib.Core.List.{List, [], _∷_}
 use lib.ListN.{length, getD, set, replicate, length-set, length-replicate}
 use lib.Seq.{sets, length-sets, getD-set-same, getD-set-other}
-use Rattle.definition.specs.Base.{keep, each, all, span, placeFrom, _∈_}
+use Rattle.definition.specs.Base.{keep, each, placeFrom, _∈_}
 use Rattle.definition.specs.Limits.{structureLimit, fieldLimit}
 use Rattle.definition.specs.Rule.{Structure, Element}
 use Rattle.definition.specs.Group.{Variable}
@@ -18,46 +17,31 @@ use Rattle.definition.specs.Names.{numbersOf, numbered, newVariables}
 use Rattle.definition.specs.Rows.{members, rowsOf, lastElement}
 use Rattle.definition.specs.Kinds.{typeIn, initialStatements}
 use Rattle.definition.specs.Walk.{Reached, State, sideOf, reach, nothingTaken, initialState, namedRules, groupName}
-use Rattle.laws.proofs.Lists.{all-mem, each-mem, length-each, getD-each}
-use Rattle.laws.proofs.Numbering.{fresh, new-length, place-in}
-use Rattle.laws.proofs.RowLaws.{members-mem}
+use Rattle.laws.proofs.Lists.{each-mem, length-each, getD-each}
+use Rattle.laws.proofs.Numbering.{new-length, place-in}
+use Rattle.laws.proofs.RowLaws.{members-mem, member-last}
 use Rattle.rule.specs.Lookup.{ruleAt}
 use Rattle.rows.specs.Kernel.{TypesOf}
-use Rattle.rows.proofs.Kept.{member-last}
 use Rattle.rows.proofs.Whole.{keep-all}
-use Rattle.naming.specs.Structures.{structureIn}
+use Rattle.rule.specs.Structures.{structureIn}
+use Rattle.flags.specs.Flags.{places, allFlags}
+use Rattle.flags.proofs.Words.{all-flag, all-held}
 use Rattle.naming.specs.Variables.{noVar, rowOf, newIn}
 use Rattle.naming.proofs.Whole.{take-row, length-numbered}
 use Rattle.naming.proofs.Carrying.{nothing-below, length-nothing}
 use Rattle.naming.proofs.News.{typesOf}
 use Rattle.naming.proofs.Placed.{length-numbers-of}
 use Rattle.naming.proofs.Reached.{new-row, types-more}
-use Rattle.flags.specs.Flags.{flagAt}
 use Rattle.statements.specs.Said.{flaggedFrom, memberFlag, saidBy}
-use Rattle.walk.specs.Tables.{Tables, unreached, sourceAt, rowAt, masksOf, allFlags, allMasks, noMasks, masksAt, reachedBy, ownBy, saidAt, ownAt, concludedBy, concludedAt, before, newsTo, emittedTo}
+use Rattle.laws.specs.Numbering.{fresh}
+use Rattle.walk.specs.Tables.{Tables, unreached, sourceAt, rowAt, masksOf, allMasks, noMasks, masksAt, reachedBy, ownBy, saidAt, ownAt, concludedBy, concludedAt, before, newsTo, emittedTo}
 use Rattle.walk.specs.Walks.{ReachedAt, Tie, Ties, Walking}
 use Rattle.walk.proofs.Stepping.{numbered-given}
 
-span-mem : (k a i : ℕ) → a ≤ i → i < a + k → i ∈ span k a
-unfolding span
-span-mem zero a i h l = absurd (omega arith)
-span-mem (suc k) a i h l = go (ℕ-discrete i a) (λ d. span-mem k (a + 1) i (omega arith) (omega arith))
-  where
-    go : Dec (i ≡ a) → ((i ≡ a → ⊥) → i ∈ span k (a + 1)) → i ∈ (a ∷ span k (a + 1))
-    go (yes e) r = List·Memᴰ·head e
-    go (no d) r = List·Memᴰ·tail (r d)
-
-all-set : all (flagAt allFlags) (span 64 0) ≡ true
-unfolding all span
-all-set = refl
-
-pub flag-set : (i : ℕ) → i < 64 → flagAt allFlags i ≡ true
-flag-set i h = all-mem (flagAt allFlags) (span 64 0) all-set (span-mem 64 0 i (omega arith) (omega arith))
-
-flagged-all : {A : Type 0} (i : ℕ) (xs : List A) → i + length xs ≤ 64 → flaggedFrom allFlags i xs ≡ xs
+flagged-all : {A : Type 0} (i : ℕ) (xs : List A) → i + length xs ≤ places → flaggedFrom allFlags i xs ≡ xs
 unfolding flaggedFrom
 flagged-all i [] h = refl
-flagged-all i (x ∷ xs) h = rw (flag-set i (omega arith), flagged-all (i + 1) xs (omega arith))
+flagged-all i (x ∷ xs) h = rw (all-flag i (omega arith), flagged-all (i + 1) xs (omega arith))
 
 -- A structure with all flags set says all its rows.
 pub record FewRows (st : Structure) : Type 0 where
@@ -72,13 +56,13 @@ members-flagged st h = keep-all _ (members st) (λ r m.
     let e : lastElement r ≡ w .0 .number = ap lastElement (w .3) ∙ member-last (w .0) in
     let i : lastElement r ∈ numbersOf st = rw e (each-mem (λ (x : Element). x .number) (st .elements) (w .1)) in
     let p = place-in (lastElement r) (numbersOf st) i in
-    let l = length-numbers-of st in flag-set (placeFrom 0 (lastElement r) (numbersOf st)) (omega arith))
+    let l = length-numbers-of st in all-flag (placeFrom 0 (lastElement r) (numbersOf st)) (omega arith))
 
 pub said-all : (st : Structure) → FewRows st → (variables : List ℕ) → saidBy st variables (masksOf allMasks) ≡ initialStatements (record { structure = st; variables = variables })
 unfolding saidBy initialStatements rowsOf
 said-all st f variables =
     let p = f .preds in let q = f .funcs in let e = f .elements in
-    rw (flagged-all 0 (st .predRows) (omega arith), flagged-all 0 (st .funcRows) (omega arith), flagged-all 0 (st .elements) (omega arith), members-flagged st e)
+    rw (all-held, flagged-all 0 (st .predRows) (omega arith), flagged-all 0 (st .funcRows) (omega arith), flagged-all 0 (st .elements) (omega arith), members-flagged st e)
 
 getD-default : (n k a : ℕ) → getD (replicate n a) k a ≡ a
 getD-default zero k a = refl

@@ -5,7 +5,7 @@ use native.Mathlib.Nat.{zero-add}
 use mathlib.Core.Path.{_≡_, refl, ap, sym, _∙_}
 use mathlib.Core.Logic.{_⊎_, inl, inr}
 use mathlib.Core.Option.{Option, none, some}
-use mathlib.Core.List.{List, [], _∷_, _++_}
+use mathlib.Core.List.{List, _++_}
 use lib.ListN.{length, getD, set, length-append}
 use lib.Seq.{sets, length-sets}
 use borrow.Author.Tests.{ne-eqb}
@@ -18,14 +18,14 @@ use Rattle.definition.specs.Names.{numbersOf, variableAt, numbered, newVariable
 use Rattle.definition.specs.Kinds.{Emitted, Step, equalities}
 use Rattle.definition.specs.Walk.{Reached, State, groupName, namedRules, reach, structureAt}
 use Rattle.laws.proofs.Lists.{trichotomy, mem-at}
-use Rattle.laws.proofs.Numbering.{fresh, numbered-some, numbered-none, fresh-below, fresh-few, new-length, place-in}
-use Rattle.laws.proofs.StepForm.{emitted}
-use Rattle.laws.proofs.ByteForm.{named-append}
+use Rattle.laws.proofs.Numbering.{numbered-some, numbered-none, fresh-below, fresh-few, new-length, place-in}
+use Rattle.laws.proofs.ByteForm.{named-append, named-length}
 use Rattle.rule.specs.Lookup.{ruleAt}
 use Rattle.rows.specs.Kernel.{Merged}
-use Rattle.rows.specs.Maps.{pairsIn}
-use Rattle.rows.specs.declared.maps.Map.{Map}
-use Rattle.naming.specs.Structures.{structureIn}
+use Rattle.rule.specs.MapFields.{pairsIn}
+use Rattle.rule.specs.declared.maps.Map.{Map}
+use Rattle.rule.specs.Structures.{structureIn}
+use Rattle.flags.specs.Flags.{Held}
 use Rattle.naming.specs.Variables.{rowOf, variablesIn, GivenOut, newIn}
 use Rattle.naming.specs.Maps.{takenOver}
 use Rattle.naming.proofs.Whole.{TakenBelow, take-row, length-numbered}
@@ -35,7 +35,9 @@ use Rattle.naming.proofs.Placed.{length-numbers-of, element-few}
 use Rattle.naming.proofs.Reached.{new-row, types-more}
 use Rattle.statements.specs.Said.{saidBy, domainsBy}
 use Rattle.statements.specs.Structures.{sideIn}
-use Rattle.walk.specs.Tables.{Tables, unreached, sourceAt, rowAt, masksOf, masksAt, mergedAt, kindOn, ownBy, concludedBy, reachedBy, equalitiesAt, saidAt, domainsAt, ownAt, concludedAt, statementsOf, statementsAt, before, newsTo, emittedTo}
+use Rattle.laws.specs.Numbering.{fresh}
+use Rattle.laws.specs.Steps.{emitted}
+use Rattle.walk.specs.Tables.{Tables, unreached, sourceAt, rowAt, masksOf, masksAt, mergedAt, kindOn, ownBy, concludedBy, reachedBy, equalitiesAt, saidAt, domainsAt, ownAt, concludedAt, statementsOf, statementsAt, before, newsTo, emittedTo, maskIn}
 use Rattle.walk.specs.Walks.{ReachedAt, Walking}
 use Rattle.walk.proofs.Walkable.{Walkable, MapAt}
 use Rattle.walk.proofs.Growing.{grown, source-other, source-same, row-other, row-same, masks-same, merged-same, statements-other, equalities-stay}
@@ -60,11 +62,6 @@ numbered-given st {n} cs t long = record {
       let q = length-numbers-of st in
       rw (take-row (numbered n cs) l) (entry-below cs t (placeFrom 0 e (numbersOf st)) (omega arith));
 }
-
-length-named : (group : List ℕ) (count : ℕ) (es : List Emitted) → length (namedRules group count es) ≡ length es
-unfolding namedRules
-length-named group count [] = refl
-length-named group count (e ∷ es) = rw (length-named group (count + 1) es)
 
 -- A state that is reached, with the next number named.
 reach-form : (rule : Rule) (state : State) (t : ℕ) (taken : List (Option ℕ)) (step : Step) (n : ℕ) → n ≡ length (state .variables) → reach rule state t taken step ≡ record {
@@ -148,7 +145,7 @@ module _ {sig : Signature} {s index : List ℕ} {tb : Tables} {types : List ℕ}
     eqs = equalities sig (state .variables) (sideIn s u (rowAt tb u)) (sideIn s t row) (pairsIn s m)
 
     -- With the masks of what it adds.
-    module _ (ms : List ℕ) where
+    module _ (ms : List Held) where
       abbrev more : Tables
       more = grown tb t u ms row
 
@@ -161,7 +158,7 @@ module _ {sig : Signature} {s index : List ℕ} {tb : Tables} {types : List ℕ}
       masks-are : masksAt more t ≡ masksOf ms
       masks-are = let a = w .ties .masks-long in let i = in-limit in masks-same tb t u ms row (omega arith)
 
-      merged-is : mergedAt more t ≡ getD ms 4 0
+      merged-is : mergedAt more t ≡ maskIn ms 4
       merged-is = let a = w .ties .masks-long in let i = in-limit in merged-same tb t u ms row (omega arith)
 
       abbrev pub said : List Statement
@@ -215,7 +212,7 @@ module _ {sig : Signature} {s index : List ℕ} {tb : Tables} {types : List ℕ}
       counted : next + fresh taken ≡ length (state .variables ++ news)
       counted = let z = w .next-is in rw (length-append, count-news) (omega arith)
 
-      new-one : Merged (getD ms 4 0) (structureIn s t) (pairsIn s m) → ReachedAt sig (state .variables ++ news) s more slots′ t after
+      new-one : Merged (maskIn ms 4) (structureIn s t) (pairsIn s m) → ReachedAt sig (state .variables ++ news) s more slots′ t after
       new-one g = record {
         source-in = rw source-is lower;
         source-down = λ h. rw source-is down;
@@ -241,11 +238,11 @@ module _ {sig : Signature} {s index : List ℕ} {tb : Tables} {types : List ℕ}
       rules-are : state′ .rules ≡ namedRules (groupName (ruleAt s)) 0 (emittedTo sig (state .variables ++ news) s more slots′ (suc t))
       rules-are =
           let g = emitted-grown o news ms row after in-limit lower in
-          let l : length (state .rules) ≡ length rules-before = ap length rules-far ∙ length-named (groupName (ruleAt s)) 0 rules-before in
+          let l : length (state .rules) ≡ length rules-before = ap length rules-far ∙ named-length (groupName (ruleAt s)) 0 rules-before in
           let a = named-append (groupName (ruleAt s)) 0 rules-before (each (emitted (source .statements)) concluded) in
           rw (g, before-is, concluded-is, a, zero-add, ← l, ← rules-far)
 
-      pub stepped : Merged (getD ms 4 0) (structureIn s t) (pairsIn s m) → {next′ : ℕ} {types′ : List ℕ} → next′ ≡ next + fresh taken → types′ ≡ sets types next (typesOf (newIn (structureIn s t) next row))
+      pub stepped : Merged (maskIn ms 4) (structureIn s t) (pairsIn s m) → {next′ : ℕ} {types′ : List ℕ} → next′ ≡ next + fresh taken → types′ ≡ sets types next (typesOf (newIn (structureIn s t) next row))
           → Walking sig s more types′ next′ t state′
       stepped g e f =
           let z = w .next-is in let c = counted in

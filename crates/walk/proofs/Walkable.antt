@@ -6,9 +6,8 @@ use Rattle.definition.specs.Base.{orDefault}
 use Rattle.definition.specs.Signature.{Signature}
 use Rattle.definition.specs.Walk.{pairsBetween}
 use Rattle.rule.specs.Lookup.{ruleAt}
-use Rattle.rows.specs.Maps.{pairsIn, MapIn}
-use Rattle.rows.specs.declared.maps.Map.{Map}
-use Rattle.naming.specs.Maps.{Joins}
+use Rattle.rule.specs.MapFields.{pairsIn, MapIn, Joins}
+use Rattle.rule.specs.declared.maps.Map.{Map}
 use Rattle.walk.specs.Tables.{Tables, unreached, sourceAt, pairsOn}
 use Rattle.walk.specs.Left.{Going}
 use Rattle.walk.specs.Ended.{Ground}

@@ -11,24 +11,24 @@ use Rattle.definition.specs.Rule.{MorphismKind, readRule}
 use Rattle.definition.specs.Group.{Variable}
 use Rattle.definition.specs.Signature.{Signature, readSignature}
 use Rattle.definition.specs.Walk.{State, groupName, namedRules, pairsBetween, found, completed}
-use Rattle.laws.proofs.KindTable.{Once}
 use Rattle.signature.specs.Index.{signatureAt, Indexed}
 use Rattle.signature.specs.declared.ids.Counts.{Counts}
 use Rattle.rule.specs.Answers as rule
 use Rattle.rule.specs.Lookup.{Ready, ruleAt}
 use Rattle.rows.specs.Kernel.{TypesOf}
-use Rattle.naming.specs.Structures.{structureIn, Laid, Headed}
-use Rattle.statements.specs.Structures.{SoundAt}
-use Rattle.kinds.specs.Table.{kindIn, Tabled}
+use Rattle.rule.specs.Structures.{structureIn, Laid, Headed, SoundAt}
+use Rattle.flags.specs.Flags.{Held}
+use Rattle.plan.specs.Table.{kindIn, Tabled}
+use Rattle.laws.specs.KindTable.{Once}
 use Rattle.walk.specs.Tables.{Tables, Keyed, unreached, sourceAt, rowAt, kindOn, reachedBy, concludedAt, newsTo, emittedTo}
 use Rattle.walk.specs.Walks.{Ties}
 
 -- A signature and a rule that were accepted, with their indexes.
-pub record Readable (sig arities : List ℕ) (counts : Counts) (s index : List ℕ) (n : ℕ) : Type 0 where
-  pub signature-read : readSignature sig ≡ accepted (signatureAt sig arities counts)
-  pub signature-indexed : Indexed sig arities counts
-  pub rule-read : readRule (signatureAt sig arities counts) s ≡ accepted (ruleAt s)
-  pub rule-indexed : rule.Indexed (signatureAt sig arities counts) s index n
+pub record Readable (sig symbols : List ℕ) (counts : Counts) (s index : List ℕ) (n : ℕ) : Type 0 where
+  pub signature-read : readSignature sig ≡ accepted (signatureAt sig symbols counts)
+  pub signature-indexed : Indexed sig symbols counts
+  pub rule-read : readRule (signatureAt sig symbols counts) s ≡ accepted (ruleAt s)
+  pub rule-indexed : rule.Indexed (signatureAt sig symbols counts) s index n
 
 -- An accepted rule in which every kind has its map: 21 and 22 are behind.
 pub record Ground (sig : Signature) (s index : List ℕ) : Type 0 where
@@ -77,7 +77,7 @@ pub record ReachedBy (r : ℕ) (kinds : List (List ℕ)) (sources : List ℕ) (t
       → sourceAt tb t < unreached → t < structureLimit → kindIn r ≡ reachedBy s tb t
 
 -- Whether it was reached by a map that emits a rule: it has one conclusion, or none.
-pub record Emits (r : Bool) (kinds : List (List ℕ)) (sources : List ℕ) (masks : List (List ℕ)) (t : ℕ) : Type 0 where
+pub record Emits (r : Bool) (kinds : List (List ℕ)) (sources : List ℕ) (masks : List (List Held)) (t : ℕ) : Type 0 where
   pub is : (sig : Signature) (table : List Variable) (s : List ℕ) (tb : Tables) → tb .sources ≡ sources → tb .masks ≡ masks
       → Tabled kinds (completed (ruleAt s .maps) (ruleAt s .kinds) (ruleAt s .auxiliaries)) → length sources ≡ structureLimit
       → sourceAt tb t < unreached → t < structureLimit → length (concludedAt sig table s tb t) ≡ pick r 1 0

@@ -7,8 +7,8 @@ use Rattle.definition.specs.Base.{joined, span}
 use Rattle.definition.specs.Rule.{Kind}
 use Rattle.definition.specs.Signature.{Signature}
 use Rattle.definition.specs.Walk.{State, walkFrom, initialState, walkedKinds}
-use Rattle.laws.proofs.KindTable.{kindsOf}
 use Rattle.rule.specs.Lookup.{ruleAt}
+use Rattle.laws.specs.KindTable.{kindsOf}
 use Rattle.walk.specs.Tables.{Tables, kindOn}
 use Rattle.walk.specs.Walks.{Walking}
 

@@ -13,14 +13,16 @@ use Rattle.definition.specs.Signature.{Signature}
 use Rattle.definition.specs.Names.{numbersOf, decimal}
 use Rattle.definition.specs.Kinds.{Emitted, equalities}
 use Rattle.definition.specs.Walk.{Reached, groupName, pairsBetween, completed}
-use Rattle.laws.proofs.KindTable.{kindAt}
-use Rattle.laws.proofs.StepForm.{emitted}
 use Rattle.rule.specs.Lookup.{ruleAt}
-use Rattle.naming.specs.Structures.{structureIn}
+use Rattle.rule.specs.Structures.{structureIn}
+use Rattle.flags.specs.declared.Mask.{Mask}
+use Rattle.flags.specs.Flags.{noneSet, Held, heldOf, maskOf, noHeld, allHeld}
 use Rattle.naming.specs.Variables.{noVar, variablesIn, newIn}
 use Rattle.statements.specs.Said.{saidBy, domainsBy}
 use Rattle.statements.specs.Structures.{sideIn}
 use Rattle.statements.specs.declared.masks.Masks.{Masks}
+use Rattle.laws.specs.KindTable.{kindAt}
+use Rattle.laws.specs.Steps.{emitted}
 
 -- The source of a structure that no map has reached yet.
 abbrev pub unreached : ℕ
@@ -29,10 +31,10 @@ unreached = structureLimit
 -- For each structure: the source that it was reached from, its masks, the variables of its elements.
 pub record Tables : Type 0 where
   pub sources : List ℕ
-  pub masks : List (List ℕ)
+  pub masks : List (List Held)
   pub vars : List (List ℕ)
 
-abbrev pub tables : List ℕ → List (List ℕ) → List (List ℕ) → Tables
+abbrev pub tables : List ℕ → List (List Held) → List (List ℕ) → Tables
 tables sources masks vars = record { sources = sources; masks = masks; vars = vars }
 
 unfoldable pub sourceAt : Tables → ℕ → ℕ
@@ -45,26 +47,34 @@ noRows = replicate structureLimit (replicate fieldLimit noVar)
 unfoldable pub rowAt : Tables → ℕ → List ℕ
 rowAt tb t = getD (tb .vars) t []
 
-abbrev pub masksOf : List ℕ → Masks
-masksOf row = record { preds = getD row 0 0; funcs = getD row 1 0; members = getD row 2 0; free = getD row 3 0 }
+-- The sorts of masks: of R rows, A rows, members and TypeSets, and of the elements that are images of several keys.
+abbrev pub sorts : ℕ
+sorts = 5
 
--- Every flag set; the masks of a structure that says all that it has.
-abbrev pub allFlags : ℕ
-allFlags = 18446744073709551615
+-- A mask of a row, by its sort; those of what is said; and a row of masks.
+abbrev pub maskIn : List Held → ℕ → Mask
+maskIn row i = maskOf (getD row i [])
 
-abbrev pub allMasks : List ℕ
-allMasks = allFlags ∷ allFlags ∷ allFlags ∷ allFlags ∷ 0 ∷ []
+abbrev pub masksOf : List Held → Masks
+masksOf row = record { preds = maskIn row 0; funcs = maskIn row 1; members = maskIn row 2; free = maskIn row 3 }
+
+abbrev pub heldMasks : Masks → Mask → List Held
+heldMasks masks merged = heldOf (masks .preds) ∷ heldOf (masks .funcs) ∷ heldOf (masks .members) ∷ heldOf (masks .free) ∷ heldOf merged ∷ []
+
+-- The masks of a structure that says all that it has.
+abbrev pub allMasks : List Held
+allMasks = allHeld ∷ allHeld ∷ allHeld ∷ allHeld ∷ noHeld ∷ []
 
 -- Those of a structure that no map has reached yet.
-abbrev pub noMasks : List ℕ
-noMasks = 0 ∷ 0 ∷ 0 ∷ 0 ∷ 0 ∷ []
+abbrev pub noMasks : List Held
+noMasks = noHeld ∷ noHeld ∷ noHeld ∷ noHeld ∷ noHeld ∷ []
 
 unfoldable pub masksAt : Tables → ℕ → Masks
 masksAt tb t = masksOf (getD (tb .masks) t [])
 
 -- The flags of its elements that are images of several keys.
-unfoldable pub mergedAt : Tables → ℕ → ℕ
-mergedAt tb t = getD (getD (tb .masks) t []) 4 0
+unfoldable pub mergedAt : Tables → ℕ → Mask
+mergedAt tb t = maskIn (getD (tb .masks) t []) 4
 
 -- The kind and the pairs of the map between two structures.
 unfoldable pub kindOn : List ℕ → ℕ → ℕ → Option MorphismKind
@@ -86,12 +96,12 @@ ownBy (some SurjThen) eqs said = []
 ownBy (some NonSurjThen) eqs said = said
 
 -- The conclusions of the rules that it emits.
-unfoldable pub concludedBy : Option MorphismKind → ℕ → List Statement → List Statement → List Statement → List (List Statement)
+unfoldable pub concludedBy : Option MorphismKind → Mask → List Statement → List Statement → List Statement → List (List Statement)
 concludedBy none funcs eqs said domains = []
 concludedBy (some If) funcs eqs said domains = []
 concludedBy (some Noop) funcs eqs said domains = []
 concludedBy (some SurjThen) funcs eqs said domains = (eqs ++ said) ∷ []
-concludedBy (some NonSurjThen) funcs eqs said domains = pick (eqb funcs 0) [] (domains ∷ [])
+concludedBy (some NonSurjThen) funcs eqs said domains = pick (noneSet funcs) [] (domains ∷ [])
 
 -- The kind by which a structure was reached.
 unfoldable pub reachedBy : List ℕ → Tables → ℕ → Option MorphismKind

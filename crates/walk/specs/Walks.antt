@@ -10,7 +10,7 @@ use Rattle.definition.specs.Signature.{Signature}
 use Rattle.definition.specs.Walk.{Reached, State, groupName, namedRules}
 use Rattle.rule.specs.Lookup.{ruleAt}
 use Rattle.rows.specs.Kernel.{TypesOf, Merged}
-use Rattle.naming.specs.Structures.{structureIn}
+use Rattle.rule.specs.Structures.{structureIn}
 use Rattle.naming.specs.Variables.{variablesIn, GivenOut}
 use Rattle.walk.specs.Tables.{Tables, unreached, sourceAt, rowAt, mergedAt, pairsOn, ownAt, before, newsTo, emittedTo}
 

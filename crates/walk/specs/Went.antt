@@ -13,19 +13,20 @@ use Rattle.definition.specs.Group.{Variable, Statement}
 use Rattle.definition.specs.Signature.{Signature}
 use Rattle.definition.specs.Kinds.{equalities}
 use Rattle.definition.specs.Walk.{State, walkFrom, initialState, walkedKinds}
-use Rattle.laws.proofs.StepForm.{stepFault, own, conclusions}
 use Rattle.rule.specs.Lookup.{ruleAt}
-use Rattle.rows.specs.Maps.{pairsIn}
-use Rattle.rows.specs.declared.maps.Map.{Map}
-use Rattle.naming.specs.Structures.{structureIn}
+use Rattle.rule.specs.MapFields.{pairsIn}
+use Rattle.rule.specs.declared.maps.Map.{Map}
+use Rattle.rule.specs.Structures.{structureIn}
+use Rattle.flags.specs.Flags.{Held}
 use Rattle.naming.specs.Variables.{variablesIn}
 use Rattle.statements.specs.Said.{saidBy, domainsBy}
 use Rattle.statements.specs.Structures.{sideIn}
 use Rattle.statements.specs.declared.masks.Masks.{Masks}
-use Rattle.kinds.specs.Table.{kindIn}
-use Rattle.steps.specs.Steps.{StepAs}
-use Rattle.steps.specs.declared.step.Step.{Step}
-use Rattle.steps.specs.declared.step.Step.the-variants as step
+use Rattle.plan.specs.Table.{kindIn}
+use Rattle.kinds.specs.Steps.{StepAs}
+use Rattle.kinds.specs.declared.step.Step.{Step}
+use Rattle.kinds.specs.declared.step.Step.the-variants as step
+use Rattle.laws.specs.Steps.{stepFault, own, conclusions}
 use Rattle.walk.specs.Tables.{Tables, tables, unreached, noRows, allMasks, noMasks, kindOn, ownBy, concludedBy}
 use Rattle.walk.specs.Left.{Going}
 use Rattle.walk.specs.Ended.{Finished}
@@ -74,7 +75,7 @@ abbrev pub wholeWalk : Signature → List ℕ → Outcome State
 wholeWalk sig s = walkFrom sig (ruleAt s) (initialState (ruleAt s)) (walkedKinds (ruleAt s))
 
 -- The row of variables of a map's source, in a walk under way.
-pub record GoingFrom (sig : Signature) (s sources : List ℕ) (masks : List (List ℕ)) (source types : List ℕ) (next t u : ℕ) : Type 0 where
+pub record GoingFrom (sig : Signature) (s sources : List ℕ) (masks : List (List Held)) (source types : List ℕ) (next t u : ℕ) : Type 0 where
   pub vars : List (List ℕ)
   pub row : source ≡ getD vars u []
   pub going : Going sig s (tables sources masks vars) types next t u
@@ -99,7 +100,7 @@ toWalk (some kind) On = true
 toWalk (some kind) (Refused n) = false
 
 -- The tables before the first map: of the structures only 0 is reached, and no variable is given out yet.
-pub record Begun (sources : List ℕ) (masks vars : List (List ℕ)) (types : List ℕ) : Type 0 where
+pub record Begun (sources : List ℕ) (masks : List (List Held)) (vars : List (List ℕ)) (types : List ℕ) : Type 0 where
   pub sources-are : sources ≡ set (replicate structureLimit unreached) 0 0
   pub masks-are : masks ≡ set (replicate structureLimit noMasks) 0 allMasks
   pub vars-are : vars ≡ noRows

@@ -14,37 +14,39 @@ ghost use Rattle.definition.specs.Limits.{structureLimit, fieldLimit};
 ghost use Rattle.signature.specs.Index.{signatureAt, Indexed};
 ghost use Rattle.rule.specs.Lookup.{ruleAt};
 ghost use Rattle.rows.specs.Kernel.{TypesOf, Merged};
-ghost use Rattle.rows.specs.Maps.{pairsIn};
-ghost use Rattle.naming.specs.Structures.{structureIn, Laid, ByteTypes};
+ghost use Rattle.rule.specs.MapFields.{pairsIn};
+ghost use Rattle.rule.specs.Structures.{structureIn, Laid, ByteTypes};
 ghost use Rattle.naming.specs.Variables.{rowOf, GivenOut, newIn};
-ghost use Rattle.kinds.specs.Table.{kindIn, Tabled};
-ghost use Rattle.steps.specs.Steps.{Reaches};
+ghost use Rattle.plan.specs.Table.{kindIn, Tabled};
+ghost use Rattle.kinds.specs.Steps.{Reaches};
 ghost use Rattle.walk.specs.Tables.{tables};
 ghost use Rattle.walk.specs.Ended.{Ground};
-ghost use Rattle.walk.specs.Went.{stopIn};
-ghost use Rattle.walk.specs.Went.{Ends, Does, Met, numberOf, GoingFrom, Went, toWalk, Begun, Walks};
+ghost use Rattle.walk.specs.Went.{stopIn, Ends, Does, Met, numberOf, GoingFrom, Went, toWalk, Begun, Walks};
 use crate::tables::SORTS;
 use crate::tables::UNREACHED;
-use kinds::maps::map_between;
-use kinds::table::NO_KIND;
-use kinds::table::NON_SURJ_THEN;
-use kinds::table::SURJ_THEN;
+use crate::tables::masks_row;
+use flags::Held;
+use flags::Mask;
+use kinds::morphisms::flatten_if_arbitrary;
+use kinds::morphisms::flatten_non_surj_then;
+use kinds::morphisms::flatten_surj_then;
+use kinds::step::Step;
 use naming::assign::assign_el_vars;
 use naming::assign::initial_el_vars;
 use naming::types::type_variables;
 use naming::variables::fresh;
+use plan::table::NO_KIND;
+use plan::table::NON_SURJ_THEN;
+use plan::table::SURJ_THEN;
 use rows::kernel::merged_els;
-use rows::maps::Map;
 use rule::elements::element_count;
 use rule::ids::FIELDS;
 use rule::ids::RULE_INDEX;
 use rule::ids::STRUCTURES;
+use rule::maps::Map;
+use rule::maps::map_between;
 use signature::ids::Counts;
 use signature::ids::INDEX;
-use steps::step::Step;
-use steps::morphisms::flatten_if_arbitrary;
-use steps::morphisms::flatten_non_surj_then;
-use steps::morphisms::flatten_surj_then;
 
 // The walk goes on, or is refused.
 pub enum Walked {
@@ -69,7 +71,7 @@ fn ends(sources: &[u8; STRUCTURES], u: usize, t: usize) -> Walked
 // A map of a kind: what it asks, and the masks of what it adds.
 fn flatten_map(
     sig: &[u8],
-    arities: &[u16; INDEX],
+    symbols: &[u16; INDEX],
     counts: Counts,
     s: &[u8],
     index: &[u16; RULE_INDEX],
@@ -81,27 +83,27 @@ fn flatten_map(
     target: [u16; FIELDS],
     first: u16,
     types: &[u8],
-    merged: u64,
+    merged: Mask,
 ) -> Step
-    requires { ⌜ Indexed (now sig) (now arities) counts ⌝ }
-    requires { ⌜ Reaches (signatureAt (now sig) (now arities) counts) (now s) (now index) u t m source target first ⌝ }
+    requires { ⌜ Indexed (now sig) (now symbols) counts ⌝ }
+    requires { ⌜ Reaches (signatureAt (now sig) (now symbols) counts) (now s) (now index) u t m source target first ⌝ }
     requires { ⌜ GivenOut (structureIn (now s) u) source (length (now types)) ⌝ }
     requires { ⌜ Merged merged (structureIn (now s) t) (pairsIn (now s) m) ⌝ }
     ensures { λ r. ⌜ ((table : List definition.Variable) (k : rules.MorphismKind) → TypesOf table (now (types .entry)) → kindIn kind ≡ some k
-        → Does (signatureAt (now (sig .entry)) (now (arities .entry)) counts) table (now (s .entry)) u t m source target k r) ⌝ }
+        → Does (signatureAt (now (sig .entry)) (now (symbols .entry)) counts) table (now (s .entry)) u t m source target k r) ⌝ }
 {
     if kind == SURJ_THEN {
         return flatten_surj_then(
-            sig, arities, counts, s, index, u, t, m, source, target, first, types, merged,
+            sig, symbols, counts, s, index, u, t, m, source, target, first, types, merged,
         );
     }
     if kind == NON_SURJ_THEN {
         return flatten_non_surj_then(
-            sig, arities, counts, s, index, u, t, m, source, target, first,
+            sig, symbols, counts, s, index, u, t, m, source, target, first,
         );
     }
     flatten_if_arbitrary(
-        sig, arities, counts, s, index, u, t, m, source, target, first, types, merged,
+        sig, symbols, counts, s, index, u, t, m, source, target, first, types, merged,
     )
 }
 
@@ -123,21 +125,21 @@ struct MapWalked {
 
 // A map walked, from the row of its source: the target gets its variables, its source and its masks.
 fn walk_map(
-    sig: &[u8], arities: &[u16; INDEX], counts: Counts,
+    sig: &[u8], symbols: &[u16; INDEX], counts: Counts,
     s: &[u8], index: &[u16; RULE_INDEX],
     kind: u8, u: usize, t: usize,
     source: [u16; FIELDS],
     sources: &mut [u8; STRUCTURES],
-    masks: &mut [[u64; SORTS]; STRUCTURES],
+    masks: &mut [[Held; SORTS]; STRUCTURES],
     types: &mut [u8],
     next: &mut u16,
 ) -> MapWalked
     requires { ⌜ (u < structureLimit) × (t < structureLimit) ⌝ }
-    requires { ⌜ Indexed (now sig) (now arities) counts × Ground (signatureAt (now sig) (now arities) counts) (now s) (now index) ⌝ }
+    requires { ⌜ Indexed (now sig) (now symbols) counts × Ground (signatureAt (now sig) (now symbols) counts) (now s) (now index) ⌝ }
     requires { ⌜ Met (now s) u t kind ⌝ }
-    requires { ⌜ GoingFrom (signatureAt (now sig) (now arities) counts) (now s) (now sources) (now masks) source (now types) (now next) t u ⌝ }
-    ensures { λ r. ⌜ ((g : GoingFrom (signatureAt (now (sig .entry)) (now (arities .entry)) counts) (now (s .entry)) (now (sources .entry)) (now (masks .entry)) source (now (types .entry)) (now (next .entry)) t u)
-        → Went (r .end) (signatureAt (now (sig .entry)) (now (arities .entry)) counts) (now (s .entry))
+    requires { ⌜ GoingFrom (signatureAt (now sig) (now symbols) counts) (now s) (now sources) (now masks) source (now types) (now next) t u ⌝ }
+    ensures { λ r. ⌜ ((g : GoingFrom (signatureAt (now (sig .entry)) (now (symbols .entry)) counts) (now (s .entry)) (now (sources .entry)) (now (masks .entry)) source (now (types .entry)) (now (next .entry)) t u)
+        → Went (r .end) (signatureAt (now (sig .entry)) (now (symbols .entry)) counts) (now (s .entry))
         (tables (now (sources .exit)) (now (masks .exit)) (set (g .vars) t (r .vars))) (now (types .exit)) (now (next .exit)) t u) ⌝ }
 {
     let e = ends(sources, u, t);
@@ -148,13 +150,13 @@ fn walk_map(
     let first = *next;
     let target = assign_el_vars(source, s, index, u, t, m, first);
     let merged = merged_els(s, index, t, m);
-    let r = flatten_map(sig, arities, counts, s, index, kind, u, t, m, source, target, first, types, merged);
+    let r = flatten_map(sig, symbols, counts, s, index, kind, u, t, m, source, target, first, types, merged);
     let Step::Adds(added) = r else {
         return MapWalked { vars: target, end: Walked::Refused(number(r)) };
     };
     type_variables(types, s, index, t, target, first);
     sources[t] = u as u8;
-    masks[t] = [added.preds, added.funcs, added.members, added.free, merged];
+    masks[t] = masks_row(added, merged);
     *next = first + fresh(target, element_count(index, t), first);
     MapWalked { vars: target, end: Walked::On }
 }
@@ -195,18 +197,18 @@ fn stopped(end: Walked) -> u8
 // refused with, or 0, stands beside them. The loop has one end, behind the last pair, also where the walk is refused: the variables
 // are handed back from one place, and so they are never copied.
 pub fn flatten_morphisms(
-    sig: &[u8], arities: &[u16; INDEX], counts: Counts,
+    sig: &[u8], symbols: &[u16; INDEX], counts: Counts,
     s: &[u8], index: &[u16; RULE_INDEX], n: usize,
     kinds: &[[u8; STRUCTURES]; STRUCTURES],
     mut vars: [[u16; FIELDS]; STRUCTURES],
     sources: &mut [u8; STRUCTURES],
-    masks: &mut [[u64; SORTS]; STRUCTURES],
+    masks: &mut [[Held; SORTS]; STRUCTURES],
     types: &mut [u8], refused: &mut u8,
 ) -> [[u16; FIELDS]; STRUCTURES]
-    requires { ⌜ Indexed (now sig) (now arities) counts × Ground (signatureAt (now sig) (now arities) counts) (now s) (now index) ⌝ }
+    requires { ⌜ Indexed (now sig) (now symbols) counts × Ground (signatureAt (now sig) (now symbols) counts) (now s) (now index) ⌝ }
     requires { ⌜ (n ≡ length (ruleAt (now s) .structures)) × Tabled (now kinds) (completed (ruleAt (now s) .maps) (ruleAt (now s) .kinds) (ruleAt (now s) .auxiliaries)) ⌝ }
     requires { ⌜ Begun (now sources) (now masks) vars (now types) × (fieldLimit * n ≤ length (now types)) ⌝ }
-    ensures { λ r. ⌜ Walks (now (refused .exit)) (signatureAt (now (sig .entry)) (now (arities .entry)) counts) (now (s .entry))
+    ensures { λ r. ⌜ Walks (now (refused .exit)) (signatureAt (now (sig .entry)) (now (symbols .entry)) counts) (now (s .entry))
         (tables (now (sources .exit)) (now (masks .exit)) r) (now (types .exit)) ⌝ }
 {
     vars[0] = first_row(types, s, index);
@@ -217,7 +219,7 @@ pub fn flatten_morphisms(
     loop {
         let kind = kinds[u][t];
         if to_walk(kind, end) {
-            let r = walk_map(sig, arities, counts, s, index, kind, u, t, vars[u], sources, masks, types, &mut next);
+            let r = walk_map(sig, symbols, counts, s, index, kind, u, t, vars[u], sources, masks, types, &mut next);
             let target = r.vars;
             vars[t] = target;
             end = r.end;

@@ -13,19 +13,22 @@ use Rattle.laws.proofs.ByteForm.{group-bytes}
 use Rattle.records.specs.Buffer.{Put, headBytes}
 use Rattle.records.proofs.Tail.{then, field-bytes}
 use Rattle.rule.specs.Lookup.{ruleAt}
-use Rattle.naming.specs.Structures.{structureIn}
+use Rattle.rule.specs.Structures.{structureIn}
 use Rattle.walk.specs.Tables.{tables, unreached, sourceAt, rowAt, newsTo}
 use Rattle.walk.specs.Ended.{Ended, Numbered}
 use Rattle.walk.proofs.Reaching.{is-reached}
 use Rattle.writer.proofs.Ruling.{ruleBytes}
+use Rattle.flags.specs.Flags.{Held}
 
 -- The new variables do not depend on the masks.
-news-unmasked : (s sources : List ℕ) (masks vars : List (List ℕ)) (t : ℕ) → newsTo s (tables sources [] vars) t ≡ newsTo s (tables sources masks vars) t
+news-unmasked : (s sources : List ℕ) (masks : List (List Held)) (vars : List (List ℕ)) (t : ℕ)
+    → newsTo s (tables sources [] vars) t ≡ newsTo s (tables sources masks vars) t
 unfolding newsTo sourceAt rowAt
 news-unmasked s sources masks vars zero = refl
 news-unmasked s sources masks vars (suc t) = rw (news-unmasked s sources masks vars t)
 
-module _ {s index types sources : List ℕ} {kinds masks vars : List (List ℕ)} (e : Ended s index types kinds (tables sources masks vars)) where
+module _ {s index types sources : List ℕ} {kinds vars : List (List ℕ)} {masks : List (List Held)}
+    (e : Ended s index types kinds (tables sources masks vars)) where
   rows-long : (k : ℕ) → sourceAt (tables sources masks vars) k < unreached → length (structureIn s k .elements) ≤ length (rowAt (tables sources masks vars) k)
   rows-long k h =
       let a = is-reached (e .finished .ties) k h in

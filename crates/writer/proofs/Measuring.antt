@@ -12,12 +12,12 @@ use Rattle.definition.specs.Limits.{structureLimit}
 use Rattle.definition.specs.Names.{decimal}
 use Rattle.definition.specs.Walk.{groupName}
 use Rattle.definition.specs.Writer.{recordBytes, flatRuleFields}
-use Rattle.laws.proofs.ByteForm.{statementBytes}
 use Rattle.records.specs.Buffer.{Put, capped, countLimit, headBytes}
 use Rattle.rule.specs.Lookup.{ruleAt}
 use Rattle.statements.proofs.Counting.{beyond}
 use Rattle.walk.specs.Tables.{Tables, unreached, sourceAt, ownAt, emittedRule, statementsAt}
 use Rattle.walk.specs.Ended.{Ended, Reaching}
+use Rattle.laws.specs.Bytes.{statementBytes}
 use Rattle.writer.proofs.Premises.{place-small, source-reaching, source-below, premise-first, premise-later}
 use Rattle.writer.proofs.Ruling.{rule-put}
 

@@ -19,26 +19,28 @@ use Rattle.definition.specs.Signature.{Signature}
 use Rattle.definition.specs.Kinds.{Side, equalities}
 use Rattle.definition.specs.Walk.{Reached, pairsBetween, found, completed}
 use Rattle.definition.specs.Writer.{recordBytes}
-use Rattle.laws.proofs.ByteForm.{statementBytes, statements-append}
+use Rattle.laws.proofs.ByteForm.{statements-append}
 use Rattle.records.specs.Buffer.{Put, countLimit}
 use Rattle.records.proofs.Tail.{nothing, then}
 use Rattle.definition.specs.Rows.{kernelPairs}
 use Rattle.rule.specs.Lookup.{ruleAt}
 use Rattle.rows.specs.Kernel.{TypesOf, Merged}
 use Rattle.rows.proofs.Several.{none-merged}
+use Rattle.flags.specs.Flags.{noneSet}
 use Rattle.statements.proofs.KernelPairs.{equalities-none}
-use Rattle.naming.specs.Structures.{structureIn}
+use Rattle.rule.specs.Structures.{structureIn, Stands}
 use Rattle.naming.specs.Variables.{variablesIn, GivenOut}
 use Rattle.statements.specs.Said.{saidBy}
-use Rattle.statements.specs.Structures.{Stands, sideIn}
+use Rattle.statements.specs.Structures.{sideIn}
 use Rattle.statements.specs.declared.masks.Masks.{Masks}
-use Rattle.kinds.specs.Table.{kindIn, entryAt, Tabled}
-use Rattle.walk.specs.Tables.{Tables, unreached, sourceAt, rowAt, masksOf, masksAt, mergedAt, kindOn, pairsOn, ownBy, reachedBy, equalitiesAt, saidAt, ownAt, statementsOf, statementsAt, before}
+use Rattle.plan.specs.Table.{kindIn, entryAt, Tabled}
+use Rattle.walk.specs.Tables.{Tables, unreached, sourceAt, rowAt, masksOf, masksAt, mergedAt, kindOn, pairsOn, ownBy, reachedBy, equalitiesAt, saidAt, ownAt, statementsOf, statementsAt, before, maskIn}
 use Rattle.walk.specs.Walks.{ReachedAt}
 use Rattle.walk.specs.Ended.{Ended, Reaching, ReachedBy}
 use Rattle.walk.proofs.Numbers.{source-read}
-use Rattle.kinds.proofs.TableLaws.{kind-some}
+use Rattle.plan.proofs.TableLaws.{kind-some}
 use Rattle.walk.proofs.Reaching.{given-more, is-reached}
+use Rattle.laws.specs.Bytes.{statementBytes}
 
 -- The number of the kind by which a structure was reached.
 pub reached-first : {r : ℕ} {kinds : List (List ℕ)} {sources : List ℕ} {t : ℕ} → r ≡ 4 → t ≡ 0 → ReachedBy r kinds sources t
@@ -172,15 +174,15 @@ module _ {s index types : List ℕ} {kinds : List (List ℕ)} {tb : Tables} {t :
 
   -- Its elements that are images of several keys; without one the map that reached it has no kernel pairs.
   pub merged-read : {u : ℕ} {ps : List Pair} → 0 < t → u ≡ getD (tb .sources) t 0 → orDefault (pairsBetween (ruleAt s .maps) u t) [] ≡ ps
-      → Merged (getD (getD (tb .masks) t []) 4 0) (structureIn s t) ps
+      → Merged (maskIn (getD (tb .masks) t []) 4) (structureIn s t) ps
   unfolding mergedAt pairsOn
   merged-read l q o = rw (← o, q, source-is) (at-slot .2 .merged l)
 
-  kernel-none : 0 < t → getD (getD (tb .masks) t []) 4 0 ≡ 0 → kernelPairs (pairsOn s (sourceAt tb t) t) (structureIn s t) ≡ []
+  kernel-none : 0 < t → noneSet (maskIn (getD (tb .masks) t []) 4) ≡ true → kernelPairs (pairsOn s (sourceAt tb t) t) (structureIn s t) ≡ []
   unfolding mergedAt
-  kernel-none l q = none-merged (rw q at (at-slot .2 .merged l))
+  kernel-none l q = none-merged (at-slot .2 .merged l) q
 
-  pub unmerged-none : 0 < t → getD (getD (tb .masks) t []) 4 0 ≡ 0 → eqs ≡ []
+  pub unmerged-none : 0 < t → noneSet (maskIn (getD (tb .masks) t []) 4) ≡ true → eqs ≡ []
   unfolding equalitiesAt
   unmerged-none l q = equalities-none (e .sig) (e .state .variables) _ _ (pairsOn s (sourceAt tb t) t) (kernel-none l q)
 

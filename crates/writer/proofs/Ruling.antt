@@ -6,7 +6,7 @@ use mathlib.Core.Path.{_≡_, refl, ap, sym, _∙_}
 use mathlib.Core.Bool.{Bool, true, false, not}
 use mathlib.Core.Option.{Option}
 use mathlib.Core.List.{List, [], _∷_, _++_, append-nil}
-use lib.Dec.{eqb, ltb}
+use lib.Dec.{ltb}
 use lib.ListN.{length, getD, length-append}
 use borrow.Author.Tests.{lt-ltb, le-ltb}
 use Rattle.definition.specs.Base.{pick, each, joined}
@@ -19,27 +19,30 @@ use Rattle.definition.specs.Names.{decimal}
 use Rattle.definition.specs.Walk.{groupName, namedRules}
 use Rattle.definition.specs.Writer.{recordBytes, flatRuleFields}
 use Rattle.laws.proofs.Lists.{joined-append}
-use Rattle.laws.proofs.StepForm.{emitted}
-use Rattle.laws.proofs.ByteForm.{statementBytes, rule-bytes, named-append}
+use Rattle.laws.proofs.ByteForm.{rule-bytes, named-append}
 use Rattle.records.specs.Buffer.{Put, countLimit, headBytes}
 use Rattle.records.proofs.Tail.{nothing, then, field-bytes}
 use Rattle.rule.specs.Lookup.{ruleAt}
-use Rattle.naming.specs.Structures.{structureIn}
+use Rattle.rule.specs.Structures.{structureIn}
 use Rattle.naming.specs.Variables.{variablesIn}
 use Rattle.statements.specs.Said.{domainsBy}
-use Rattle.kinds.specs.Table.{kindIn}
-use Rattle.walk.specs.Tables.{Tables, unreached, sourceAt, rowAt, masksAt, reachedBy, concludedBy, concludedAt, equalitiesAt, saidAt, domainsAt, statementsAt, before, emittedRule, emittedTo}
+use Rattle.plan.specs.Table.{kindIn}
+use Rattle.walk.specs.Tables.{Tables, unreached, sourceAt, rowAt, masksAt, reachedBy, concludedBy, concludedAt, equalitiesAt, saidAt, domainsAt, statementsAt, before, emittedRule, emittedTo, maskIn}
 use Rattle.walk.specs.Ended.{Ended, Reaching, ReachedBy, Emits}
+use Rattle.laws.specs.Bytes.{statementBytes}
+use Rattle.laws.specs.Steps.{emitted}
 use Rattle.writer.proofs.Premises.{those-before, source-is, kind-is}
 use Rattle.walk.proofs.Numbers.{source-read}
+use Rattle.flags.specs.declared.Mask.{Mask}
+use Rattle.flags.specs.Flags.{noneSet, Held}
 
 -- The conclusions, by a kind's number.
-module _ (funcs : ℕ) (eqs said domains : List Statement) where
+module _ (funcs : Mask) (eqs said domains : List Statement) where
   by-surj : {n : ℕ} {o : Option MorphismKind} → kindIn n ≡ o → n ≡ 1 → concludedBy o funcs eqs said domains ≡ (eqs ++ said) ∷ []
   unfolding kindIn concludedBy
   by-surj k e = rw (← k, e)
 
-  by-rows : {n : ℕ} {o : Option MorphismKind} → kindIn n ≡ o → n ≡ 2 → concludedBy o funcs eqs said domains ≡ pick (eqb funcs 0) [] (domains ∷ [])
+  by-rows : {n : ℕ} {o : Option MorphismKind} → kindIn n ≡ o → n ≡ 2 → concludedBy o funcs eqs said domains ≡ pick (noneSet funcs) [] (domains ∷ [])
   unfolding kindIn concludedBy
   by-rows k e = rw (← k, e)
 
@@ -59,18 +62,18 @@ module _ (funcs : ℕ) (eqs said domains : List Statement) where
   unfolding kindIn concludedBy
   by-domains zero a e = let z : _≡_ {A = ℕ} 0 1 = ap length e in absurd (omega arith)
   by-domains (suc zero) a e = absurd (a refl)
-  by-domains (suc (suc zero)) a e = picked (eqb funcs 0) e
+  by-domains (suc (suc zero)) a e = picked (noneSet funcs) e
   by-domains (suc (suc (suc zero))) a e = let z : _≡_ {A = ℕ} 0 1 = ap length e in absurd (omega arith)
   by-domains (suc (suc (suc (suc n)))) a e = let z : _≡_ {A = ℕ} 0 1 = ap length e in absurd (omega arith)
 
 -- Whether a rule is emitted.
-module _ {kinds masks : List (List ℕ)} {sources : List ℕ} {k t : ℕ} (w : ReachedBy k kinds sources t) where
+module _ {kinds : List (List ℕ)} {masks : List (List Held)} {sources : List ℕ} {k t : ℕ} (w : ReachedBy k kinds sources t) where
   pub emits-surj : k ≡ 1 → Emits true kinds sources masks t
   unfolding concludedAt
   emits-surj e = record { is = λ sig table s tb a b c l r i.
       ap length (by-surj (masksAt tb t .funcs) (equalitiesAt sig table s tb t) (saidAt s tb t) (domainsAt s tb t) (w .is s tb a c l r i) e) }
 
-  pub emits-rows : {b : Bool} → k ≡ 2 → b ≡ not (eqb (getD (getD masks t []) 1 0) 0) → Emits b kinds sources masks t
+  pub emits-rows : {b : Bool} → k ≡ 2 → b ≡ not (noneSet (maskIn (getD masks t []) 1)) → Emits b kinds sources masks t
   unfolding concludedAt masksAt
   emits-rows {b} e q = record { is = λ sig table s tb a m c l r i.
       ap length (by-rows (masksAt tb t .funcs) (equalitiesAt sig table s tb t) (saidAt s tb t) (domainsAt s tb t) (w .is s tb a c l r i) e)
@@ -79,8 +82,8 @@ module _ {kinds masks : List (List ℕ)} {sources : List ℕ} {k t : ℕ} (w : R
       by : (b : Bool) (domains : List Statement) → length (pick b [] (domains ∷ [])) ≡ pick (not b) 1 0
       by true domains = refl
       by false domains = refl
-      go : (m : ℕ) (domains : List Statement) → length (pick (eqb m 0) [] (domains ∷ [])) ≡ pick (not (eqb m 0)) 1 0
-      go m domains = by (eqb m 0) domains
+      go : (m : Mask) (domains : List Statement) → length (pick (noneSet m) [] (domains ∷ [])) ≡ pick (not (noneSet m)) 1 0
+      go m domains = by (noneSet m) domains
 
   pub emits-none : (k ≡ 1 → ⊥) → (k ≡ 2 → ⊥) → Emits false kinds sources masks t
   unfolding concludedAt
@@ -109,7 +112,7 @@ module _ {s index types : List ℕ} {kinds : List (List ℕ)} {tb : Tables} {t :
 
   pub rows-put : {out₀ out : List ℕ} {from r k : ℕ} {conclusion : List Statement} → ReachedBy k kinds (tb .sources) t → (k ≡ 1 → ⊥)
       → concludedOf e t ≡ conclusion ∷ []
-      → Put out₀ out (statementBytes letterH (domainsBy (structureIn s t) (variablesIn (structureIn s t) (getD (tb .vars) t [])) (getD (getD (tb .masks) t []) 1 0))) from r
+      → Put out₀ out (statementBytes letterH (domainsBy (structureIn s t) (variablesIn (structureIn s t) (getD (tb .vars) t [])) (maskIn (getD (tb .masks) t []) 1))) from r
       → Put out₀ out (statementBytes letterH conclusion) from r
   unfolding concludedAt domainsAt masksAt rowAt
   rows-put {k = k} {conclusion = conclusion} w d z p =

@@ -7,22 +7,23 @@ ghost use Rattle.definition.specs.Base.{joined};
 ghost use Rattle.definition.specs.Group as definition;
 ghost use Rattle.definition.specs.Letters.{letterB};
 ghost use Rattle.definition.specs.Writer.{recordBytes, flatRuleFields};
-ghost use Rattle.laws.proofs.ByteForm.{statementBytes};
 ghost use Rattle.records.specs.Buffer.{Put, countLimit};
 ghost use Rattle.rule.specs.Lookup.{ruleAt};
 ghost use Rattle.walk.specs.Tables.{tables, ownAt, concludedAt, emittedRule, statementsAt};
 ghost use Rattle.walk.specs.Ended.{Ended, Reaching};
+ghost use Rattle.laws.specs.Bytes.{statementBytes};
 use crate::premise::put_own;
 use crate::rules::emits;
 use crate::rules::put_conclusion;
-use walk::tables::SORTS;
-use walk::tables::UNREACHED;
-use walk::tables::place;
+use flags::Held;
 use naming::writer::rule_name_length;
 use records::write::past;
 use rule::ids::FIELDS;
 use rule::ids::RULE_INDEX;
 use rule::ids::STRUCTURES;
+use walk::tables::SORTS;
+use walk::tables::UNREACHED;
+use walk::tables::place;
 
 // The bytes of a field that stand before its content: the letter, two of the length.
 const FIELD_HEAD: usize = 3;
@@ -34,7 +35,7 @@ fn own_length(
     index: &[u16; RULE_INDEX],
     kinds: &[[u8; STRUCTURES]; STRUCTURES],
     sources: &[u8; STRUCTURES],
-    masks: &[[u64; SORTS]; STRUCTURES],
+    masks: &[[Held; SORTS]; STRUCTURES],
     vars: &[[u16; FIELDS]; STRUCTURES],
     types: &[u8],
     t: usize,
@@ -58,7 +59,7 @@ fn rule_length(
     index: &[u16; RULE_INDEX],
     kinds: &[[u8; STRUCTURES]; STRUCTURES],
     sources: &[u8; STRUCTURES],
-    masks: &[[u64; SORTS]; STRUCTURES],
+    masks: &[[Held; SORTS]; STRUCTURES],
     vars: &[[u16; FIELDS]; STRUCTURES],
     types: &[u8],
     t: usize,
@@ -88,7 +89,7 @@ pub fn rules_length(
     n: usize,
     kinds: &[[u8; STRUCTURES]; STRUCTURES],
     sources: &[u8; STRUCTURES],
-    masks: &[[u64; SORTS]; STRUCTURES],
+    masks: &[[Held; SORTS]; STRUCTURES],
     vars: &[[u16; FIELDS]; STRUCTURES],
     types: &[u8],
 ) -> usize

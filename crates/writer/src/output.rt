@@ -10,14 +10,15 @@ ghost use Rattle.walk.specs.Tables.{tables};
 ghost use Rattle.walk.specs.Ended.{Ended};
 use crate::lengths::rules_length;
 use crate::rules::put_rules;
-use walk::tables::SORTS;
 use crate::variables::put_all_variables;
+use flags::Held;
 use naming::writer::group_name_length;
 use naming::writer::put_group_name;
 use records::write::put_field_head;
 use rule::ids::FIELDS;
 use rule::ids::RULE_INDEX;
 use rule::ids::STRUCTURES;
+use walk::tables::SORTS;
 
 const LETTER_G: u8 = b'G';
 
@@ -29,7 +30,7 @@ pub fn put_group(
     n: usize,
     kinds: &[[u8; STRUCTURES]; STRUCTURES],
     sources: &[u8; STRUCTURES],
-    masks: &[[u64; SORTS]; STRUCTURES],
+    masks: &[[Held; SORTS]; STRUCTURES],
     vars: &[[u16; FIELDS]; STRUCTURES],
     types: &[u8],
 ) -> usize

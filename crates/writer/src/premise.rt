@@ -7,25 +7,28 @@ ghost use lib.ListN.{getD};
 ghost use Rattle.definition.specs.Letters.{letterB};
 ghost use Rattle.definition.specs.Walk.{pairsBetween, found};
 ghost use Rattle.definition.specs.Limits.{structureLimit};
-ghost use Rattle.laws.proofs.ByteForm.{statementBytes};
 ghost use Rattle.records.specs.Buffer.{Put, countLimit};
 ghost use Rattle.rule.specs.Lookup.{ruleAt};
 ghost use Rattle.walk.specs.Tables.{tables, equalitiesAt, saidAt, ownAt, statementsAt};
 ghost use Rattle.walk.specs.Ended.{Ended, Reaching, ReachedBy};
-use walk::tables::MERGED;
-use walk::tables::SORTS;
-use walk::tables::masks_at;
-use walk::tables::place;
-use kinds::maps::map_between;
-use kinds::table::IF;
-use kinds::table::NO_KIND;
-use kinds::table::NOOP;
-use kinds::table::SURJ_THEN;
+ghost use Rattle.laws.specs.Bytes.{statementBytes};
+use flags::Held;
+use flags::none_set;
+use plan::table::IF;
+use plan::table::NO_KIND;
+use plan::table::NOOP;
+use plan::table::SURJ_THEN;
 use rule::ids::FIELDS;
 use rule::ids::RULE_INDEX;
 use rule::ids::STRUCTURES;
+use rule::maps::map_between;
 use statements::equalities::put_equalities;
 use statements::writer::put_said;
+use walk::tables::MERGED;
+use walk::tables::SORTS;
+use walk::tables::mask_at;
+use walk::tables::masks_at;
+use walk::tables::place;
 
 // The number of the kind by which a structure was reached; structure 0 was reached by none.
 pub fn reached_by(kinds: &[[u8; STRUCTURES]; STRUCTURES], sources: &[u8; STRUCTURES], t: usize) -> u8
@@ -48,7 +51,7 @@ fn put_map_equalities(
     index: &[u16; RULE_INDEX],
     kinds: &[[u8; STRUCTURES]; STRUCTURES],
     sources: &[u8; STRUCTURES],
-    masks: &[[u64; SORTS]; STRUCTURES],
+    masks: &[[Held; SORTS]; STRUCTURES],
     vars: &[[u16; FIELDS]; STRUCTURES],
     types: &[u8],
     t: usize,
@@ -60,9 +63,8 @@ fn put_map_equalities(
         → Put (now (out .entry)) (now (out .exit)) (statementBytes letter (equalitiesAt (e .sig) (e .state .variables) (now (s .entry)) (tables (now (sources .entry)) (now (masks .entry)) (now (vars .entry))) t)) from r) ⌝ }
     ensures { λ r. ⌜ r ≤ countLimit ⌝ }
 {
-    let row = masks[t];
-    let merged = row[MERGED];
-    if merged == 0 {
+    let merged = mask_at(masks, t, MERGED);
+    if none_set(merged) {
         return from;
     }
     let u = place(sources[t]);
@@ -79,7 +81,7 @@ pub fn put_both(
     index: &[u16; RULE_INDEX],
     kinds: &[[u8; STRUCTURES]; STRUCTURES],
     sources: &[u8; STRUCTURES],
-    masks: &[[u64; SORTS]; STRUCTURES],
+    masks: &[[Held; SORTS]; STRUCTURES],
     vars: &[[u16; FIELDS]; STRUCTURES],
     types: &[u8],
     t: usize,
@@ -104,7 +106,7 @@ pub fn put_own(
     index: &[u16; RULE_INDEX],
     kinds: &[[u8; STRUCTURES]; STRUCTURES],
     sources: &[u8; STRUCTURES],
-    masks: &[[u64; SORTS]; STRUCTURES],
+    masks: &[[Held; SORTS]; STRUCTURES],
     vars: &[[u16; FIELDS]; STRUCTURES],
     types: &[u8],
     t: usize,
@@ -134,7 +136,7 @@ pub fn put_premise(
     index: &[u16; RULE_INDEX],
     kinds: &[[u8; STRUCTURES]; STRUCTURES],
     sources: &[u8; STRUCTURES],
-    masks: &[[u64; SORTS]; STRUCTURES],
+    masks: &[[Held; SORTS]; STRUCTURES],
     vars: &[[u16; FIELDS]; STRUCTURES],
     types: &[u8],
     t: usize,

@@ -8,31 +8,35 @@ ghost use Rattle.definition.specs.Group as definition;
 ghost use Rattle.definition.specs.Letters.{letterH};
 ghost use Rattle.definition.specs.Writer.{recordBytes, flatRuleFields};
 ghost use Rattle.definition.specs.Limits.{structureLimit};
-ghost use Rattle.laws.proofs.ByteForm.{statementBytes};
 ghost use Rattle.records.specs.Buffer.{Put, countLimit};
 ghost use Rattle.rule.specs.Lookup.{ruleAt};
 ghost use Rattle.walk.specs.Tables.{tables, concludedAt, emittedRule};
 ghost use Rattle.walk.specs.Ended.{Ended, Reaching, Emits};
+ghost use Rattle.laws.specs.Bytes.{statementBytes};
 use crate::premise::put_both;
 use crate::premise::put_premise;
 use crate::premise::reached_by;
-use walk::tables::SORTS;
-use walk::tables::UNREACHED;
-use walk::tables::place;
-use kinds::table::NON_SURJ_THEN;
-use kinds::table::SURJ_THEN;
+use flags::Held;
+use flags::none_set;
 use naming::writer::put_rule_name;
 use naming::writer::rule_name_length;
+use plan::table::NON_SURJ_THEN;
+use plan::table::SURJ_THEN;
 use records::write::put_field_head;
 use rule::ids::FIELDS;
 use rule::ids::RULE_INDEX;
 use rule::ids::STRUCTURES;
 use statements::writer::put_domains;
+use walk::tables::FUNCS;
+use walk::tables::SORTS;
+use walk::tables::UNREACHED;
+use walk::tables::mask_at;
+use walk::tables::place;
 
 const LETTER_U: u8 = b'U';
 
 // Does the map that reached a structure emit a rule? SurjThen does; NonSurjThen does where it has a new element.
-pub fn emits(kinds: &[[u8; STRUCTURES]; STRUCTURES], sources: &[u8; STRUCTURES], masks: &[[u64; SORTS]; STRUCTURES], t: usize) -> bool
+pub fn emits(kinds: &[[u8; STRUCTURES]; STRUCTURES], sources: &[u8; STRUCTURES], masks: &[[Held; SORTS]; STRUCTURES], t: usize) -> bool
     requires { ⌜ (t < structureLimit) × (getD (now sources) t 0 < structureLimit) ⌝ }
     ensures { λ r. ⌜ Emits r (now (kinds .entry)) (now (sources .entry)) (now (masks .entry)) t ⌝ }
 {
@@ -41,8 +45,7 @@ pub fn emits(kinds: &[[u8; STRUCTURES]; STRUCTURES], sources: &[u8; STRUCTURES],
         return true;
     }
     if kind == NON_SURJ_THEN {
-        let row = masks[t];
-        return row[1] != 0;
+        return !none_set(mask_at(masks, t, FUNCS));
     }
     false
 }
@@ -55,7 +58,7 @@ pub fn put_conclusion(
     index: &[u16; RULE_INDEX],
     kinds: &[[u8; STRUCTURES]; STRUCTURES],
     sources: &[u8; STRUCTURES],
-    masks: &[[u64; SORTS]; STRUCTURES],
+    masks: &[[Held; SORTS]; STRUCTURES],
     vars: &[[u16; FIELDS]; STRUCTURES],
     types: &[u8],
     t: usize,
@@ -85,8 +88,7 @@ pub fn put_conclusion(
             t,
         );
     }
-    let row = masks[t];
-    put_domains(out, from, b'H', s, index, t, &vars[t], row[1])
+    put_domains(out, from, b'H', s, index, t, &vars[t], mask_at(masks, t, FUNCS))
 }
 
 // A rule: its name, the statements of the map's source, and the conclusion.
@@ -97,7 +99,7 @@ fn put_rule(
     index: &[u16; RULE_INDEX],
     kinds: &[[u8; STRUCTURES]; STRUCTURES],
     sources: &[u8; STRUCTURES],
-    masks: &[[u64; SORTS]; STRUCTURES],
+    masks: &[[Held; SORTS]; STRUCTURES],
     vars: &[[u16; FIELDS]; STRUCTURES],
     types: &[u8],
     t: usize,
@@ -128,7 +130,7 @@ pub fn put_rules(
     n: usize,
     kinds: &[[u8; STRUCTURES]; STRUCTURES],
     sources: &[u8; STRUCTURES],
-    masks: &[[u64; SORTS]; STRUCTURES],
+    masks: &[[Held; SORTS]; STRUCTURES],
     vars: &[[u16; FIELDS]; STRUCTURES],
     types: &[u8],
 ) -> usize

@@ -9,11 +9,11 @@ ghost use Rattle.records.specs.Buffer.{Put, countLimit};
 ghost use Rattle.rule.specs.Lookup.{ruleAt};
 ghost use Rattle.walk.specs.Tables.{tables, newsTo};
 ghost use Rattle.walk.specs.Ended.{Numbered};
-use walk::tables::UNREACHED;
 use naming::writer::put_variables;
 use rule::ids::FIELDS;
 use rule::ids::RULE_INDEX;
 use rule::ids::STRUCTURES;
+use walk::tables::UNREACHED;
 
 // Structures are reached in their order, so their new variables stand in the order of their numbers.
 pub fn put_all_variables(

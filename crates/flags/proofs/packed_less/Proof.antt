@@ -1,10 +1,10 @@
-use Prim.Native.Nat.{_-_, _≤_}
+use Prim.Native.Nat.{_-_, _≤_, _<_}
 use native.Mathlib.Omega.{arith}
 use mathlib.Core.Logic.{⊎-elim}
 use mathlib.Core.Path.{_≡_}
 use borrow.Author.Needs.{needs}
-use Rattle.flags.specs.Flags.{PackedLess}
-use Rattle.flags.proofs.Bits.{flags-start, flags-set, flags-clear}
+use Rattle.flags.specs.Flags.{places, PackedLess}
+use Rattle.flags.proofs.Words.{flags-start, flags-set, flags-clear}
 use Rattle.flags.proofs.packed_less.Statement.{statement}
 use Rattle.flags.proofs.packed_less.Tie as tie
 
@@ -24,7 +24,7 @@ array-read-if2 : tie.Need-array-read-if2 Inv-loop μ-loop
 array-read-if2 c = search needs
 
 with-flag-requires : tie.Need-with-flag-requires Inv-loop μ-loop
-with-flag-requires c κs = search needs
+with-flag-requires c κs = (search needs, c .before .before .before .loop .inv .1 .flags .above)
 
 add-i : tie.Need-add-i Inv-loop μ-loop
 add-i c = search needs
@@ -33,7 +33,7 @@ loop-less : tie.Need-loop-less Inv-loop μ-loop
 loop-less c = search needs
 
 loop-again : tie.Need-loop-again Inv-loop μ-loop
-loop-again c = (omega arith, ⊎-elim (λ w. rw (w .3, w .2 .ensures) (record { flags = flags-set (c .before .before .loop .inv .1 .flags) (rw (w .0 .taken, w .1 .taken)) })) (⊎-elim (λ w. rw (w .2) (record { flags = flags-clear (c .before .before .loop .inv .1 .flags) (rw (w .0 .taken, w .1 .left)) })) (λ w. rw (w .1) (record { flags = flags-clear (c .before .before .loop .inv .1 .flags) (rw (w .0 .left)) }))) (c .if1 .came))
+loop-again c = let few : c .before .before .loop .i < places = search needs in let p = c .before .before .loop .inv .1 .flags in (search needs, ⊎-elim (λ w. rw (w .3, w .2 .ensures) (record { flags = flags-set p few (rw (w .0 .taken, w .1 .taken)) })) (⊎-elim (λ w. rw (w .2) (record { flags = flags-clear p few (rw (w .0 .taken, w .1 .left)) })) (λ w. rw (w .1) (record { flags = flags-clear p few (rw (w .0 .left)) }))) (c .if1 .came))
 
 returns : tie.Need-returns Inv-loop μ-loop
 returns c = let e : c .before .loop .i ≡ c .before .before .args .count = omega arith in rw e at (c .before .loop .inv .1)

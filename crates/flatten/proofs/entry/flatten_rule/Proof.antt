@@ -3,7 +3,7 @@ use Rattle.signature.specs.Index.{signatureAt}
 use Rattle.walk.specs.Ended.{Ground}
 use Rattle.walk.proofs.Grounds.{AllMapped, ready, counted, ground}
 use Rattle.flatten.proofs.Writing.{ended, ended-writes, refused-at-once, refused-21, refused-22, stopped-walk}
-use Rattle.kinds.proofs.TableLaws.{empty-table}
+use Rattle.plan.proofs.TableLaws.{empty-table}
 use borrow.Author.Needs.{needs}
 use Rattle.flatten.proofs.entry.flatten_rule.Statement.{statement}
 use Rattle.flatten.proofs.entry.flatten_rule.Tie as tie
@@ -18,7 +18,7 @@ K c = c .before .before .before .before .before .before .before .before
 all-mapped : (c : tie.Else2) → AllMapped (S c .args .s .now)
 all-mapped c = (sym (c .before .before .before .unmapped-auxiliary .ensures) ∙ c .before .before .if1 .left, sym (c .before .unmapped-kind .ensures) ∙ c .if2 .left)
 
-gr : (c : tie.Else2) → Ground (signatureAt (S c .args .sig .now) (S c .args .arities .now) (S c .args .counts)) (S c .args .s .now) (S c .args .index .now)
+gr : (c : tie.Else2) → Ground (signatureAt (S c .args .sig .now) (S c .args .symbols .now) (S c .args .counts)) (S c .args .s .now) (S c .args .index .now)
 gr c = ground (S c .pre .1) (all-mapped c)
 
 unmapped-auxiliary-requires : tie.Need-unmapped-auxiliary-requires

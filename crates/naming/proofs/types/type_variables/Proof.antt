@@ -1,6 +1,6 @@
 use Rattle.naming.proofs.News.{Typing, typing, type-on, type-pass, type-end}
 use Rattle.naming.proofs.Placed.{below-count, past-count, element-few, type-read, type-byte}
-use Rattle.naming.specs.Structures.{structureIn}
+use Rattle.rule.specs.Structures.{structureIn}
 use mathlib.Core.Logic.{⊎-elim}
 use Prim.Native.Nat.{_≤_, _-_}
 use borrow.Author.Needs.{needs}

@@ -7,7 +7,7 @@ enum-known-base : tie.Need-enum-known-base
 enum-known-base c = search needs
 
 put-bytes-requires : tie.Need-put-bytes-requires
-put-bytes-requires c κs = (c .before .before .before .before .before .before .pre .0, rw (c .before .before .base .given .1) at (c .before .before .before .before .before .before .pre .1) .0)
+put-bytes-requires c κs = let p = c .before .before .before .before .before .before .pre in (p .0, rw (c .before .before .base .given .1) at (p .1) .inside)
 
 enum-told : tie.Need-enum-told
 enum-told c = search needs

@@ -3,8 +3,8 @@ use Rattle.definition.specs.Rule.{Element}
 use Rattle.definition.specs.Names.{newVariable}
 use Rattle.definition.specs.Writer.{variableField, fieldBytes}
 use Rattle.records.proofs.Tail.{lent}
-use Rattle.rows.specs.Elements.{elementIn}
-use Rattle.naming.specs.Structures.{structureIn}
+use Rattle.rule.specs.ElementFields.{elementIn}
+use Rattle.rule.specs.Structures.{structureIn}
 use Rattle.naming.specs.Bases.{variableBytes}
 use Rattle.naming.proofs.Printing.{variable-bytes, variable-counted}
 use borrow.Author.Needs.{needs}

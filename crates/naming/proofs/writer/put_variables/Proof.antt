@@ -1,6 +1,6 @@
 use Rattle.naming.proofs.Placed.{at-count}
 use Rattle.naming.proofs.Printing.{Printing, printing, printing-on, printing-pass, printing-end, printing-count}
-use Rattle.naming.specs.Structures.{structureIn}
+use Rattle.rule.specs.Structures.{structureIn}
 use mathlib.Core.Logic.{⊎-elim}
 use Prim.Native.Nat.{_≤_, _-_}
 use borrow.Author.Needs.{needs}

@@ -7,9 +7,9 @@ use Rattle.definition.specs.Limits.{fieldLimit}
 use Rattle.definition.specs.Kinds.{Side}
 use Rattle.rule.specs.Elements.{elementNumbers}
 use Rattle.rows.specs.Kernel.{SideAt}
-use Rattle.rows.specs.Maps.{pairsIn}
+use Rattle.rule.specs.MapFields.{pairsIn}
 use Rattle.rows.proofs.KernelLaws.{KeysDone, keys-start, key-found, keys-next, keys-all}
-use Rattle.rows.proofs.ElementLaws.{found-few}
+use Rattle.rule.proofs.ElementLaws.{found-few}
 use Rattle.rows.proofs.kernel.key_vars.Statement.{statement}
 use Rattle.rows.proofs.kernel.key_vars.Tie as tie
 

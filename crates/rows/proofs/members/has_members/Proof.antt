@@ -4,8 +4,8 @@ use lib.ListN.{drop}
 use borrow.Author.Needs.{needs}
 use Rattle.definition.specs.Base.{any}
 use Rattle.rule.specs.Elements.{countAt}
-use Rattle.rows.specs.Members.{hasParents}
-use Rattle.rows.specs.Elements.{elementsIn}
+use Rattle.rule.specs.ElementFields.{elementsIn}
+use Rattle.rule.specs.Rows.{hasParents}
 use Rattle.rows.proofs.MemberLaws.{some-here, some-later, some-end}
 use Rattle.rows.proofs.members.has_members.Statement.{statement}
 use Rattle.rows.proofs.members.has_members.Tie as tie

@@ -7,8 +7,9 @@ use borrow.Author.Needs.{needs}
 use Rattle.definition.specs.Rows.{memberRow}
 use Rattle.definition.specs.Rule.{Row}
 use Rattle.definition.specs.Letters.{member}
-use Rattle.rows.specs.Table.{Held, Alike}
-use Rattle.rows.specs.Elements.{elementFrom}
+use Rattle.rule.specs.Rows.{Alike}
+use Rattle.rows.specs.Table.{Held}
+use Rattle.rule.specs.ElementFields.{elementFrom}
 use Rattle.rows.proofs.TableLaws.{Searching, search-start, search-other, search-differs, search-hit, search-end}
 use Rattle.rows.proofs.members.is_member_image.Statement.{statement}
 use Rattle.rows.proofs.members.is_member_image.Tie as tie

@@ -6,7 +6,7 @@ use borrow.Author.Needs.{needs}
 use Rattle.definition.specs.Limits.{fieldLimit}
 use Rattle.rule.specs.Elements.{countAt}
 use Rattle.rows.specs.Table.{tableSize}
-use Rattle.rows.specs.Maps.{pairsIn}
+use Rattle.rule.specs.MapFields.{pairsIn}
 use Rattle.rows.proofs.MemberLaws.{Filling, filling-start, filling-skip, filling-next, filling-stop, filling-end}
 use Rattle.rows.proofs.members.mapped_members.Statement.{statement}
 use Rattle.rows.proofs.members.mapped_members.Tie as tie

@@ -5,19 +5,20 @@ use mathlib.Core.List.{List}
 use lib.ListN.{length, take, length-set}
 use borrow.Author.Needs.{needs}
 use Rattle.definition.specs.Rule.{Row, Pair}
-use Rattle.definition.specs.Limits.{fieldLimit}
+use Rattle.flags.specs.Flags.{places}
 use Rattle.definition.specs.Letters.{member}
 use Rattle.definition.specs.Base.{each}
 use Rattle.rule.specs.Elements.{countAt}
-use Rattle.rows.specs.Table.{Alike, Holds}
-use Rattle.rows.specs.Members.{memberRows, newMember}
-use Rattle.rows.specs.Elements.{elementsIn}
+use Rattle.rule.specs.Rows.{Alike, memberRows}
+use Rattle.rows.specs.Table.{Holds}
+use Rattle.rows.specs.Members.{newMember}
+use Rattle.rule.specs.ElementFields.{elementsIn}
 use Rattle.rows.proofs.MemberLaws.{new-flag, member-alike, flags-all}
 use Rattle.rows.proofs.members.new_members.Statement.{statement}
 use Rattle.rows.proofs.members.new_members.Tie as tie
 
 abbrev Inv-loop : tie.InvT-loop
-Inv-loop s index k symbols els images count flags₀ i₀ flags i = (length flags ≡ fieldLimit) × (count ≡ countAt index k) × (i ≤ count) × ((columns : ℕ → ℕ) (pairs : List Pair) (sources : List Row) → Holds member columns pairs sources symbols els images → Alike member columns (memberRows (elementsIn s index k)) → take i flags ≡ each (newMember pairs sources) (take i (elementsIn s index k)))
+Inv-loop s index k symbols els images count flags₀ i₀ flags i = (length flags ≡ places) × (count ≡ countAt index k) × (i ≤ count) × ((columns : ℕ → ℕ) (pairs : List Pair) (sources : List Row) → Holds member columns pairs sources symbols els images → Alike member columns (memberRows (elementsIn s index k)) → take i flags ≡ each (newMember pairs sources) (take i (elementsIn s index k)))
 
 abbrev μ-loop : tie.MeasureT-loop
 μ-loop s index k symbols els images count flags₀ i₀ flags i = count - i

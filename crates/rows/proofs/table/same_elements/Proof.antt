@@ -1,32 +1,24 @@
-use Prim.Native.Nat.{_*_, _-_}
+use Prim.Native.Nat.{_-_}
 use mathlib.Core.Path.{_≡_, refl, sym, _∙_}
 use lib.ListN.{drop}
 use borrow.Author.Needs.{needs}
-use Rattle.definition.specs.Records.{numbers}
 use Rattle.definition.specs.Base.{sameList}
 use Rattle.records.proofs.Numbers.{length-stretch, stretch-at}
 use Rattle.records.specs.Places.{stretch}
-use Rattle.rows.proofs.Parts.{count-in, element-in, same-on, same-no, same-end}
+use Rattle.records.proofs.Parts.{same-on, same-no, same-end}
+use Rattle.rule.specs.Lists.{elsIn}
+use Rattle.rule.proofs.ListLaws.{els-many}
 use Rattle.rows.proofs.table.same_elements.Statement.{statement}
 use Rattle.rows.proofs.table.same_elements.Tie as tie
 
 abbrev Inv-loop : tie.InvT-loop
-Inv-loop s start count els at j₀ j = sameList (numbers (stretch s start (2 * count))) (stretch els at count) ≡ sameList (drop j (numbers (stretch s start (2 * count)))) (drop j (stretch els at count))
+Inv-loop s l els at count j₀ j = sameList (elsIn s l) (stretch els at (l .count)) ≡ sameList (drop j (elsIn s l)) (drop j (stretch els at (l .count)))
 
 abbrev μ-loop : tie.MeasureT-loop
-μ-loop s start count els at j₀ j = count - j
+μ-loop s l els at count j₀ j = l .count - j
 
 loop-holds : tie.Need-loop-holds Inv-loop μ-loop
 loop-holds c = refl
-
-mul-num : tie.Need-mul-num Inv-loop μ-loop
-mul-num c = search needs
-
-add-num : tie.Need-add-num Inv-loop μ-loop
-add-num c = search needs
-
-num-requires : tie.Need-num-requires Inv-loop μ-loop
-num-requires c κs = search needs
 
 add-if1 : tie.Need-add-if1 Inv-loop μ-loop
 add-if1 c = search needs
@@ -38,7 +30,12 @@ element-copy-out-if1 : tie.Need-element-copy-out-if1 Inv-loop μ-loop
 element-copy-out-if1 c = search needs
 
 returns : tie.Need-returns Inv-loop μ-loop
-returns c = sym (c .before .before .before .before .loop .inv ∙ same-no _ _ (count-in _ _ _ (c .before .before .before .before .before .before .pre .0)) (length-stretch _ _ _ (search needs)) (c .before .before .before .loop-test .taken) (λ e. c .if1 .taken (c .before .before .num .ensures ∙ sym (element-in _ _ _ (c .before .before .before .before .before .before .pre .0) _ (c .before .before .before .loop-test .taken)) ∙ e ∙ stretch-at _ _ _ _ (c .before .before .before .loop-test .taken))))
+returns c =
+    let v = c .before .before .before .before .before .loop .inv in
+    let h = c .before .before .before .before .loop-test .taken in
+    let n = els-many (c .before .before .before .before .before .before .before .pre .0) in
+    let d = c .before .before .before .el-at .ensures in
+    sym (v ∙ same-no _ _ n (length-stretch _ _ _ (search needs)) h (λ e. c .if1 .taken (d ∙ e ∙ stretch-at _ _ _ _ h)))
 
 add-j : tie.Need-add-j Inv-loop μ-loop
 add-j c = search needs
@@ -47,10 +44,20 @@ loop-less : tie.Need-loop-less Inv-loop μ-loop
 loop-less c = search needs
 
 loop-again : tie.Need-loop-again Inv-loop μ-loop
-loop-again c = c .before .before .before .before .loop .inv ∙ same-on _ _ (count-in _ _ _ (c .before .before .before .before .before .before .pre .0)) (length-stretch _ _ _ (search needs)) (c .before .before .before .loop-test .taken) (element-in _ _ _ (c .before .before .before .before .before .before .pre .0) _ (c .before .before .before .loop-test .taken) ∙ sym (c .before .before .num .ensures) ∙ c .if1 .left ∙ sym (stretch-at _ _ _ _ (c .before .before .before .loop-test .taken)))
+loop-again c =
+    let v = c .before .before .before .before .before .loop .inv in
+    let h = c .before .before .before .before .loop-test .taken in
+    let n = els-many (c .before .before .before .before .before .before .before .pre .0) in
+    let d = c .before .before .before .el-at .ensures in
+    v ∙ same-on _ _ n (length-stretch _ _ _ (search needs)) h (sym d ∙ c .if1 .left ∙ sym (stretch-at _ _ _ _ h))
 
 returns-2 : tie.Need-returns-2 Inv-loop μ-loop
-returns-2 c = sym (c .before .loop .inv ∙ same-end _ _ (count-in _ _ _ (c .before .before .before .pre .0)) (length-stretch _ _ _ (search needs)) (c .loop-test .left))
+returns-2 c =
+    let n = els-many (c .before .before .before .pre .0) in
+    sym (c .before .loop .inv ∙ same-end _ _ n (length-stretch _ _ _ (search needs)) (c .loop-test .left))
+
+el-at-requires : tie.Need-el-at-requires Inv-loop μ-loop
+el-at-requires c κs = search needs
 
 pub same-elements-spec : {M : Type 1} → statement M
 same-elements-spec =
@@ -59,9 +66,7 @@ same-elements-spec =
     Inv-loop
     μ-loop
     loop-holds
-    mul-num
-    add-num
-    num-requires
+    el-at-requires
     add-if1
     mul-if1
     element-copy-out-if1

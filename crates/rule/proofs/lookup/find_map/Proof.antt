@@ -1,4 +1,4 @@
-use Rattle.rule.proofs.Maps.{Seeking, seek-start, seek-end, seek-bad, seek-long, seek-hit, seek-next}
+use Rattle.rule.proofs.MapSearch.{Seeking, seek-start, seek-end, seek-bad, seek-long, seek-hit, seek-next}
 use Rattle.definition.specs.Letters.{letterM}
 use Prim.Native.Nat.{_-_}
 use mathlib.Core.Path.{_∙_, sym}

@@ -1,5 +1,6 @@
 use Rattle.rule.specs.Layout.{placeOf}
 use Rattle.definition.specs.Base.{placeFrom}
+use Rattle.definition.specs.Letters.{start, letterN, letterS, letterE, letterR, letterA, letterV, letterI, letterM, letterK, letterX}
 use mathlib.Core.Path.{sym}
 use borrow.Author.Tests.{ne-eqb}
 use Rattle.rule.proofs.pass.place.Statement.{statement}
@@ -51,7 +52,19 @@ returns-11 c = rw (c .match .keys11)
 
 returns-12 : tie.Need-returns-12
 unfolding placeOf placeFrom
-returns-12 c = rw (ne-eqb 0 _ (λ e. c .match .rest .0 .0 .0 .0 .0 .0 .0 .0 .0 .0 .1 (sym e)), ne-eqb 78 _ (λ e. c .match .rest .0 .0 .0 .0 .0 .0 .0 .0 .0 .1 (sym e)), ne-eqb 83 _ (λ e. c .match .rest .0 .0 .0 .0 .0 .0 .0 .0 .1 (sym e)), ne-eqb 69 _ (λ e. c .match .rest .0 .0 .0 .0 .0 .0 .0 .1 (sym e)), ne-eqb 82 _ (λ e. c .match .rest .0 .0 .0 .0 .0 .0 .1 (sym e)), ne-eqb 65 _ (λ e. c .match .rest .0 .0 .0 .0 .0 .1 (sym e)), ne-eqb 86 _ (λ e. c .match .rest .0 .0 .0 .0 .1 (sym e)), ne-eqb 73 _ (λ e. c .match .rest .0 .0 .0 .1 (sym e)), ne-eqb 77 _ (λ e. c .match .rest .0 .0 .1 (sym e)), ne-eqb 75 _ (λ e. c .match .rest .0 .1 (sym e)), ne-eqb 88 _ (λ e. c .match .rest .1 (sym e)))
+returns-12 c = rw (
+    ne-eqb start _ (λ e. c .match .rest .0 .0 .0 .0 .0 .0 .0 .0 .0 .0 .1 (sym e)),
+    ne-eqb letterN _ (λ e. c .match .rest .0 .0 .0 .0 .0 .0 .0 .0 .0 .1 (sym e)),
+    ne-eqb letterS _ (λ e. c .match .rest .0 .0 .0 .0 .0 .0 .0 .0 .1 (sym e)),
+    ne-eqb letterE _ (λ e. c .match .rest .0 .0 .0 .0 .0 .0 .0 .1 (sym e)),
+    ne-eqb letterR _ (λ e. c .match .rest .0 .0 .0 .0 .0 .0 .1 (sym e)),
+    ne-eqb letterA _ (λ e. c .match .rest .0 .0 .0 .0 .0 .1 (sym e)),
+    ne-eqb letterV _ (λ e. c .match .rest .0 .0 .0 .0 .1 (sym e)),
+    ne-eqb letterI _ (λ e. c .match .rest .0 .0 .0 .1 (sym e)),
+    ne-eqb letterM _ (λ e. c .match .rest .0 .0 .1 (sym e)),
+    ne-eqb letterK _ (λ e. c .match .rest .0 .1 (sym e)),
+    ne-eqb letterX _ (λ e. c .match .rest .1 (sym e)),
+    )
 
 pub place-spec : {M : Type 1} → statement M
 place-spec =

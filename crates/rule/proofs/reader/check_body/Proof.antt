@@ -10,14 +10,11 @@ mul-section c = search needs
 add-section : tie.Need-add-section
 add-section c = search needs
 
-add-bound : tie.Need-add-bound
-add-bound c = search needs
-
 bound-requires : tie.Need-bound-requires
 bound-requires c κs = search needs
 
-add-bound-2 : tie.Need-add-bound-2
-add-bound-2 c = search needs
+add-bound : tie.Need-add-bound
+add-bound c = search needs
 
 bound-requires-2 : tie.Need-bound-requires-2
 bound-requires-2 c κs = search needs
@@ -55,9 +52,8 @@ check-body-spec =
     (tie.spec
     mul-section
     add-section
-    add-bound
     bound-requires
-    add-bound-2
+    add-bound
     bound-requires-2
     check-elements-requires
     enum-told

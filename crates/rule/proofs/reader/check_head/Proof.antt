@@ -1,4 +1,4 @@
-use Rattle.rule.proofs.Heads.{head-bad, head-size}
+use Rattle.rule.proofs.Heads.{head-bad, head-size, head-of}
 use mathlib.Core.Path.{sym, _∙_}
 use borrow.Author.Needs.{needs}
 use Rattle.rule.proofs.reader.check_head.Statement.{statement}
@@ -23,13 +23,13 @@ enum-told : tie.Need-enum-told
 enum-told c = search needs
 
 returns : tie.Need-returns
-returns c = (λ f h. head-bad h (rw (c .before .before .before .bound .ensures) at (sym (c .before .before .read-field .ensures .0) ∙ c .enum-told .given .1)), record { is = tt })
+returns c = (λ f h. head-bad (head-of _ _ h) (rw (c .before .before .before .bound .ensures) at (sym (c .before .before .read-field .ensures .0) ∙ c .enum-told .given .1)), record { is = tt })
 
 structure-fault-requires : tie.Need-structure-fault-requires
 structure-fault-requires c κs = search needs
 
 returns-2 : tie.Need-returns-2
-returns-2 c = (λ f h. c .structure-fault .ensures .0 f (head-size h (rw (c .before .before .before .before .before .bound .ensures) at (sym (c .before .before .before .before .read-field .ensures .0) ∙ c .before .before .f .given .1))), c .structure-fault .ensures .1)
+returns-2 c = (λ f h. c .structure-fault .ensures .0 f (head-size (head-of _ _ h) (rw (c .before .before .before .before .before .bound .ensures) at (sym (c .before .before .before .before .read-field .ensures .0) ∙ c .before .before .f .given .1))), c .structure-fault .ensures .1)
 
 pub check-head-spec : {M : Type 1} → statement M
 check-head-spec =

@@ -5,11 +5,8 @@ use native.Mathlib.Omega.{arith}
 use Rattle.rule.proofs.reader.check_rest.Statement.{statement}
 use Rattle.rule.proofs.reader.check_rest.Tie as tie
 
-mul-section : tie.Need-mul-section
-mul-section c = search needs
-
-add-section : tie.Need-add-section
-add-section c = search needs
+mul-first : tie.Need-mul-first
+mul-first c = search needs
 
 add-check-section : tie.Need-add-check-section
 add-check-section c = search needs
@@ -43,7 +40,7 @@ bound-requires-2 c κs = search needs
 
 returns-2 : tie.Need-returns-2
 returns-2 c = λ body b e. rest-none _ _ _ _ body e (c .before .before .before .before .before .check-section .ensures body (run-r b)) (c .before .before .before .enum-told .given .1)
-    (none-behind b (sym (c .before .before .bound .ensures) ∙ c .if1 .taken ∙ c .before .bound2 .ensures) (omega arith) (omega arith))
+    (none-behind b (sym (c .before .before .bound .ensures) ∙ c .if1 .taken ∙ c .before .bound2 .ensures))
 
 add-check-section-3 : tie.Need-add-check-section-3
 add-check-section-3 c = search needs
@@ -106,8 +103,7 @@ pub check-rest-spec : {M : Type 1} → statement M
 check-rest-spec =
     tie.close
     (tie.spec
-    mul-section
-    add-section
+    mul-first
     add-check-section
     add-check-section-2
     check-section-requires

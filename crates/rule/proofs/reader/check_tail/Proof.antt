@@ -1,4 +1,5 @@
 use Rattle.rule.proofs.Whole.{tail-m, tail-k, tail-x, tail-run, letter-m, letter-k, letter-x}
+use Rattle.rule.specs.Layout.{placeM, placeK, placeX}
 use mathlib.Core.Logic.{⊎-elim}
 use borrow.Author.Needs.{needs}
 use native.Mathlib.Omega.{arith}
@@ -15,7 +16,7 @@ enum-told-2 : tie.Need-enum-told-2
 enum-told-2 c = search needs
 
 returns : tie.Need-returns
-returns c = λ fs b e. tail-m _ fs e (c .before .before .check-section .ensures fs (tail-run b 8 _ 193 194 (omega arith) (omega arith) letter-m (omega arith) (omega arith))) (c .enum-told2 .given .1)
+returns c = λ fs b e. tail-m _ fs e (c .before .before .check-section .ensures fs (tail-run b placeM _ (omega arith) (omega arith) letter-m)) (c .enum-told2 .given .1)
 
 check-section-requires-2 : tie.Need-check-section-requires-2
 check-section-requires-2 c κs = (c .before .before .before .before .before .pre .0, (c .before .before .before .before .before .pre .1, (omega arith, λ q. absurd (⊎-elim (λ e. omega arith) (⊎-elim (λ e. omega arith) (⊎-elim (λ e. omega arith) (λ e. omega arith))) q))))
@@ -27,7 +28,7 @@ enum-told-4 : tie.Need-enum-told-4
 enum-told-4 c = search needs
 
 returns-2 : tie.Need-returns-2
-returns-2 c = λ fs b e. tail-k _ fs e (c .before .before .before .before .before .check-section .ensures fs (tail-run b 8 _ 193 194 (omega arith) (omega arith) letter-m (omega arith) (omega arith))) (c .before .before .before .enum-told .given .1) (c .before .before .check-section2 .ensures fs (tail-run b 9 _ 194 195 (omega arith) (omega arith) letter-k (omega arith) (omega arith))) (c .enum-told4 .given .1)
+returns-2 c = λ fs b e. tail-k _ fs e (c .before .before .before .before .before .check-section .ensures fs (tail-run b placeM _ (omega arith) (omega arith) letter-m)) (c .before .before .before .enum-told .given .1) (c .before .before .check-section2 .ensures fs (tail-run b placeK _ (omega arith) (omega arith) letter-k)) (c .enum-told4 .given .1)
 
 check-section-requires-3 : tie.Need-check-section-requires-3
 check-section-requires-3 c κs = (c .before .before .before .before .before .before .before .before .pre .0, (c .before .before .before .before .before .before .before .before .pre .1, (omega arith, λ q. absurd (⊎-elim (λ e. omega arith) (⊎-elim (λ e. omega arith) (⊎-elim (λ e. omega arith) (λ e. omega arith))) q))))
@@ -39,10 +40,10 @@ enum-told-6 : tie.Need-enum-told-6
 enum-told-6 c = search needs
 
 returns-3 : tie.Need-returns-3
-returns-3 c = λ fs b e. tail-x _ fs e (c .before .before .before .before .before .before .before .before .check-section .ensures fs (tail-run b 8 _ 193 194 (omega arith) (omega arith) letter-m (omega arith) (omega arith))) (c .before .before .before .before .before .before .enum-told .given .1) (c .before .before .before .before .before .check-section2 .ensures fs (tail-run b 9 _ 194 195 (omega arith) (omega arith) letter-k (omega arith) (omega arith))) (c .before .before .before .enum-told3 .given .1) (c .before .before .check-section3 .result) (c .before .before .check-section3 .ensures fs (tail-run b 10 _ 195 196 (omega arith) (omega arith) letter-x (omega arith) (omega arith)))
+returns-3 c = λ fs b e. tail-x _ fs e (c .before .before .before .before .before .before .before .before .check-section .ensures fs (tail-run b placeM _ (omega arith) (omega arith) letter-m)) (c .before .before .before .before .before .before .enum-told .given .1) (c .before .before .before .before .before .check-section2 .ensures fs (tail-run b placeK _ (omega arith) (omega arith) letter-k)) (c .before .before .before .enum-told3 .given .1) (c .before .before .check-section3 .result) (c .before .before .check-section3 .ensures fs (tail-run b placeX _ (omega arith) (omega arith) letter-x))
 
 returns-4 : tie.Need-returns-4
-returns-4 c = λ fs b e. rw (c .enum-told5 .given .1) at (tail-x _ fs e (c .before .before .before .before .before .before .before .before .check-section .ensures fs (tail-run b 8 _ 193 194 (omega arith) (omega arith) letter-m (omega arith) (omega arith))) (c .before .before .before .before .before .before .enum-told .given .1) (c .before .before .before .before .before .check-section2 .ensures fs (tail-run b 9 _ 194 195 (omega arith) (omega arith) letter-k (omega arith) (omega arith))) (c .before .before .before .enum-told3 .given .1) (c .before .before .check-section3 .result) (c .before .before .check-section3 .ensures fs (tail-run b 10 _ 195 196 (omega arith) (omega arith) letter-x (omega arith) (omega arith))))
+returns-4 c = λ fs b e. rw (c .enum-told5 .given .1) at (tail-x _ fs e (c .before .before .before .before .before .before .before .before .check-section .ensures fs (tail-run b placeM _ (omega arith) (omega arith) letter-m)) (c .before .before .before .before .before .before .enum-told .given .1) (c .before .before .before .before .before .check-section2 .ensures fs (tail-run b placeK _ (omega arith) (omega arith) letter-k)) (c .before .before .before .enum-told3 .given .1) (c .before .before .check-section3 .result) (c .before .before .check-section3 .ensures fs (tail-run b placeX _ (omega arith) (omega arith) letter-x)))
 
 pub check-tail-spec : {M : Type 1} → statement M
 check-tail-spec =

@@ -6,7 +6,7 @@ use lib.ListN.{length, length-set}
 use borrow.Author.Needs.{needs}
 use Rattle.definition.specs.Limits.{fieldLimit}
 use Rattle.rule.specs.Elements.{elementNumbers}
-use Rattle.rows.proofs.ElementLaws.{found-few}
+use Rattle.rule.proofs.ElementLaws.{found-few}
 use Rattle.rows.proofs.KernelLaws.{key-found}
 use Rattle.statements.proofs.Fibers.{FiberTo, fiber-start, fiber-pass, fiber-next, fiber-end}
 use Rattle.statements.proofs.equalities.fiber_vars.Statement.{statement}

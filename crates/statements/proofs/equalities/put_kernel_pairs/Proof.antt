@@ -7,9 +7,9 @@ use borrow.Author.Needs.{needs}
 use Rattle.definition.specs.Kinds.{variableIn}
 use Rattle.definition.specs.Names.{numbersOf}
 use Rattle.records.proofs.Tail.{Writing, begin, wrote, passed, finish}
-use Rattle.rows.specs.Maps.{pairsIn}
+use Rattle.rule.specs.MapFields.{pairsIn}
 use Rattle.rows.proofs.Several.{unflagged}
-use Rattle.naming.specs.Structures.{structureIn}
+use Rattle.rule.specs.Structures.{structureIn}
 use Rattle.naming.proofs.Placed.{at-count}
 use Rattle.statements.specs.Structures.{sideIn}
 use Rattle.statements.proofs.Fibers.{overBytes, els-on, els-pass, els-end, over-all, place-in-numbers}

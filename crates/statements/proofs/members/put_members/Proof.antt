@@ -1,6 +1,6 @@
 use Rattle.statements.proofs.Unsaid.{unsaid, members-none}
 use Rattle.statements.proofs.Elements.{Ordered, membersFrom, members-on, members-pass, members-end, members-all, order-below, order-few}
-use Rattle.naming.specs.Structures.{structureIn}
+use Rattle.rule.specs.Structures.{structureIn}
 use Rattle.records.proofs.Tail.{Writing, begin, wrote, passed, finish}
 use mathlib.Core.Path.{sym, _∙_}
 use mathlib.Core.Logic.{⊎-elim}
@@ -16,11 +16,14 @@ Inv-loop out₀ from letter s index k row mask m order at₀ n₀ out at n = Ord
 abbrev μ-loop : tie.MeasureT-loop
 μ-loop out₀ from letter s index k row mask m order at₀ n₀ out at n = m .count - n
 
+none-set-requires : tie.Need-none-set-requires Inv-loop μ-loop
+none-set-requires c κs = search needs
+
 returns : tie.Need-returns Inv-loop μ-loop
-returns c = unsaid _ _ (members-none _ _ (c .if1 .taken)) (search needs)
+returns c = unsaid _ _ (members-none _ _ _ (sym (c .before .none-set .ensures) ∙ c .if1 .taken)) (search needs)
 
 sorted-members-requires : tie.Need-sorted-members-requires Inv-loop μ-loop
-sorted-members-requires c κs = (c .before .before .before .pre .1 .at .laid .few, c .before .before .before .pre .1 .at .laid .elements)
+sorted-members-requires c κs = (c .before .before .before .before .pre .1 .at .laid .few, c .before .before .before .before .pre .1 .at .laid .elements)
 
 loop-holds : tie.Need-loop-holds Inv-loop μ-loop
 loop-holds c = (record { long = search needs; few = c .before .sorted-members .ensures .1 .0; sorted = c .before .sorted-members .ensures .0; below = c .before .sorted-members .ensures .1 .1 }, search needs, begin _ _ (search needs))
@@ -32,10 +35,10 @@ wide-requires : tie.Need-wide-requires Inv-loop μ-loop
 wide-requires c κs = search needs
 
 flag-requires : tie.Need-flag-requires Inv-loop μ-loop
-flag-requires c κs = rw (c .wide .ensures .0) (order-few (c .before .before .before .before .before .before .before .before .before .pre .1) (c .before .before .before .loop .inv .0) _ (c .before .if2 .taken))
+flag-requires c κs = rw (c .wide .ensures .0) (order-few (c .before .before .before .before .before .before .before .before .before .before .pre .1) (c .before .before .before .loop .inv .0) _ (c .before .if2 .taken))
 
 put-element-requires : tie.Need-put-element-requires Inv-loop μ-loop
-put-element-requires c κs = ((search needs, rw (c .before .before .before .wide .ensures .0) (order-below (c .before .before .before .before .before .before .before .before .before .before .before .before .pre .1) (c .before .before .before .before .before .before .loop .inv .0) _ (c .before .before .before .before .if2 .taken))), c .before .before .before .before .before .before .before .before .before .before .before .before .pre .1)
+put-element-requires c κs = ((search needs, rw (c .before .before .before .wide .ensures .0) (order-below (c .before .before .before .before .before .before .before .before .before .before .before .before .before .pre .1) (c .before .before .before .before .before .before .loop .inv .0) _ (c .before .before .before .before .if2 .taken))), c .before .before .before .before .before .before .before .before .before .before .before .before .before .pre .1)
 
 add-n : tie.Need-add-n Inv-loop μ-loop
 add-n c = search needs
@@ -44,13 +47,13 @@ loop-less : tie.Need-loop-less Inv-loop μ-loop
 loop-less c = search needs
 
 loop-again : tie.Need-loop-again Inv-loop μ-loop
-loop-again c = ⊎-elim (λ w. (c .before .before .before .before .before .loop .inv .0, search needs, rw (w .5, w .6) (wrote (c .before .before .before .before .before .loop .inv .2) (rw (c .before .before .wide .ensures .0) (members-on (c .before .before .before .before .before .before .before .before .before .before .before .pre .1) _ _ _ (c .before .before .before .before .before .loop .inv .0) _ (c .before .before .before .if2 .taken) (rw (c .before .before .wide .ensures .0) at (sym (c .before .flag .ensures) ∙ w .0 .taken)))) (w .2 .ensures)))) (λ w. (c .before .before .before .before .before .loop .inv .0, search needs, rw (w .1, w .2) (passed (c .before .before .before .before .before .loop .inv .2) (members-pass (c .before .before .before .before .before .before .before .before .before .before .before .pre .1) _ _ _ (c .before .before .before .before .before .loop .inv .0) _ (c .before .before .before .if2 .taken) (rw (c .before .before .wide .ensures .0) at (sym (c .before .flag .ensures) ∙ w .0 .left)))))) (c .if3 .came)
+loop-again c = ⊎-elim (λ w. (c .before .before .before .before .before .loop .inv .0, search needs, rw (w .5, w .6) (wrote (c .before .before .before .before .before .loop .inv .2) (rw (c .before .before .wide .ensures .0) (members-on (c .before .before .before .before .before .before .before .before .before .before .before .before .pre .1) _ _ _ (c .before .before .before .before .before .loop .inv .0) _ (c .before .before .before .if2 .taken) (rw (c .before .before .wide .ensures .0) at (sym (c .before .flag .ensures) ∙ w .0 .taken)))) (w .2 .ensures)))) (λ w. (c .before .before .before .before .before .loop .inv .0, search needs, rw (w .1, w .2) (passed (c .before .before .before .before .before .loop .inv .2) (members-pass (c .before .before .before .before .before .before .before .before .before .before .before .before .pre .1) _ _ _ (c .before .before .before .before .before .loop .inv .0) _ (c .before .before .before .if2 .taken) (rw (c .before .before .wide .ensures .0) at (sym (c .before .flag .ensures) ∙ w .0 .left)))))) (c .if3 .came)
 
 same-length : tie.Need-same-length Inv-loop μ-loop
 same-length c = c .before .before .loop .inv .2 .put .long
 
 returns-2 : tie.Need-returns-2 Inv-loop μ-loop
-returns-2 c = rw (← (members-all _ _ _ _)) (finish (c .before .before .loop .inv .2) (members-end (c .before .before .before .before .before .before .before .before .pre .1) _ _ _ (c .before .before .loop .inv .0) _ (c .if2 .left)))
+returns-2 c = rw (← (members-all _ _ _ _)) (finish (c .before .before .loop .inv .2) (members-end (c .before .before .before .before .before .before .before .before .before .pre .1) _ _ _ (c .before .before .loop .inv .0) _ (c .if2 .left)))
 
 pub put-members-spec : {M : Type 1} → statement M
 put-members-spec =
@@ -58,6 +61,7 @@ put-members-spec =
     (tie.spec
     Inv-loop
     μ-loop
+    none-set-requires
     returns
     sorted-members-requires
     loop-holds

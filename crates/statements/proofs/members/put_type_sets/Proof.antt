@@ -1,7 +1,7 @@
 use Rattle.statements.proofs.Unsaid.{unsaid, types-none}
 use Rattle.statements.proofs.Elements.{typesFrom, types-on, types-pass, types-end, types-all, few-places}
 use Rattle.statements.specs.Parts.{variableBy}
-use Rattle.naming.specs.Structures.{structureIn}
+use Rattle.rule.specs.Structures.{structureIn}
 use Rattle.records.proofs.Tail.{Writing, begin, wrote, passed, finish}
 use mathlib.Core.Path.{sym, _∙_}
 use mathlib.Core.Logic.{⊎-elim}
@@ -16,8 +16,11 @@ Inv-loop out₀ from letter s index k row mask count at₀ i₀ out at i = (i �
 abbrev μ-loop : tie.MeasureT-loop
 μ-loop out₀ from letter s index k row mask count at₀ i₀ out at i = count - i
 
+none-set-requires : tie.Need-none-set-requires Inv-loop μ-loop
+none-set-requires c κs = search needs
+
 returns : tie.Need-returns Inv-loop μ-loop
-returns c = unsaid _ _ (types-none _ _ (c .if1 .taken) _) (search needs)
+returns c = unsaid _ _ (types-none _ _ _ (sym (c .before .none-set .ensures) ∙ c .if1 .taken) _) (search needs)
 
 element-count-requires : tie.Need-element-count-requires Inv-loop μ-loop
 element-count-requires c κs = search needs
@@ -26,7 +29,7 @@ loop-holds : tie.Need-loop-holds Inv-loop μ-loop
 loop-holds c = (search needs, begin _ _ (search needs))
 
 flag-requires : tie.Need-flag-requires Inv-loop μ-loop
-flag-requires c κs = few-places (c .before .before .before .before .before .before .pre .1) (c .before .before .element-count .ensures) (c .loop-test .taken)
+flag-requires c κs = few-places (c .before .before .before .before .before .before .before .pre .1) (c .before .before .element-count .ensures) (c .loop-test .taken)
 
 put-type-set-requires : tie.Need-put-type-set-requires Inv-loop μ-loop
 put-type-set-requires c κs = search needs
@@ -38,13 +41,13 @@ loop-less : tie.Need-loop-less Inv-loop μ-loop
 loop-less c = search needs
 
 loop-again : tie.Need-loop-again Inv-loop μ-loop
-loop-again c = ⊎-elim (λ w. (search needs, rw (w .5, w .6) (wrote (c .before .before .before .loop .inv .1) (types-on (c .before .before .before .before .before .before .before .before .pre .1) _ _ _ (c .before .before .before .before .element-count .ensures) (c .before .before .loop-test .taken) (sym (c .before .flag .ensures) ∙ w .0 .taken)) (w .2 .ensures)))) (λ w. (search needs, rw (w .1, w .2) (passed (c .before .before .before .loop .inv .1) (types-pass (c .before .before .before .before .before .before .before .before .pre .1) _ _ _ (c .before .before .before .before .element-count .ensures) (c .before .before .loop-test .taken) (sym (c .before .flag .ensures) ∙ w .0 .left))))) (c .if2 .came)
+loop-again c = ⊎-elim (λ w. (search needs, rw (w .5, w .6) (wrote (c .before .before .before .loop .inv .1) (types-on (c .before .before .before .before .before .before .before .before .before .pre .1) _ _ _ (c .before .before .before .before .element-count .ensures) (c .before .before .loop-test .taken) (sym (c .before .flag .ensures) ∙ w .0 .taken)) (w .2 .ensures)))) (λ w. (search needs, rw (w .1, w .2) (passed (c .before .before .before .loop .inv .1) (types-pass (c .before .before .before .before .before .before .before .before .before .pre .1) _ _ _ (c .before .before .before .before .element-count .ensures) (c .before .before .loop-test .taken) (sym (c .before .flag .ensures) ∙ w .0 .left))))) (c .if2 .came)
 
 same-length : tie.Need-same-length Inv-loop μ-loop
 same-length c = c .before .loop .inv .1 .put .long
 
 returns-2 : tie.Need-returns-2 Inv-loop μ-loop
-returns-2 c = rw (← (types-all _ _ _ _)) (finish (c .before .loop .inv .1) (types-end (c .before .before .before .before .before .before .pre .1) _ _ _ (c .before .before .element-count .ensures) (c .loop-test .left)))
+returns-2 c = rw (← (types-all _ _ _ _)) (finish (c .before .loop .inv .1) (types-end (c .before .before .before .before .before .before .before .pre .1) _ _ _ (c .before .before .element-count .ensures) (c .loop-test .left)))
 
 pub put-type-sets-spec : {M : Type 1} → statement M
 put-type-sets-spec =
@@ -52,6 +55,7 @@ put-type-sets-spec =
     (tie.spec
     Inv-loop
     μ-loop
+    none-set-requires
     returns
     element-count-requires
     loop-holds

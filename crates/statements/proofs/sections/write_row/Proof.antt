@@ -1,25 +1,24 @@
-use Prim.Native.Nat.{_+_, _-_, _*_, _≤_}
-use Rattle.definition.specs.Records.{numbers}
+-- Behind the statement's head the loop has written the variables of the first i elements (Writing); each element is one of the
+-- structure's, so it is found.
+use Prim.Native.Nat.{_-_, _≤_}
 use Rattle.definition.specs.Base.{each}
 use Rattle.records.proofs.Tail.{Writing, begin, wrote, finish}
-use Rattle.records.specs.Places.{stretch}
-use Rattle.naming.proofs.Placed.{found-few}
-use Rattle.naming.specs.Structures.{structureIn}
+use Rattle.rule.specs.Lists.{elsIn}
+use Rattle.rule.specs.Structures.{structureIn}
+use Rattle.rule.proofs.ElementLaws.{found-few}
 use Rattle.statements.specs.Parts.{variableBy}
-use Rattle.statements.proofs.Variables.{varsFrom, named-at, variable-found, stretch-many, stretch-on, stretch-end, statement-put}
+use Rattle.statements.proofs.Variables.{varsFrom, named-at, variable-found, els-said, els-said-on, els-said-end, statement-put}
 use borrow.Author.Needs.{needs}
 use native.Mathlib.Omega.{arith}
 use Rattle.statements.proofs.sections.write_row.Statement.{statement}
 use Rattle.statements.proofs.sections.write_row.Tie as tie
 
 abbrev Inv-loop : tie.InvT-loop
-Inv-loop out₀ letter kind s index k row start count at₀ i₀ out at i = (i ≤ count) × Writing out₀ out at₀ at (varsFrom (each (variableBy (structureIn s k) row) (numbers (stretch s (start + 2) (2 * count)))) 0) (varsFrom (each (variableBy (structureIn s k) row) (numbers (stretch s (start + 2) (2 * count)))) i)
+Inv-loop out₀ letter kind s index k row symbol els count at₀ i₀ out at i =
+    let vs = each (variableBy (structureIn s k) row) (elsIn s els) in (i ≤ els .count) × Writing out₀ out at₀ at (varsFrom vs 0) (varsFrom vs i)
 
 abbrev μ-loop : tie.MeasureT-loop
-μ-loop out₀ letter kind s index k row start count at₀ i₀ out at i = count - i
-
-num-requires : tie.Need-num-requires Inv-loop μ-loop
-num-requires c κs = search needs
+μ-loop out₀ letter kind s index k row symbol els count at₀ i₀ out at i = els .count - i
 
 put-statement-head-requires : tie.Need-put-statement-head-requires Inv-loop μ-loop
 put-statement-head-requires c κs = search needs
@@ -27,17 +26,8 @@ put-statement-head-requires c κs = search needs
 loop-holds : tie.Need-loop-holds Inv-loop μ-loop
 loop-holds c = (search needs, begin _ _ (search needs))
 
-add-num : tie.Need-add-num Inv-loop μ-loop
-add-num c = search needs
-
-mul-num : tie.Need-mul-num Inv-loop μ-loop
-mul-num c = search needs
-
-add-num-2 : tie.Need-add-num-2 Inv-loop μ-loop
-add-num-2 c = search needs
-
-num-requires-2 : tie.Need-num-requires-2 Inv-loop μ-loop
-num-requires-2 c κs = search needs
+el-at-requires : tie.Need-el-at-requires Inv-loop μ-loop
+el-at-requires c κs = search needs
 
 find-element-requires : tie.Need-find-element-requires Inv-loop μ-loop
 find-element-requires c κs = search needs
@@ -52,13 +42,21 @@ same-length : tie.Need-same-length Inv-loop μ-loop
 same-length c = search needs
 
 returns : tie.Need-returns Inv-loop μ-loop
-returns c = named-at (c .before .before .before .before .before .before .before .before .before .before .before .before .before .pre .1 .0) _ _ (c .before .before .before .before .before .before .before .before .before .before .before .before .before .pre .0 .0) _ (c .before .before .before .before .loop-test .taken) (c .before .before .before .before .before .before .before .before .before .before .before .before .before .pre .1 .1) (rw (c .enum-told .given .1, c .before .before .before .num2 .ensures) at (c .before .before .find-element .ensures))
+returns c =
+    let p = c .before .before .before .before .before .before .before .before .before .before .before .before .pre in
+    let f = rw (c .enum-told .given .1) at (c .before .before .find-element .ensures) in
+    named-at (p .1 .0) (p .0 .0) (c .before .before .before .before .loop-test .taken) (c .before .before .before .el-at .ensures) (p .1 .1) f
 
 mul-put-num : tie.Need-mul-put-num Inv-loop μ-loop
-mul-put-num c = let f = found-few (c .before .before .before .before .before .before .before .before .before .before .before .before .before .before .before .pre .1 .0) (rw (c .before .before .f .given .1) at (c .before .before .before .before .find-element .ensures)) in omega arith
+mul-put-num c =
+    let p = c .before .before .before .before .before .before .before .before .before .before .before .before .before .before .pre in
+    let f = rw (c .before .before .f .given .1) at (c .before .before .before .before .find-element .ensures) in
+    let few = found-few (p .1 .0 .elements .elements) f in omega arith
 
 element-copy-out-put-num : tie.Need-element-copy-out-put-num Inv-loop μ-loop
-element-copy-out-put-num c = found-few (c .before .before .before .before .before .before .before .before .before .before .before .before .before .before .before .pre .1 .0) (rw (c .before .before .f .given .1) at (c .before .before .before .before .find-element .ensures))
+element-copy-out-put-num c =
+    let p = c .before .before .before .before .before .before .before .before .before .before .before .before .before .before .pre in
+    found-few (p .1 .0 .elements .elements) (rw (c .before .before .f .given .1) at (c .before .before .before .before .find-element .ensures))
 
 put-num-requires : tie.Need-put-num-requires Inv-loop μ-loop
 put-num-requires c κs = search needs
@@ -70,13 +68,22 @@ loop-less : tie.Need-loop-less Inv-loop μ-loop
 loop-less c = search needs
 
 loop-again : tie.Need-loop-again Inv-loop μ-loop
-loop-again c = (search needs, wrote (c .before .before .before .before .before .before .before .before .before .before .before .loop .inv .1) (stretch-on _ _ _ (c .before .before .before .before .before .before .before .before .before .before .before .before .before .before .before .before .before .before .before .pre .0 .0) _ _ (c .before .before .before .before .before .before .before .before .before .before .loop-test .taken) (variable-found (c .before .before .before .before .before .before .before .before .before .before .before .before .before .before .before .before .before .before .before .pre .1 .0) _ (rw (c .before .before .before .before .before .before .f .given .1, c .before .before .before .before .before .before .before .before .before .num2 .ensures) at (c .before .before .before .before .before .before .before .before .find-element .ensures)))) (c .before .before .put-num .ensures))
+loop-again c =
+    (search needs,
+    let d = c .before .before .before .before .before .before .before .before in
+    let p = d .before .before .before .before .before .before .before .before .before .before .pre in
+    let v = variable-found (p .1 .0) _ (rw (c .before .before .before .before .before .before .f .given .1) at (d .find-element .ensures)) in
+    let on = els-said-on (p .0 .0) _ _ (d .before .before .loop-test .taken) (d .before .el-at .ensures) v in
+    wrote (d .before .before .before .loop .inv .1) on (c .before .before .put-num .ensures))
 
 same-length-2 : tie.Need-same-length-2 Inv-loop μ-loop
 same-length-2 c = search needs
 
 returns-2 : tie.Need-returns-2 Inv-loop μ-loop
-returns-2 c = statement-put _ _ (stretch-many _ _ _ (c .before .before .before .before .before .before .before .before .before .pre .0 .0) _) (rw (c .before .before .before .before .before .num .ensures) at (c .before .before .before .before .put-statement-head .ensures)) (finish (c .before .loop .inv .1) (stretch-end _ _ _ (c .before .before .before .before .before .before .before .before .before .pre .0 .0) _ _ (c .loop-test .left)))
+returns-2 c =
+    let w = c .before .before .before .before .before .before .before .before .pre .0 .0 in
+    let rest = finish (c .before .loop .inv .1) (els-said-end w _ _ (c .loop-test .left)) in
+    statement-put _ _ (els-said w _) (c .before .before .before .before .put-statement-head .ensures) rest
 
 pub write-row-spec : {M : Type 1} → statement M
 write-row-spec =
@@ -84,13 +91,9 @@ write-row-spec =
     (tie.spec
     Inv-loop
     μ-loop
-    num-requires
     put-statement-head-requires
     loop-holds
-    add-num
-    mul-num
-    add-num-2
-    num-requires-2
+    el-at-requires
     find-element-requires
     enum-known-f
     enum-told

@@ -5,7 +5,7 @@ use mathlib.Core.Path.{_≡_, refl, _∙_}
 use lib.ListN.{length, getD}
 use Prim.Native.Nat.{_+_, _-_, _*_, _<_}
 use Rattle.signature.specs.Index.{signatureAt}
-use Rattle.kinds.specs.Table.{kindIn, entryAt}
+use Rattle.plan.specs.Table.{kindIn, entryAt}
 use Rattle.walk.specs.Tables.{tables}
 use Rattle.walk.specs.Went.{GoingFrom}
 use Rattle.walk.proofs.Grounds.{first-laid, byte-types}
@@ -17,11 +17,11 @@ use Rattle.walk.proofs.walk.flatten_morphisms.Statement.{statement}
 use Rattle.walk.proofs.walk.flatten_morphisms.Tie as tie
 
 abbrev Inv-loop : tie.InvT-loop
-Inv-loop sig arities counts s index n kinds sources₀ masks₀ types₀ refused vars₀ next₀ end₀ t₀ u₀ sources masks types vars next end t u =
-    (t < n) × (u < n) × (length types ≡ length types₀) × Under end (signatureAt sig arities counts) s (tables sources masks vars) types next t u
+Inv-loop sig symbols counts s index n kinds sources₀ masks₀ types₀ refused vars₀ next₀ end₀ t₀ u₀ sources masks types vars next end t u =
+    (t < n) × (u < n) × (length types ≡ length types₀) × Under end (signatureAt sig symbols counts) s (tables sources masks vars) types next t u
 
 abbrev μ-loop : tie.MeasureT-loop
-μ-loop sig arities counts s index n kinds sources₀ masks₀ types₀ refused vars₀ next₀ end₀ t₀ u₀ sources masks types vars next end t u =
+μ-loop sig symbols counts s index n kinds sources₀ masks₀ types₀ refused vars₀ next₀ end₀ t₀ u₀ sources masks types vars next end t u =
     (n - t) * n - u
 
 abbrev S : tie.At-loop Inv-loop μ-loop → tie.Start Inv-loop μ-loop
@@ -29,7 +29,7 @@ S c = c .before .before .before .before .before .before .before .before .before
 
 abbrev At : tie.At-loop Inv-loop μ-loop → Type 0
 At c = let a = S c .args in
-    Standing (signatureAt (a .sig .now) (a .arities .now) (a .counts)) (a .s .now) (a .index .now) (a .kinds .now) (a .n) (c .loop .t) (c .loop .u)
+    Standing (signatureAt (a .sig .now) (a .symbols .now) (a .counts)) (a .s .now) (a .index .now) (a .kinds .now) (a .n) (c .loop .t) (c .loop .u)
 
 stands : (c : tie.At-loop Inv-loop μ-loop) → At c
 stands c = let w = S c .pre in record { ground = w .0 .1; counted = w .1 .0 .0; tabled = w .1 .0 .1; target-in = c .loop .inv .0; source-in = c .loop .inv .1 }
@@ -37,7 +37,7 @@ stands c = let w = S c .pre in record { ground = w .0 .1; counted = w .1 .0 .0; 
 -- The map between two structures is walked, from its source's row.
 abbrev From : tie.After-to-walk Inv-loop μ-loop → Type 0
 From c = let l = c .before .before in let a = S l .args in
-    GoingFrom (signatureAt (a .sig .now) (a .arities .now) (a .counts)) (a .s .now) (l .loop .sources) (l .loop .masks) (getD (l .loop .vars) (l .loop .u) []) (l .loop .types) (l .loop .next) (l .loop .t) (l .loop .u)
+    GoingFrom (signatureAt (a .sig .now) (a .symbols .now) (a .counts)) (a .s .now) (l .loop .sources) (l .loop .masks) (getD (l .loop .vars) (l .loop .u) []) (l .loop .types) (l .loop .next) (l .loop .t) (l .loop .u)
 
 abbrev from : (c : tie.After-to-walk Inv-loop μ-loop) → c .to-walk .result ≡ true → From c
 from c h = let l = c .before .before in
@@ -46,7 +46,7 @@ from c h = let l = c .before .before in
 -- Behind the pair, walked or passed by.
 abbrev Behind : tie.Joined1 Inv-loop μ-loop → Type 0
 Behind c = let l = c .before .before .before in let a = S l .args in
-    Under (c .if1 .end) (signatureAt (a .sig .now) (a .arities .now) (a .counts)) (a .s .now) (tables (c .if1 .sources) (c .if1 .masks) (c .if1 .vars)) (c .if1 .types) (c .if1 .next) (l .loop .t) (l .loop .u + 1)
+    Under (c .if1 .end) (signatureAt (a .sig .now) (a .symbols .now) (a .counts)) (a .s .now) (tables (c .if1 .sources) (c .if1 .masks) (c .if1 .vars)) (c .if1 .types) (c .if1 .next) (l .loop .t) (l .loop .u + 1)
 
 behind : (c : tie.Joined1 Inv-loop μ-loop) → Behind c
 behind c = let l = c .before .before .before in ⊎-elim

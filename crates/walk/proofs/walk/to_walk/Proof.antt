@@ -1,4 +1,4 @@
-use Rattle.kinds.specs.Table.{kindIn}
+use Rattle.plan.specs.Table.{kindIn}
 use Rattle.walk.proofs.Ending.{walked-on, walked-not}
 use borrow.Author.Needs.{needs}
 use Rattle.walk.proofs.walk.to_walk.Statement.{statement}

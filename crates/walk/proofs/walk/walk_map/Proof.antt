@@ -20,10 +20,10 @@ T c = c .before .before .before .before .before .before .before .before .before 
 
 -- Behind `ends` the map can be walked.
 abbrev From : tie.Start → Type 0
-From b = let a = b .args in GoingFrom (signatureAt (a .sig .now) (a .arities .now) (a .counts)) (a .s .now) (a .sources .now) (a .masks .now) (a .source) (a .types .now) (a .next .now) (a .t) (a .u)
+From b = let a = b .args in GoingFrom (signatureAt (a .sig .now) (a .symbols .now) (a .counts)) (a .s .now) (a .sources .now) (a .masks .now) (a .source) (a .types .now) (a .next .now) (a .t) (a .u)
 
 abbrev Can : (c : tie.After-enum-told) → From (S c) → Type 0
-Can c g = let a = S c .args in Walkable (signatureAt (a .sig .now) (a .arities .now) (a .counts)) (a .s .now) (a .index .now)
+Can c g = let a = S c .args in Walkable (signatureAt (a .sig .now) (a .symbols .now) (a .counts)) (a .s .now) (a .index .now)
     (tables (a .sources .now) (a .masks .now) (g .vars)) (a .types .now) (a .next .now) (a .t) (a .u) (a .kind)
 
 can : (c : tie.After-enum-told) (g : From (S c)) → Can c g
@@ -91,21 +91,24 @@ cast-sources c = let h = S (T (c .before .before .before)) .pre .0 in search nee
 element-write-sources : tie.Need-element-write-sources
 element-write-sources c = let h = S (T (c .before .before .before)) .pre .0 in search needs
 
+masks-row-requires : tie.Need-masks-row-requires
+masks-row-requires c κs = search needs
+
 mul-t33 : tie.Need-mul-t33
-mul-t33 c = let h = S (T (c .before .before .before)) .pre .0 in search needs
+mul-t33 c = let h = S (T (c .before .before .before .before)) .pre .0 in search needs
 
 element-set-from-masks : tie.Need-element-set-from-masks
-element-set-from-masks c = let h = S (T (c .before .before .before)) .pre .0 in search needs
+element-set-from-masks c = let h = S (T (c .before .before .before .before)) .pre .0 in search needs
 
 element-count-requires : tie.Need-element-count-requires
-element-count-requires c κs = let h = S (T (c .before .before .before)) .pre .0 in search needs
+element-count-requires c κs = let h = S (T (c .before .before .before .before)) .pre .0 in search needs
 
 fresh-requires : tie.Need-fresh-requires
-fresh-requires c κs = let e = T (c .before .before .before .before) in count-small (target-laid (can e (here e))) (c .element-count .ensures)
+fresh-requires c κs = let e = T (c .before .before .before .before .before) in count-small (target-laid (can e (here e))) (c .element-count .ensures)
 
 add-next : tie.Need-add-next
 add-next c =
-    let e = T (c .before .before .before .before .before) in let o = can e (here e) in
+    let e = T (c .before .before .before .before .before .before) in let o = can e (here e) in
     let h = fresh-room _ _ (c .fresh .ensures) (count-small (target-laid o) (c .before .element-count .ensures)) (room o) in search needs
 
 same-length-2 : tie.Need-same-length-2
@@ -113,9 +116,9 @@ same-length-2 c = search needs
 
 returns-3 : tie.Need-returns-3
 returns-3 c =
-    let r = c .before .before .before .before .before .before .before in let f = r .before .before in let l = f .before .before in let a = l .before in let m = a .before .before in
+    let r = c .before .before .before .before .before .before .before .before in let f = r .before .before in let l = f .before .before in let a = l .before in let m = a .before .before in
     λ g. let o = can (m .before) g in let p = map-at (m .map-between .ensures) in went-on o p (g .row) (a .assign-el-vars .ensures)
-      (f .flatten-map .ensures) (r .r .given .1) (c .fresh .ensures) (c .before .element-count .ensures) (c .before .before .before .before .type-variables .ensures) refl refl
+      (f .flatten-map .ensures) (r .r .given .1) (c .fresh .ensures) (c .before .element-count .ensures) (c .before .before .before .before .before .type-variables .ensures) refl (rw (c .before .before .masks-row .ensures))
       (l .merged-els .ensures _ (numbers-are (target-laid o)) (p .joins .images)) refl refl
 
 pub walk-map-spec : {M : Type 1} → statement M
@@ -138,6 +141,7 @@ walk-map-spec =
     type-variables-requires
     cast-sources
     element-write-sources
+    masks-row-requires
     mul-t33
     element-set-from-masks
     element-count-requires

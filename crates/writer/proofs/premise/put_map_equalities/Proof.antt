@@ -1,57 +1,57 @@
 use borrow.Author.Needs.{needs}
-use mathlib.Core.Path.{refl}
+use mathlib.Core.Path.{refl, sym, _∙_, ap}
+use Rattle.flags.specs.Flags.{noneSet}
 use Rattle.statements.proofs.Unsaid.{unsaid}
 use Rattle.writer.proofs.Premises.{place-small, stands-at, source-small, source-reaching, row-given, merged-read, unmerged-none, map-put}
 use Rattle.writer.proofs.premise.put_map_equalities.Statement.{statement}
 use Rattle.writer.proofs.premise.put_map_equalities.Tie as tie
 
-mul-row : tie.Need-mul-row
-mul-row c = let w = c .before .before .before .pre .1 in let p = place-small (w .0) (w .1) in search needs
+mask-at-requires : tie.Need-mask-at-requires
+mask-at-requires c κs = let w = c .before .before .before .pre .1 in let p = place-small (w .0) (w .1) in search needs
 
-element-copy-out-row : tie.Need-element-copy-out-row
-element-copy-out-row c = let w = c .before .before .before .pre .1 in let p = place-small (w .0) (w .1) in search needs
-
-array-read-merged : tie.Need-array-read-merged
-array-read-merged c = search needs
+none-set-requires : tie.Need-none-set-requires
+none-set-requires c κs = search needs
 
 returns : tie.Need-returns
-returns c = let w = c .before .before .before .before .before .pre in (λ e. unsaid _ _ (unmerged-none e (w .1 .1) (w .0 .1 .0) (c .if1 .taken)) (w .0 .0), w .0 .0)
+returns c =
+    let w = c .before .before .before .before .before .before .pre in let none = ap noneSet (sym (c .before .before .mask-at .ensures)) ∙ sym (c .before .none-set .ensures) ∙ c .if1 .taken in
+    (λ e. unsaid _ _ (unmerged-none e (w .1 .1) (w .0 .1 .0) none) (w .0 .0), w .0 .0)
 
 element-copy-out-place : tie.Need-element-copy-out-place
-element-copy-out-place c = let w = c .before .before .before .before .before .pre .1 in let p = place-small (w .0) (w .1) in search needs
+element-copy-out-place c = let w = c .before .before .before .before .before .before .pre .1 in let p = place-small (w .0) (w .1) in search needs
 
 place-requires : tie.Need-place-requires
 place-requires c κs = search needs
 
 map-between-requires : tie.Need-map-between-requires
-map-between-requires c κs = let w = c .before .before .before .before .before .before .before .pre in (w .1 .0 .ground .ready, rw (c .place .ensures .0) (w .0 .1 .1))
+map-between-requires c κs = let w = c .before .before .before .before .before .before .before .before .pre in (w .1 .0 .ground .ready, rw (c .place .ensures .0) (w .0 .1 .1))
 
 mul-put-equalities : tie.Need-mul-put-equalities
-mul-put-equalities c = let w = c .before .before .before .before .before .before .before .before .before .pre .1 in let p = source-small (w .0) (w .1) in let q = c .before .before .place .ensures .0 in search needs
+mul-put-equalities c = let w = c .before .before .before .before .before .before .before .before .before .before .pre .1 in let p = source-small (w .0) (w .1) in let q = c .before .before .place .ensures .0 in search needs
 
 index-1-put-equalities : tie.Need-index-1-put-equalities
-index-1-put-equalities c = let w = c .before .before .before .before .before .before .before .before .before .pre .1 in let p = source-small (w .0) (w .1) in let q = c .before .before .place .ensures .0 in search needs
+index-1-put-equalities c = let w = c .before .before .before .before .before .before .before .before .before .before .pre .1 in let p = source-small (w .0) (w .1) in let q = c .before .before .place .ensures .0 in search needs
 
 put-equalities-requires : tie.Need-put-equalities-requires
 put-equalities-requires c κs =
-    let p = c .before .before .before in let m = c .before .before .map-between .ensures in let w = c .before .before .before .before .before .before .before .before .before .before .pre in let e = w .1 .0 in let g = source-reaching e (w .1 .1) (p .place .ensures .0) in
-    (w .0 .0, ((stands-at e g, stands-at e (w .1 .1)), (m .1, (row-given e g refl, merged-read e (w .1 .1) (w .0 .1 .0) (p .place .ensures .0) (m .0)))))
+    let p = c .before .before .before in let m = c .before .before .map-between .ensures in let w = c .before .before .before .before .before .before .before .before .before .before .before .pre in let e = w .1 .0 in let g = source-reaching e (w .1 .1) (p .place .ensures .0) in
+    (w .0 .0, ((stands-at e g, stands-at e (w .1 .1)), (m .1, (row-given e g refl,
+      rw (p .before .before .before .before .mask-at .ensures) (merged-read e (w .1 .1) (w .0 .1 .0) (p .place .ensures .0) (m .0))))))
 
 same-length : tie.Need-same-length
 same-length c = search needs
 
 returns-2 : tie.Need-returns-2
 returns-2 c =
-    let q = c .before .before in let m = c .before .before .before .before .before in let w = c .before .before .before .before .before .before .before .before .before .before .before .before .before .pre in
+    let q = c .before .before in let m = c .before .before .before .before .before in let w = c .before .before .before .before .before .before .before .before .before .before .before .before .before .before .pre in
     (λ e. map-put e (w .1 .1) _ (m .before .place .ensures .0) refl (m .map-between .ensures .0) (q .put-equalities .ensures .0), q .put-equalities .ensures .1)
 
 pub put-map-equalities-spec : {M : Type 1} → statement M
 put-map-equalities-spec =
     tie.close
     (tie.spec
-    mul-row
-    element-copy-out-row
-    array-read-merged
+    mask-at-requires
+    none-set-requires
     returns
     element-copy-out-place
     place-requires

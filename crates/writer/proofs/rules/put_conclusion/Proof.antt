@@ -21,20 +21,14 @@ returns c =
     let a = c .before .before .before .before in let o = c .before .before .put-both .ensures in
     (λ e x q. surj-put e (a .before .before .before .before .before .pre .1 .1) (a .before .reached-by .ensures) (a .if1 .taken) q (o .0 e), o .1)
 
-mul-row : tie.Need-mul-row
-mul-row c = search needs
-
-element-copy-out-row : tie.Need-element-copy-out-row
-element-copy-out-row c = search needs
-
 mul-put-domains : tie.Need-mul-put-domains
 mul-put-domains c = search needs
 
 index-1-put-domains : tie.Need-index-1-put-domains
 index-1-put-domains c = search needs
 
-array-read-put-domains : tie.Need-array-read-put-domains
-array-read-put-domains c = search needs
+mask-at-requires : tie.Need-mask-at-requires
+mask-at-requires c κs = search needs
 
 put-domains-requires : tie.Need-put-domains-requires
 put-domains-requires c κs = let w = c .before .before .before .before .before .before .before .before .pre in (w .0, stands-at (w .1 .0) (w .1 .1))
@@ -44,7 +38,7 @@ same-length-2 c = search needs
 
 returns-2 : tie.Need-returns-2
 returns-2 c =
-    let a = c .before .before .before .before .before .before in let o = c .before .before .put-domains .ensures in
+    let a = c .before .before .before .before .before .before in let o = rw (c .before .before .before .mask-at .ensures) at (c .before .before .put-domains .ensures) in
     (λ e x q. rows-put e (a .before .before .before .before .before .pre .1 .1) (a .before .reached-by .ensures) (a .if1 .left) q o, omega (arith, o .size))
 
 pub put-conclusion-spec : {M : Type 1} → statement M
@@ -55,11 +49,9 @@ put-conclusion-spec =
     put-both-requires
     same-length
     returns
-    mul-row
-    element-copy-out-row
     mul-put-domains
     index-1-put-domains
-    array-read-put-domains
+    mask-at-requires
     put-domains-requires
     same-length-2
     returns-2)

@@ -1,0 +1,3 @@
+-- What is printed for each input.
+pub mod Enough
+pub mod Printing
