@@ -71,11 +71,11 @@ struct check_case {
 
 static const struct check_case checks[] = {
     {"g1's rule", nagzelud_check_rule, GARAGE, G1_RULE, 0},
-    {"an empty rule", nagzelud_check_rule, GARAGE, "", 2},
-    {"a rule over a faulty signature", nagzelud_check_rule, "5400020001", "", 5},
+    {"an empty rule", nagzelud_check_rule, GARAGE, "", NAGZELUD_BAD_FIELD},
+    {"a rule over a faulty signature", nagzelud_check_rule, "5400020001", "", NAGZELUD_NAMES_NOTHING},
     {"g1's group", nagzelud_check_group, GARAGE, G1_GROUP, 0},
-    {"g1's group without its signature", nagzelud_check_group, "", G1_GROUP, 5},
-    {"a group cut short", nagzelud_check_group, GARAGE, "470001", 2},
+    {"g1's group without its signature", nagzelud_check_group, "", G1_GROUP, NAGZELUD_NAMES_NOTHING},
+    {"a group cut short", nagzelud_check_group, GARAGE, "470001", NAGZELUD_BAD_FIELD},
 };
 
 struct scope_case {
@@ -89,10 +89,10 @@ struct scope_case {
 
 static const struct scope_case scopes[] = {
     {"g1", GARAGE, G1_GROUP, 0, {0}, ""},
-    {"g1, past the last rule", GARAGE, G1_GROUP, 1, {.refused = 41}, ""},
-    {"g1, far past it", GARAGE, G1_GROUP, SIZE_MAX, {.refused = 41}, ""},
+    {"g1, past the last rule", GARAGE, G1_GROUP, 1, {.refused = NAGZELUD_NO_RULE}, ""},
+    {"g1, far past it", GARAGE, G1_GROUP, SIZE_MAX, {.refused = NAGZELUD_NO_RULE}, ""},
     {"g11", GARAGE, "47000172 550003725f30", 0, {0}, ""},
-    {"a faulty group comes before 41", GARAGE, "470001", 9, {.refused = 2}, ""},
+    {"a faulty group comes before 41", GARAGE, "470001", 9, {.refused = NAGZELUD_BAD_FIELD}, ""},
     {"a conclusion in model 0", MODELS, VARIABLES "48000700000100030000", 0,
      {.kind = NAGZELUD_MODEL, .model = 0, .offset = 50, .count = 1}, "0003"},
     {"a conclusion in model 1", MODELS, VARIABLES "480009000002000000040003", 0,
@@ -100,8 +100,8 @@ static const struct scope_case scopes[] = {
     {"owners equal by name and type, not by number", MODELS, VARIABLES "42000700000100010003 48000700000100000003", 0,
      {.kind = NAGZELUD_MODEL, .model = 0, .offset = 60, .count = 1}, "0000"},
     {"owners of one name and two types", MODELS, VARIABLES "48000700000100000003 48000700000100020003", 0, {0}, ""},
-    {"a premise Equality", MODELS, VARIABLES "42000703000000000001 48000700000100000003", 0, {.refused = 42}, ""},
-    {"fewer arguments than owners", MODELS, VARIABLES "4800050000040004", 0, {.refused = 43}, ""},
+    {"a premise Equality", MODELS, VARIABLES "42000703000000000001 48000700000100000003", 0, {.refused = NAGZELUD_PREMISE_EQUALITY}, ""},
+    {"fewer arguments than owners", MODELS, VARIABLES "4800050000040004", 0, {.refused = NAGZELUD_FEW_ARGUMENTS}, ""},
 };
 
 static bool right_check(const struct check_case *c)
@@ -161,11 +161,11 @@ struct flatten_case {
 static const struct flatten_case flattenings[] = {
     {"g1", GARAGE, G1_RULE, 1000, 0, G1_GROUP},
     {"g1 in just its room", GARAGE, G1_RULE, 60, 0, G1_GROUP},
-    {"g2: g1 in a byte less", GARAGE, G1_RULE, 59, 31, ""},
-    {"g1 in no room", GARAGE, G1_RULE, 0, 31, ""},
-    {"g7: two new elements", GARAGE, G7_RULE, 1000, 28, ""},
-    {"an empty rule flattened", GARAGE, "", 1000, 2, ""},
-    {"a faulty signature comes before 31", "5400020001", G1_RULE, 0, 5, ""},
+    {"g2: g1 in a byte less", GARAGE, G1_RULE, 59, NAGZELUD_BUFFER_TOO_SMALL, ""},
+    {"g1 in no room", GARAGE, G1_RULE, 0, NAGZELUD_BUFFER_TOO_SMALL, ""},
+    {"g7: two new elements", GARAGE, G7_RULE, 1000, NAGZELUD_TWO_NEW_ELEMENTS, ""},
+    {"an empty rule flattened", GARAGE, "", 1000, NAGZELUD_BAD_FIELD, ""},
+    {"a faulty signature comes before 31", "5400020001", G1_RULE, 0, NAGZELUD_NAMES_NOTHING, ""},
 };
 
 /* What stands at a place of the buffer beforehand. */
@@ -205,6 +205,8 @@ static bool shallow(void)
 #else
 static struct bytes garage;
 static struct bytes chain;
+static struct bytes models;
+static struct bytes owned;
 
 static void put(const char *hex, unsigned source, unsigned target)
 {
@@ -237,31 +239,74 @@ static struct nagzelud_flatten_answer last;
 
 static void flatten_chain(void)
 {
-    static uint8_t out[65535];
+    static uint8_t out[NAGZELUD_BUFFER];
     last = nagzelud_flatten(garage.at, garage.len, chain.at, chain.len, out, sizeof out);
 }
 
+static void check_chain(void)
+{
+    last.refused = nagzelud_check_rule(garage.at, garage.len, chain.at, chain.len);
+}
+
+static void check_owned(void)
+{
+    last.refused = nagzelud_check_group(models.at, models.len, owned.at, owned.len);
+}
+
+static void scope_owned(void)
+{
+    last.refused = nagzelud_scope(models.at, models.len, owned.at, owned.len, 0).refused;
+}
+
+/* Called once before it is measured, so that nothing is linked meanwhile. */
+static bool within(const char *words, void (*call)(void), size_t most)
+{
+    call();
+    const size_t used = stack_used(call);
+    printf("host: %s: refused %u, %zu bytes of stack\n", words, (unsigned)last.refused, used);
+    return last.refused == 0 && used != 0 && used <= most;
+}
+
 /*
- * At most 24 KB of stack: the tables, each once. A copy of the variables (4 KB), which the code by value leaves to the compiler to
- * spare, would show here. Called once before, so that nothing is linked meanwhile.
+ * At most 24 KB of stack for flatten: the tables, each once. A copy of the variables (4 KB), which the code by value leaves to the compiler
+ * to spare, would show here. The others: the indexes of two records.
  */
 static bool shallow(void)
 {
     make_chain();
-    flatten_chain();
-    const size_t used = stack_used(flatten_chain);
-    printf("host: flatten of 32 structures in a chain: refused %u, %zu bytes written, %zu bytes of stack\n",
-           (unsigned)last.refused, last.written, used);
-    return last.refused == 0 && last.written != 0 && used != 0 && used <= 24 * 1024;
+    models = from_hex(MODELS);
+    owned = from_hex(VARIABLES "480009000002000000040003");
+    const bool checked = within("check of 32 structures", check_chain, 6 * 1024);
+    const bool grouped = within("check of a group", check_owned, 6 * 1024);
+    const bool scoped = within("scope in model 1", scope_owned, 6 * 1024);
+    const bool flattened = within("flatten of 32 structures in a chain", flatten_chain, 24 * 1024);
+    return checked && grouped && scoped && flattened && last.written != 0;
 }
 #endif
+
+/* The two records may overlap: g1's rule with its own last 100 bytes for a signature, and as both records. */
+static bool right_overlap(void)
+{
+    const struct bytes rule = from_hex(G1_RULE);
+    const uint32_t tail = nagzelud_check_rule(rule.at + rule.len - 100, 100, rule.at, rule.len);
+    const uint32_t both = nagzelud_check_rule(rule.at, rule.len, rule.at, rule.len);
+    return tail == NAGZELUD_BAD_FIELD && both == NAGZELUD_BAD_FIELD;
+}
+
+/* The version in words and in numbers. */
+static bool right_version(void)
+{
+    char text[32];
+    snprintf(text, sizeof text, "%d.%d.%d", NAGZELUD_VERSION_MAJOR, NAGZELUD_VERSION_MINOR, NAGZELUD_VERSION_PATCH);
+    return strcmp(text, NAGZELUD_VERSION) == 0;
+}
 
 int main(void)
 {
     const size_t check_count = sizeof checks / sizeof checks[0];
     const size_t scope_count = sizeof scopes / sizeof scopes[0];
     const size_t flatten_count = sizeof flattenings / sizeof flattenings[0];
-    size_t wrong = shallow() ? 0 : 1;
+    size_t wrong = (shallow() ? 0 : 1) + (right_overlap() ? 0 : 1) + (right_version() ? 0 : 1);
     for (size_t i = 0; i < check_count; i++) {
         wrong += right_check(&checks[i]) ? 0 : 1;
     }

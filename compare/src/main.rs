@@ -8,6 +8,7 @@ mod records;
 
 use std::collections::BTreeMap;
 use std::env;
+use std::io::{self, IsTerminal};
 use std::process::ExitCode;
 
 use library::ScopeAnswer;
@@ -95,11 +96,22 @@ fn compared(case: &Case, aim: Aim) -> Result<Vec<String>, String> {
     Ok(outcomes)
 }
 
+/// How far a run has come, on a terminal's last line.
+fn progress(number: usize, count: usize) {
+    if number % 1000 == 0 && io::stderr().is_terminal() {
+        eprint!("\rcompare: {number} of {count} cases");
+    }
+    if number == count && io::stderr().is_terminal() {
+        eprintln!();
+    }
+}
+
 /// Compares `count` generated cases and says how often each outcome occurred.
 fn run(seed: u64, count: usize) -> Result<String, String> {
     let mut generator = Generator::new(seed);
     let mut outcomes: BTreeMap<String, usize> = BTreeMap::new();
     for number in 0..count {
+        progress(number, count);
         let aim = generator.aim();
         let case = generator.aimed(aim);
         let occurred = compared(&case, aim)
@@ -108,6 +120,7 @@ fn run(seed: u64, count: usize) -> Result<String, String> {
             *outcomes.entry(outcome).or_default() += 1;
         }
     }
+    progress(count, count);
     let counts: Vec<String> = outcomes
         .iter()
         .map(|(outcome, count)| format!("{outcome}: {count}"))

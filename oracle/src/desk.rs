@@ -189,7 +189,8 @@ pub fn run(program: &str, input: &[u8]) -> io::Result<Vec<u8>> {
     let mut child = Command::new(program)
         .stdin(Stdio::piped())
         .stdout(Stdio::piped())
-        .spawn()?;
+        .spawn()
+        .map_err(|error| io::Error::new(error.kind(), format!("{program}: {error}")))?;
     let mut stdin = child.stdin.take().expect("standard input is a pipe");
     match stdin.write_all(input) {
         Err(error) if error.kind() != ErrorKind::BrokenPipe => return Err(error),
@@ -215,6 +216,15 @@ mod tests {
                 "{title}"
             );
         }
+    }
+
+    #[test]
+    fn a_missing_program_is_named() {
+        let error = run("no/such/program", &[]).expect_err("it is not there");
+        assert!(
+            error.to_string().starts_with("no/such/program: "),
+            "{error}"
+        );
     }
 
     #[test]

@@ -22,7 +22,6 @@ use stand_ins::{grammar_util, options};
 pub mod answer;
 pub mod bench;
 pub mod case;
-pub mod claims;
 pub mod desk;
 pub mod generate;
 pub mod notation;

@@ -19,7 +19,6 @@ usage: oracle answer                               answers to the cases on stand
        oracle unpack                               cases as text, with answers
        oracle pack                                 text as cases
        oracle desk PROGRAM                         runs a program on a list of desk's cases
-       oracle claims                               stored cases as claims about the definition
        oracle bench                                time of flatten_rule alone
        oracle left-out                             published lines that are not compiled";
 
@@ -138,7 +137,6 @@ fn main() -> ExitCode {
         ["unpack"] => unpack(),
         ["pack"] => pack(),
         ["desk", program] => run_desk(program),
-        ["claims"] => io::stdout().write_all(oracle::claims::text().as_bytes()),
         ["bench"] => bench(),
         ["left-out"] => io::stdout().write_all(LEFT_OUT.as_bytes()),
         _ => Err(io::Error::other(USAGE)),

@@ -130,13 +130,21 @@ fn new_case(value: &str) -> Result<Answered, String> {
     })
 }
 
+/// Longest part that a list may write out: far more than any that is kept.
+const LONGEST: usize = 1 << 24;
+
 /// The bytes that words in hexadecimal stand for.
 pub(crate) fn bytes(text: &str) -> Result<Vec<u8>, String> {
     let mut bytes = Vec::new();
     for word in text.split_whitespace() {
         let (digits, count) = word.split_once('*').unwrap_or((word, "1"));
         let count: usize = count.parse().map_err(|_| "not a count")?;
-        bytes.extend(from_hex(digits)?.repeat(count));
+        let one = from_hex(digits)?;
+        let length = one.len().checked_mul(count);
+        if length.is_none_or(|length| length > LONGEST - bytes.len()) {
+            return Err(format!("a part of more than {LONGEST} bytes"));
+        }
+        bytes.extend(one.repeat(count));
     }
     Ok(bytes)
 }
@@ -202,6 +210,12 @@ mod tests {
             read("case F\nrule 0"),
             Err("line 2: not hexadecimal".into())
         );
+        for count in ["16777217", "18446744073709551615"] {
+            assert_eq!(
+                read(&format!("case F\nrule 00*{count}")),
+                Err("line 2: a part of more than 16777216 bytes".into())
+            );
+        }
         assert_eq!(
             read("case F\ngroup 00"),
             Err("line 2: group doesn't belong here".into())

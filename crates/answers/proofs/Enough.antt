@@ -43,7 +43,8 @@ cut-short a b k s h i j =
     let p : ruleBytes < length (drop (a * 256 + b) (take k s)) = rw length-drop (omega arith) in
     let q : ruleBytes < length (drop (a * 256 + b) s) = rw length-drop (omega arith) in
     let e : take (a * 256 + b) (take k s) ≡ take (a * 256 + b) s = take-take (a * 256 + b) k s (omega arith) in
-    let f : flattenOf (take (a * 256 + b) s) (drop (a * 256 + b) (take k s)) answerBytes ≡ flattenOf (take (a * 256 + b) s) (drop (a * 256 + b) s) answerBytes = alike _ _ _ _ p q in
+    let f : flattenOf (take (a * 256 + b) s) (drop (a * 256 + b) (take k s)) answerBytes
+        ≡ flattenOf (take (a * 256 + b) s) (drop (a * 256 + b) s) answerBytes = alike _ _ _ _ p q in
     there a b (take k s) m ∙ (rw (e, f) (sym (there a b s n)))
 
 -- Of an input as bytes, whose length is below 65,536, the first 98,306 bytes are enough.

@@ -1,9 +1,10 @@
 // What `desk` prints: all of its input to all of its output.
 ghost use mathlib.Core.Path.{_≡_};
-ghost use Prim.Native.Nat.{_≤_};
-ghost use lib.ListN.{length, take};
-ghost use Rattle.definition.specs.Base.{refused};
+ghost use lib.ListN.{length};
+ghost use Rattle.definition.specs.Base.{refused, accepted};
 ghost use Rattle.definition.specs.Desk.{deskOf, printed};
+ghost use Rattle.definition.specs.Flatten.{laidOver};
+ghost use Rattle.definition.specs.Limits.{answerBytes};
 ghost use Rattle.records.specs.Buffer.{Put};
 use flatten::entry::ANSWER;
 use flatten::entry::Flattened;
@@ -23,12 +24,13 @@ fn put_refused(out: &mut [u8], n: u8) -> usize
     put_byte(out, at, b'\n')
 }
 
-// What is to be printed, at the front of the buffer, and its length.
+// What is to be printed, at the front of the buffer, whose rest is as it was; and its length.
+// The buffer has the bytes that its type says; a proof cannot tell that of a lent array, so the lender does.
 pub fn desk(input: &[u8], out: &mut [u8; ANSWER]) -> usize
-    ensures { λ r. ⌜ (r ≤ length (now (out .exit))) × (take r (now (out .exit)) ≡ deskOf (now (input .entry))) ⌝ }
+    requires { ⌜ length (now out) ≡ answerBytes ⌝ }
+    ensures { λ r. ⌜ r ≡ length (deskOf (now (input .entry))) ⌝ }
+    ensures { λ r. ⌜ now (out .exit) ≡ laidOver (accepted (deskOf (now (input .entry)))) (now (out .entry)) ⌝ }
 {
-    // A proof knows the length of what is assigned, not of what is lent.
-    *out = [0u8; ANSWER];
     if input.len() < 2 {
         return put_refused(out, 2);
     }

@@ -1,3 +1,3 @@
 -- Laws of what a C host is told.
 pub mod Told
-pub mod Laid
+pub mod Flattened

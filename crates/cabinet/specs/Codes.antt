@@ -1,5 +1,5 @@
 -- Answers as a C host sees them.
-use mathlib.Core.List.{List, _++_}
+use mathlib.Core.List.{List}
 use mathlib.Core.Option.{Option, none, some}
 use mathlib.Core.Path.{_≡_}
 use Prim.Native.Nat.{ℕ, _+_, _*_, _≤_}
@@ -35,11 +35,6 @@ pub record OwnersHeld (group : List ℕ) (r : ScopeAnswer) (owners : List ℕ) :
 abbrev pub flattenTold : Outcome (List ℕ) → FlattenAnswer
 flattenTold (refused n) = record { refused = n; written = 0 }
 flattenTold (accepted group) = record { refused = 0; written = length group }
-
--- A lent buffer afterwards: the group over its front, and the rest as it was; refused, all of it as it was.
-abbrev pub laidOver : Outcome (List ℕ) → List ℕ → List ℕ
-laidOver (refused n) out = out
-laidOver (accepted group) out = group ++ drop (length group) out
 
 -- Demand 3 of the bytes told as written, where the rule is accepted.
 abbrev pub GroupDemanded : List ℕ → List ℕ → ℕ → FlattenAnswer → List ℕ → Type 0

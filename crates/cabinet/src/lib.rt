@@ -2,9 +2,9 @@
 ghost use mathlib.Core.Path.{_≡_};
 ghost use lib.ListN.{length};
 ghost use Rattle.definition.specs.Scope.{scopeOf, ownersOf};
-ghost use Rattle.definition.specs.Flatten.{flattenOf};
+ghost use Rattle.definition.specs.Flatten.{flattenOf, laidOver};
 ghost use Rattle.reading.specs.Verdicts.{refusalOf, ruleRead, groupRead};
-ghost use Rattle.cabinet.specs.Codes.{codeOf, unowned, scopeTold, OwnersHeld, flattenTold, laidOver, GroupDemanded};
+ghost use Rattle.cabinet.specs.Codes.{codeOf, unowned, scopeTold, OwnersHeld, flattenTold, GroupDemanded};
 use flatten::entry::Flattened;
 use reading::Verdict;
 use scope::answers::Scope;

@@ -25,6 +25,11 @@ abbrev pub when : {A : Type 0} → Bool → (Unit {0} → A) → (Unit {0} → A
 when true a b = a tt
 when false a b = b tt
 
+-- Whether there is a value.
+abbrev pub given : {A : Type 0} → Option A → Bool
+given (some a) = true
+given none = false
+
 -- The first value where there is one, else the second.
 abbrev pub orElse : {A : Type 0} → Option A → Option A → Option A
 orElse (some a) b = some a
@@ -119,7 +124,7 @@ unfoldable pub lowest : List (ℕ × Bool) → Option ℕ
 lowest [] = none
 lowest (c ∷ cs) = pick (c .1) (some (c .0)) (lowest cs)
 
--- a is a member of a list.
 infix 20 _∈_
+-- a is a member of a list.
 abbrev pub _∈_ : {A : Type 0} → A → List A → Type 0
 a ∈ xs = List·Memᴰ a xs

@@ -35,33 +35,33 @@ Occurs v statements = (s : Statement) × (s ∈ statements) × (v ∈ s .variabl
 abbrev pub Bound : FlatRule → Type 0
 Bound r = (v : ℕ) → Occurs v (r .conclusion) → Occurs v (r .premise)
 
--- 'each walked map has exactly its source's elements as keys'.
+-- A map's keys, as they stand.
 abbrev pub keysOf : Map → List ℕ
 keysOf m = each (λ (p : Pair). p .key) (m .pairs)
 
--- The keys of a walked map are its source's elements, and no others.
+-- 'each walked map has exactly its source's elements as keys'.
 abbrev pub ExactKeys : Rule → Type 0
 ExactKeys rule = (m : Map) → Walked rule m → (e : ℕ) → (e ∈ keysOf m) ↔ (e ∈ numbersOf (structureAt rule (m .source)))
 
--- 'no V or I name ends in a digit'.
+-- A byte that is a digit.
 abbrev pub digit : ℕ → Bool
 digit b = leb digitZero b && leb b digitNine
 
--- A name whose last byte is a digit.
+-- 'ends in a digit': a name whose last byte is one.
 unfoldable pub endsInDigit : List ℕ → Bool
 endsInDigit name = digit (orDefault (lastOf name) 0)
 
--- No V or I name of any structure does.
+-- 'no V or I name ends in a digit'.
 abbrev pub NoTrailingDigit : Rule → Type 0
 NoTrailingDigit rule = (st : Structure) → st ∈ rule .structures → (n : Name)
     → (n ∈ st .variableNames) ⊎ (n ∈ st .identifierNames) → endsInDigit (n .name) ≡ false
 
--- The variable that an element of a structure gets in the walk.
+-- The variables of a structure's elements, where it was reached.
 abbrev pub variablesAt : Option Reached → List ℕ
 variablesAt none = []
 variablesAt (some r) = r .variables
 
--- By the variables that the structure has when the walk ends.
+-- 'the variable it gets above': by the variables that the structure has when the walk ends.
 unfoldable pub variableGot : Rule → State → ℕ → ℕ → ℕ
 variableGot rule state t e = variableAt (structureAt rule t) (variablesAt (getD (state .slots) t none)) e
 
@@ -74,11 +74,15 @@ abbrev pub DifferentNames : Rule → State → Group → Type 0
 DifferentNames rule state g = (t : ℕ) → IsReached rule t → (e d : ℕ) → e ∈ numbersOf (structureAt rule t) → d ∈ numbersOf (structureAt rule t)
     → printedName rule state g t e ≡ printedName rule state g t d → e ≡ d
 
--- Demand 3 of a signature, a rule and the bytes that flatten wrote: g is the group read back from those bytes.
+-- Demand 3 of a signature, a rule and the bytes that flatten wrote: all three are read with no fault, and of what they say it holds.
 pub record Demand3 (signature rule bytes : List ℕ) : Type 0 where
-  pub bound : (sig : Signature) (r : Rule) (g : Group)
-      → readSignature signature ≡ accepted sig → readRule sig rule ≡ accepted r → readGroup sig bytes ≡ accepted g
-      → ExactKeys r → (f : FlatRule) → f ∈ g .rules → Bound f
-  pub names : (sig : Signature) (r : Rule) (g : Group) (state : State)
-      → readSignature signature ≡ accepted sig → readRule sig rule ≡ accepted r → readGroup sig bytes ≡ accepted g → walkOf sig r ≡ accepted state
-      → ExactKeys r → NoTrailingDigit r → DifferentNames r state g
+  pub sig : Signature
+  pub read : Rule
+  pub state : State
+  pub group : Group
+  pub signature-is : readSignature signature ≡ accepted sig
+  pub rule-is : readRule sig rule ≡ accepted read
+  pub walk-is : walkOf sig read ≡ accepted state
+  pub group-is : readGroup sig bytes ≡ accepted group
+  pub bound : ExactKeys read → (f : FlatRule) → f ∈ group .rules → Bound f
+  pub names : ExactKeys read → NoTrailingDigit read → DifferentNames read state group

@@ -12,7 +12,7 @@ use Rattle.definition.specs.Flatten.{flattenOf}
 abbrev pub refusedWord : List ℕ
 refusedWord = 114 ∷ 101 ∷ 102 ∷ 117 ∷ 115 ∷ 101 ∷ 100 ∷ 32 ∷ []
 
--- A newline.
+-- 'a newline'.
 abbrev pub newline : ℕ
 newline = 10
 

@@ -1,8 +1,8 @@
 -- Flatten: what it answers.
-use mathlib.Core.List.{List}
+use mathlib.Core.List.{List, _++_}
 use Prim.Native.Nat.{ℕ, min}
 use lib.Dec.{ltb}
-use lib.ListN.{length}
+use lib.ListN.{length, drop}
 use Rattle.definition.specs.Base.{Outcome, refused, accepted, onAccepted, pick}
 use Rattle.definition.specs.Limits.{answerBytes}
 use Rattle.definition.specs.Signature.{Signature, readSignature}
@@ -26,3 +26,8 @@ flattenOf signature rule room =
     onAccepted (readRule sig rule) λ (r : Rule).
     onAccepted (walkOf sig r) λ (state : State).
     fitted room (groupBytesOf (groupLeft r state))
+
+-- 'the lent buffer holds, after a refusal, exactly what it held'; 'after acceptance its front is the answer and the rest is untouched'.
+abbrev pub laidOver : Outcome (List ℕ) → List ℕ → List ℕ
+laidOver (refused n) out = out
+laidOver (accepted bytes) out = bytes ++ drop (length bytes) out

@@ -4,7 +4,8 @@ use mathlib.Core.List.{List, [], _∷_, _++_}
 use Prim.Native.Nat.{ℕ}
 use lib.ListN.{length}
 use Rattle.definition.specs.Base.{Outcome, refused, accepted}
-use Rattle.definition.specs.Letters.{letterT, letterP, letterF, letterN, letterS, letterE, letterR, letterA, letterV, letterI, letterM, letterK, letterX, predicate, function, equality, typeSet, funcDomain}
+use Rattle.definition.specs.Letters.{letterT, letterP, letterF, letterN, letterS, letterE, letterR, letterA, letterV, letterI,
+    letterM, letterK, letterX, predicate, function, equality, typeSet, funcDomain}
 use Rattle.definition.specs.Group.{Variable, Statement, FlatRule}
 use Rattle.definition.specs.Writer.{twoBytes, numberBytes, fieldBytes, groupBytesOf}
 use Rattle.definition.specs.Flatten.{flattenOf}
@@ -49,8 +50,6 @@ abbrev pub SurjThen : ℕ
 SurjThen = 1
 abbrev pub NonSurjThen : ℕ
 NonSurjThen = 2
-abbrev pub Noop : ℕ
-Noop = 3
 
 -- Statements of a group.
 abbrev pub stmt : ℕ → ℕ → List ℕ → Statement
@@ -79,8 +78,6 @@ abbrev y1 : Variable
 y1 = var 0 (121 ∷ 49 ∷ [])
 abbrev el2 : Variable
 el2 = var 0 (101 ∷ 108 ∷ 50 ∷ [])
-abbrev el3 : Variable
-el3 = var 0 (101 ∷ 108 ∷ 51 ∷ [])
 abbrev r0 : List ℕ
 r0 = 114 ∷ 95 ∷ 48 ∷ []
 
@@ -161,7 +158,8 @@ abbrev g4 : Example
 g4 = flattens signature (begin ++ one ++ one ++ map 0 1 (0 ∷ 0 ∷ 1 ∷ 0 ∷ []) ++ map 1 2 (0 ∷ 0 ∷ []) ++ kind 0 1 If ++ kind 1 2 SurjThen) room
     (accepted (group r (x0 ∷ y1 ∷ []) (flatRule r0 (row01 ∷ set0 ∷ set1 ∷ stmt equality 0 (0 ∷ 1 ∷ []) ∷ []) [] ∷ [])))
 abbrev g4′ : Example
-g4′ = flattens signature (begin ++ one ++ one ++ app 0 (0 ∷ []) 0 ++ map 0 1 (0 ∷ 0 ∷ 1 ∷ 0 ∷ []) ++ map 1 2 (0 ∷ 0 ∷ []) ++ kind 0 1 If ++ kind 1 2 SurjThen) room
+g4′ = flattens signature (begin ++ one ++ one ++ app 0 (0 ∷ []) 0 ++ map 0 1 (0 ∷ 0 ∷ 1 ∷ 0 ∷ []) ++ map 1 2 (0 ∷ 0 ∷ [])
+        ++ kind 0 1 If ++ kind 1 2 SurjThen) room
     (accepted (group r (x0 ∷ y1 ∷ [])
         (flatRule r0 (row01 ∷ set0 ∷ set1 ∷ stmt equality 0 (0 ∷ 1 ∷ []) ∷ []) (stmt function 0 (1 ∷ 1 ∷ []) ∷ []) ∷ [])))
 

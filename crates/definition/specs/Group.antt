@@ -7,8 +7,10 @@ use lib.Dec.{eqb, ltb, leb}
 use lib.ListN.{length, drop, getD}
 use Rattle.definition.specs.Base.{Outcome, refused, pick, orElse, each, has, lowest, empty}
 use Rattle.definition.specs.Limits.{groupBytes, variableLimit, ruleLimit, groupNameBytes}
-use Rattle.definition.specs.Letters.{letterG, letterW, letterU, letterB, letterH, start, predicate, function, member, equality, typeSet, funcDomain}
-use Rattle.definition.specs.Records.{Field, Part, Grammar, Block, numbers, numberAt, fieldsOf, placed, withLetter, blocks, faultAmong, badName, odd, readPart}
+use Rattle.definition.specs.Letters.{letterG, letterW, letterU, letterB, letterH, start, predicate, function, member, equality,
+    typeSet, funcDomain}
+use Rattle.definition.specs.Records.{Field, Part, Grammar, Block, numbers, numberAt, fieldsOf, placed, withLetter, blocks,
+    faultAmong, badName, odd, readPart}
 use Rattle.definition.specs.Signature.{Signature, typeParents, arity, symbolCount, named}
 
 -- 'W variables in number order (type, name)'.
@@ -45,11 +47,11 @@ groupGrammar = record {
     last = letterG ∷ letterW ∷ letterU ∷ letterB ∷ letterH ∷ [];
   }
 
--- A W field.
+-- 'W variables (type, name)': what a field says.
 unfoldable pub variableOf : Field → Variable
 variableOf f = record { type = numberAt 0 (f .content); name = drop 2 (f .content) }
 
--- A B or H field.
+-- 'B premise, H conclusion (byte kind, symbol, variables)': what a field says.
 unfoldable pub statementOf : Field → Statement
 statementOf f = record {
     kind = getD (f .content) 0 0;
@@ -65,11 +67,11 @@ premiseKinds = predicate ∷ function ∷ member ∷ equality ∷ typeSet ∷ []
 abbrev pub conclusionKinds : List ℕ
 conclusionKinds = predicate ∷ function ∷ member ∷ equality ∷ funcDomain ∷ []
 
--- The lowest fault of a G field.
+-- 'in one field the lowest number', of a G: 8.
 unfoldable pub titleFault : ℕ → Option Field → Field → Option ℕ
 titleFault before last f = lowest ((8, badName 1 groupNameBytes (f .content)) ∷ [])
 
--- The lowest fault of a W field.
+-- 'in one field the lowest number', of a W: 3, 4, 5, 8.
 unfoldable pub variableFault : Signature → ℕ → Option Field → Field → Option ℕ
 variableFault sig before last f = lowest (
     (3, ltb (length (f .content)) 2)
@@ -77,7 +79,7 @@ variableFault sig before last f = lowest (
     ∷ (5, not (ltb (variableOf f .type) (length (sig .types))))
     ∷ (8, badName 1 groupNameBytes (variableOf f .name)) ∷ [])
 
--- The lowest fault of a U field.
+-- 'in one field the lowest number', of a U: 4, 8.
 unfoldable pub flatRuleFault : ℕ → Field → Option ℕ
 flatRuleFault before f = lowest ((4, leb ruleLimit before) ∷ (8, badName 1 groupNameBytes (f .content)) ∷ [])
 
@@ -86,7 +88,7 @@ unfoldable pub badColumns : Signature → Statement → Bool
 badColumns sig s = not (eqb (length (s .variables)) (arity sig (s .kind) (s .symbol)))
     || (eqb (s .kind) member && empty (typeParents sig (s .symbol)))
 
--- The lowest fault of a B or an H field, by the kinds it may have and the number of variables.
+-- 'in one field the lowest number', of a B or an H, by the kinds it may have and the number of variables: 3, 5, 7.
 unfoldable pub statementFault : Signature → List ℕ → ℕ → ℕ → Option Field → Field → Option ℕ
 statementFault sig kinds variables before last f = lowest (
     (3, not (odd (length (f .content))) || ltb (length (f .content)) 3)
@@ -95,7 +97,7 @@ statementFault sig kinds variables before last f = lowest (
         || not (named variables (statementOf f .variables)))
     ∷ (7, badColumns sig (statementOf f)) ∷ [])
 
--- The first fault of the rules.
+-- 'first faulty field from the front', of the rules.
 unfoldable pub flatRulesFault : Signature → ℕ → ℕ → List Block → Option ℕ
 flatRulesFault sig variables before [] = none
 flatRulesFault sig variables before (b ∷ bs) =
@@ -104,14 +106,14 @@ flatRulesFault sig variables before (b ∷ bs) =
     (orElse (faultAmong letterH (statementFault sig conclusionKinds variables) (b .body))
     (flatRulesFault sig variables (before + 1) bs)))
 
--- The first fault, front to back.
+-- 'first faulty field from the front'.
 unfoldable pub groupFault : Signature → List Field → Option ℕ
 groupFault sig fs =
     orElse (faultAmong letterG titleFault fs)
     (orElse (faultAmong letterW (variableFault sig) fs)
     (flatRulesFault sig (length (withLetter letterW fs)) 0 (blocks letterU fs)))
 
--- What a rule's fields say.
+-- 'per rule U name, B premise, H conclusion': what a rule's fields say.
 unfoldable pub flatRuleOf : Block → FlatRule
 flatRuleOf b = record {
     name = b .head .content;
@@ -119,11 +121,11 @@ flatRuleOf b = record {
     conclusion = each statementOf (withLetter letterH (b .body));
   }
 
--- The G field: the first one.
+-- 'G name': the first field.
 abbrev pub titleField : List Field → Field
 titleField fs = getD fs 0 (record { letter = letterG; content = [] })
 
--- What a group's fields say.
+-- 'Group: G name; W variables; then per rule': what all fields say.
 unfoldable pub groupOf : List Field → Group
 groupOf fs = record {
     name = titleField fs .content;
@@ -131,7 +133,7 @@ groupOf fs = record {
     rules = each flatRuleOf (blocks letterU fs);
   }
 
--- The fields before the first that draws 2.
+-- 'before the first field that draws 2'.
 unfoldable pub groupPart : List ℕ → Part
 groupPart bytes = placed groupGrammar start (fieldsOf bytes)
 

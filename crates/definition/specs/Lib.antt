@@ -18,4 +18,3 @@ pub mod Opened
 pub mod Garage
 pub mod Examples
 pub mod Demands
-pub mod Oracle

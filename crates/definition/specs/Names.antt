@@ -10,12 +10,12 @@ use Rattle.definition.specs.Letters.{digitZero}
 use Rattle.definition.specs.Rule.{Structure, Element, Name, Pair}
 use Rattle.definition.specs.Group.{Variable}
 
--- A number printed in decimal.
+-- A number in decimal, in at most so many digits.
 unfoldable pub digitsTo : ℕ → ℕ → List ℕ
 digitsTo zero n = []
 digitsTo (suc k) n = pick (ltb n 10) ((digitZero + n) ∷ []) (digitsTo k (n / 10) ++ ((digitZero + n % 10) ∷ []))
 
--- A two-byte number in decimal.
+-- 'a base followed by its number': the number, of two bytes, in decimal.
 abbrev pub decimal : ℕ → List ℕ
 decimal n = digitsTo numberDigits n
 
@@ -27,7 +27,7 @@ numbersOf st = each (λ (e : Element). e .number) (st .elements)
 unfoldable pub variableAt : Structure → List ℕ → ℕ → ℕ
 variableAt st variables e = getD variables (placeFrom 0 e (numbersOf st)) 0
 
--- The keys with an image, ascending.
+-- 'keys in a fiber': those with an image, ascending.
 unfoldable pub fiber : List Pair → ℕ → List ℕ
 fiber pairs e = each (λ (p : Pair). p .key) (keep (λ (p : Pair). eqb (p .image) e) pairs)
 
@@ -35,12 +35,12 @@ fiber pairs e = each (λ (p : Pair). p .key) (keep (λ (p : Pair). eqb (p .image
 unfoldable pub carriedKey : List Pair → ℕ → Option ℕ
 carriedKey pairs e = lastOf (fiber pairs e)
 
--- The variable that an element takes over through a map, if any.
+-- The variable of the key that an element takes over, if any.
 abbrev pub overMap : (ℕ → ℕ) → Option ℕ → Option ℕ
 overMap variable none = none
 overMap variable (some key) = some (variable key)
 
--- What each element of the target takes over.
+-- 'the image takes the key's variable': what each element of the target takes over.
 unfoldable pub carried : Structure → List ℕ → List Pair → Structure → List (Option ℕ)
 carried source variables pairs target =
     each (λ (e : ℕ). overMap (variableAt source variables) (carriedKey pairs e)) (numbersOf target)
@@ -51,7 +51,7 @@ numbered next [] = []
 numbered next (some v ∷ cs) = v ∷ numbered next cs
 numbered next (none ∷ cs) = next ∷ numbered (next + 1) cs
 
--- el_base_name: 'the first V name of its element, else its first I name, else `el`'.
+-- A name's bytes, where it is the element's.
 abbrev pub nameFor : ℕ → Name → Option (List ℕ)
 nameFor e n = pick (eqb (n .element) e) (some (n .name)) none
 
@@ -59,7 +59,7 @@ nameFor e n = pick (eqb (n .element) e) (some (n .name)) none
 abbrev pub el : List ℕ
 el = 101 ∷ 108 ∷ []
 
--- The base of a new variable's name.
+-- el_base_name: 'the first V name of its element, else its first I name, else `el`'.
 unfoldable pub baseName : Structure → ℕ → List ℕ
 baseName st e = orDefault (orElse (firstOf (nameFor e) (st .variableNames)) (firstOf (nameFor e) (st .identifierNames))) el
 
@@ -67,7 +67,7 @@ baseName st e = orDefault (orElse (firstOf (nameFor e) (st .variableNames)) (fir
 unfoldable pub newVariable : Structure → ℕ → Element → Variable
 newVariable st number e = record { type = e .type; name = baseName st (e .number) ++ decimal number }
 
--- The variables that are new in a structure, by its elements and what each of them takes over.
+-- 'target elements then without one get the next numbers': their variables, by what each element takes over.
 unfoldable pub newVariables : Structure → ℕ → List Element → List (Option ℕ) → List Variable
 newVariables st next [] cs = []
 newVariables st next (e ∷ es) [] = []

@@ -19,19 +19,20 @@ numbers [] = []
 numbers (high ∷ []) = []
 numbers (high ∷ low ∷ s) = (high * 256 + low) ∷ numbers s
 
--- The number at a place of a content.
+-- 'Numbers .. in contents, two bytes': the one at a place.
 unfoldable pub numberAt : ℕ → List ℕ → ℕ
 numberAt i content = getD (numbers content) i 0
 
--- A record cut into fields: to its end, or to where a field passes the end.
+-- A record cut into fields: to its end, or to where a 'field passes the end'.
 pub data Fields : Type 0 where
   end bad : Fields
   _▸_ : Field → Fields → Fields
 infixr 40 _▸_
 
--- The cutting; no record has more fields than bytes.
+-- 'a letter (one ASCII byte), a two-byte length, content', again and again, in so many steps; no record has more fields than bytes.
 unfoldable pub cut : ℕ → List ℕ → Fields
-cut zero s = end
+cut zero [] = end
+cut zero (letter ∷ s) = bad
 cut (suc k) [] = end
 cut (suc k) (letter ∷ []) = bad
 cut (suc k) (letter ∷ high ∷ []) = bad
@@ -53,11 +54,11 @@ pub record Grammar : Type 0 where
   pub places : List Place
   pub last : List ℕ
 
--- Whether a letter may stand directly behind another.
+-- 'Letters stand in that order': whether a letter may stand directly behind another.
 unfoldable pub follows : List Place → ℕ → ℕ → Bool
 follows places behind letter = any (λ (p : Place). eqb (p .letter) letter && has behind (p .behind)) places
 
--- The fields before the first that draws 2, and whether none does and none is missing.
+-- 'before the first field that draws 2': those fields, and whether none does and none is missing.
 pub record Part : Type 0 where
   pub fields : List Field
   pub whole : Bool
@@ -99,7 +100,7 @@ unfoldable pub faultFrom : (ℕ → Option Field → Field → Option ℕ) → �
 faultFrom check before last [] = none
 faultFrom check before last (f ∷ fs) = orElse (check before last f) (faultFrom check (before + 1) (some f) fs)
 
--- The first fault of the fields of a letter.
+-- 'first faulty field from the front', of the fields of a letter: its fault.
 unfoldable pub faultAmong : ℕ → (ℕ → Option Field → Field → Option ℕ) → List Field → Option ℕ
 faultAmong letter check fs = faultFrom check 0 none (withLetter letter fs)
 
@@ -108,23 +109,23 @@ abbrev pub notAbove : (Field → List ℕ) → Option Field → Field → Bool
 notAbove key none f = false
 notAbove key (some last) f = not (less (key last) (key f))
 
--- 8: 'name of a forbidden length, or byte outside 33 to 126'.
+-- A byte of a name: not 'outside 33 to 126'.
 abbrev pub nameByte : ℕ → Bool
 nameByte b = leb firstNameByte b && leb b lastNameByte
 
--- A name that is none, by its shortest and longest length.
+-- 8: 'name of a forbidden length, or byte outside 33 to 126', by its shortest and longest length.
 unfoldable pub badName : ℕ → ℕ → List ℕ → Bool
 badName shortest longest name = ltb (length name) shortest || ltb longest (length name) || not (all nameByte name)
 
--- 3 'content length impossible for its field': an odd length.
+-- Whether a number is odd.
 abbrev pub odd : ℕ → Bool
 odd n = eqb (n % 2) 1
 
--- Not a whole number of two-byte numbers, or fewer than the least.
+-- 3 'content length impossible for its field': not a whole number of two-byte numbers, or fewer than the least.
 abbrev pub notNumbers : ℕ → List ℕ → Bool
 notNumbers least content = odd (length content) || ltb (length content) (2 * least)
 
--- Reading: 1 before all fields, then the first faulty field, then 2, then the record's value.
+-- 'first faulty field from the front', else 2 where the part is not whole, else the record's value.
 unfoldable pub readPart : {A : Type 0} → Part → Option ℕ → A → Outcome A
 readPart part (some n) value = refused n
 readPart part none value = pick (part .whole) (accepted value) (refused 2)

@@ -7,8 +7,10 @@ use lib.Dec.{eqb, ltb, leb}
 use lib.ListN.{length, take, drop, getD}
 use Rattle.definition.specs.Base.{Outcome, refused, pick, orElse, keep, each, all, has, lowest, empty}
 use Rattle.definition.specs.Limits.{ruleBytes, structureLimit, fieldLimit, mapLimit, nameBytes}
-use Rattle.definition.specs.Letters.{letterN, letterS, letterE, letterR, letterA, letterV, letterI, letterM, letterK, letterX, start, predicate, function}
-use Rattle.definition.specs.Records.{Field, Part, Grammar, Block, numbers, numberAt, fieldsOf, placed, withLetter, blocks, faultAmong, notAbove, badName, notNumbers, readPart}
+use Rattle.definition.specs.Letters.{letterN, letterS, letterE, letterR, letterA, letterV, letterI, letterM, letterK, letterX, start,
+    predicate, function}
+use Rattle.definition.specs.Records.{Field, Part, Grammar, Block, numbers, numberAt, fieldsOf, placed, withLetter, blocks,
+    faultAmong, notAbove, badName, notNumbers, readPart}
 use Rattle.definition.specs.Signature.{Signature, typeParents, predOf, funcOf, columnCount}
 
 -- 'E (element number, type, parent elements)'.
@@ -36,22 +38,22 @@ pub record Structure : Type 0 where
   pub variableNames : List Name
   pub identifierNames : List Name
 
--- 'M maps (source, target, pairs of key and image)'.
+-- 'pairs of key and image'.
 pub record Pair : Type 0 where
   pub key : ℕ
   pub image : ℕ
 
--- A map with its pairs.
+-- 'M maps (source, target, pairs of key and image)'.
 pub record Map : Type 0 where
   pub source : ℕ
   pub target : ℕ
   pub pairs : List Pair
 
--- 'K kinds (source, target, byte: 0 If, 1 SurjThen, 2 NonSurjThen, 3 Noop)'.
+-- 'byte: 0 If, 1 SurjThen, 2 NonSurjThen, 3 Noop'.
 pub data MorphismKind : Type 0 where
   If SurjThen NonSurjThen Noop : MorphismKind
 
--- A pair of structures with its kind.
+-- 'K kinds (source, target, byte)'.
 pub record Kind : Type 0 where
   pub source : ℕ
   pub target : ℕ
@@ -87,15 +89,15 @@ ruleGrammar = record {
     last = letterS ∷ letterE ∷ letterR ∷ letterA ∷ letterV ∷ letterI ∷ letterM ∷ letterK ∷ letterX ∷ [];
   }
 
--- What a field says.
+-- An E field: '(element number, type, parent elements)'.
 unfoldable pub elementOf : Field → Element
 elementOf f = record { number = numberAt 0 (f .content); type = numberAt 1 (f .content); parents = drop 2 (numbers (f .content)) }
 
--- An R or A field, as a row of a kind.
+-- An R or A field, as a row of a kind: '(predicate, elements)', '(function, elements, result)'.
 unfoldable pub rowOf : ℕ → Field → Row
 rowOf kind f = record { kind = kind; symbol = numberAt 0 (f .content); elements = drop 1 (numbers (f .content)) }
 
--- A name behind so many numbers, the last of which is the element.
+-- A V or I field: '(element, name)', '(term number, element, name)': a name behind so many numbers, the last of which is the element.
 unfoldable pub nameOf : ℕ → Field → Name
 nameOf count f = record { element = numberAt (count - 1) (f .content); name = drop (2 * count) (f .content) }
 
@@ -105,11 +107,11 @@ pairsOf [] = []
 pairsOf (key ∷ []) = []
 pairsOf (key ∷ image ∷ ns) = record { key = key; image = image } ∷ pairsOf ns
 
--- An M field.
+-- An M field: '(source, target, pairs of key and image)'.
 unfoldable pub mapOf : Field → Map
 mapOf f = record { source = numberAt 0 (f .content); target = numberAt 1 (f .content); pairs = pairsOf (drop 2 (numbers (f .content))) }
 
--- The byte of a K field.
+-- 'K kinds (source, target, byte)': the byte.
 abbrev pub kindByte : Field → ℕ
 kindByte f = getD (f .content) 4 0
 
@@ -121,25 +123,26 @@ kindOf f = record {
     kind = getD (If ∷ SurjThen ∷ NonSurjThen ∷ Noop ∷ []) (kindByte f) If;
   }
 
--- An X field.
+-- An X field: '(byte; structure)'.
 unfoldable pub auxiliaryOf : Field → Auxiliary
 auxiliaryOf f = record { class = getD (f .content) 0 0; structure = numberAt 0 (drop 1 (f .content)) }
 
 -- Of a structure's fields, the elements that can be named: 'every E of at least two bytes'.
 unfoldable pub namedElements : List Field → List ℕ
-namedElements body = each (λ (f : Field). numberAt 0 (f .content)) (keep (λ (f : Field). leb 2 (length (f .content))) (withLetter letterE body))
+namedElements body = each (λ (f : Field). numberAt 0 (f .content))
+    (keep (λ (f : Field). leb 2 (length (f .content))) (withLetter letterE body))
 
--- The lowest fault of an N field.
+-- 'in one field the lowest number', of an N: 3, 8.
 unfoldable pub headFault : ℕ → Option Field → Field → Option ℕ
 headFault before last f = lowest (
     (3, ltb (length (f .content)) 2)
     ∷ (8, badName 0 nameBytes (drop 2 (f .content))) ∷ [])
 
--- The lowest fault of an S field.
+-- 'in one field the lowest number', of an S: 3, 4.
 unfoldable pub structureFault : ℕ → Field → Option ℕ
 structureFault before f = lowest ((3, not (empty (f .content))) ∷ (4, leb structureLimit before) ∷ [])
 
--- The lowest fault of an E field; els are the elements of its structure that can be named.
+-- 'in one field the lowest number', of an E: 3 to 7; els are the elements of its structure that can be named.
 unfoldable pub elementFault : Signature → List ℕ → ℕ → Option Field → Field → Option ℕ
 elementFault sig els before last f = lowest (
     (3, notNumbers 2 (f .content))
@@ -148,11 +151,11 @@ elementFault sig els before last f = lowest (
     ∷ (6, notAbove (λ (g : Field). take 1 (numbers (g .content))) last f)
     ∷ (7, not (eqb (length (elementOf f .parents)) (length (typeParents sig (elementOf f .type))))) ∷ [])
 
--- The lowest fault of a row: `results` is 1 for an A, whose result is left out of the order, and 0 for an R.
+-- What rows are ordered by: 'R by all' (results 0), 'A by all but the result' (results 1).
 unfoldable pub rowKey : ℕ → Field → List ℕ
 rowKey results f = take (length (numbers (f .content)) - results) (numbers (f .content))
 
--- The lowest fault of an R or A field: symbols and columns are those of its letter.
+-- 'in one field the lowest number', of an R (results 0) or A (results 1), by its letter's symbols and the columns of each: 3 to 7.
 unfoldable pub rowFault : ℕ → ℕ → (ℕ → ℕ) → List ℕ → ℕ → Option Field → Field → Option ℕ
 rowFault results symbols columns els before last f = lowest (
     (3, notNumbers (1 + results) (f .content))
@@ -161,7 +164,7 @@ rowFault results symbols columns els before last f = lowest (
     ∷ (6, notAbove (rowKey results) last f)
     ∷ (7, not (eqb (length (rowOf 0 f .elements)) (columns (rowOf 0 f .symbol)))) ∷ [])
 
--- The lowest fault of a V (one number, ordered by name) or an I (two numbers, ordered by the first).
+-- 'in one field the lowest number', of a V (one number, ordered by name) or an I (two, ordered by the first): 3 to 6, 8.
 unfoldable pub nameFault : ℕ → (Field → List ℕ) → List ℕ → ℕ → Option Field → Field → Option ℕ
 nameFault count key els before last f = lowest (
     (3, ltb (length (f .content)) (2 * count))
@@ -170,7 +173,7 @@ nameFault count key els before last f = lowest (
     ∷ (6, notAbove key last f)
     ∷ (8, badName 1 nameBytes (nameOf count f .name)) ∷ [])
 
--- The elements that can be named in a structure that is named, and none in another.
+-- 'An element is looked up in its own structure': those that can be named there.
 abbrev pub elementsAt : List (List ℕ) → ℕ → List ℕ
 elementsAt structures s = getD structures s []
 
@@ -180,20 +183,22 @@ keysAscend [] = true
 keysAscend (p ∷ []) = true
 keysAscend (p ∷ q ∷ ps) = ltb (p .key) (q .key) && keysAscend (q ∷ ps)
 
--- A source and a target.
+-- 'M and K by source and target'.
 abbrev pub sourceTarget : Field → List ℕ
 sourceTarget f = take 2 (numbers (f .content))
 
--- The lowest fault of an M field; structures holds, of each structure, the elements that can be named.
+-- 'in one field the lowest number', of an M ('a map's key in the source and its image in the target'), by the elements of each structure
+-- that can be named: 3 to 6.
 unfoldable pub mapFault : List (List ℕ) → ℕ → Option Field → Field → Option ℕ
 mapFault structures before last f = lowest (
     (3, ltb (length (f .content)) 4 || not (eqb (length (f .content) % 4) 0))
     ∷ (4, leb mapLimit before)
     ∷ (5, not (all (λ (s : ℕ). ltb s (length structures)) (sourceTarget f))
-        || not (all (λ (p : Pair). has (p .key) (elementsAt structures (mapOf f .source)) && has (p .image) (elementsAt structures (mapOf f .target))) (mapOf f .pairs)))
+        || not (all (λ (p : Pair). has (p .key) (elementsAt structures (mapOf f .source))
+            && has (p .image) (elementsAt structures (mapOf f .target))) (mapOf f .pairs)))
     ∷ (6, notAbove sourceTarget last f || not (keysAscend (mapOf f .pairs))) ∷ [])
 
--- The lowest fault of a K field.
+-- 'in one field the lowest number', of a K: 3 to 6.
 unfoldable pub kindFault : List (List ℕ) → ℕ → Option Field → Field → Option ℕ
 kindFault structures before last f = lowest (
     (3, not (eqb (length (f .content)) 5))
@@ -206,7 +211,7 @@ abbrev pub classFalls : Option Field → Field → Bool
 classFalls none f = false
 classFalls (some last) f = ltb (auxiliaryOf f .class) (auxiliaryOf last .class)
 
--- The lowest fault of an X field.
+-- 'in one field the lowest number', of an X: 3 to 6.
 unfoldable pub auxiliaryFault : List (List ℕ) → ℕ → Option Field → Field → Option ℕ
 auxiliaryFault structures before last f = lowest (
     (3, not (eqb (length (f .content)) 3))
@@ -214,7 +219,7 @@ auxiliaryFault structures before last f = lowest (
     ∷ (5, ltb 2 (auxiliaryOf f .class) || not (ltb (auxiliaryOf f .structure) (length structures)))
     ∷ (6, classFalls last f) ∷ [])
 
--- The first fault of a structure's fields behind its S.
+-- 'first faulty field from the front', of a structure's fields behind its S.
 unfoldable pub bodyFault : Signature → List ℕ → List Field → Option ℕ
 bodyFault sig els body =
     orElse (faultAmong letterE (elementFault sig els) body)
@@ -223,14 +228,14 @@ bodyFault sig els body =
     (orElse (faultAmong letterV (nameFault 1 (λ (g : Field). drop 2 (g .content)) els) body)
     (faultAmong letterI (nameFault 2 (λ (g : Field). take 1 (numbers (g .content))) els) body))))
 
--- The first fault of the structures.
+-- 'first faulty field from the front', of the structures.
 unfoldable pub structuresFault : Signature → ℕ → List Block → Option ℕ
 structuresFault sig before [] = none
 structuresFault sig before (b ∷ bs) =
     orElse (structureFault before (b .head))
     (orElse (bodyFault sig (namedElements (b .body)) (b .body)) (structuresFault sig (before + 1) bs))
 
--- Of each structure, the elements that can be named.
+-- 'every T, S, or E of at least two bytes .. can be named': of each structure, its elements that can.
 unfoldable pub namedIn : List Field → List (List ℕ)
 namedIn fs = each (λ (b : Block). namedElements (b .body)) (blocks letterS fs)
 
@@ -253,7 +258,7 @@ structureOf b = record {
     identifierNames = each (nameOf 2) (withLetter letterI (b .body));
   }
 
--- The N field: the first one.
+-- 'N (unnamed index, then the name)': the first field.
 abbrev pub headField : List Field → Field
 headField fs = getD fs 0 (record { letter = letterN; content = [] })
 
@@ -268,7 +273,7 @@ ruleOf fs = record {
     auxiliaries = each auxiliaryOf (withLetter letterX fs);
   }
 
--- The fields before the first that draws 2.
+-- 'before the first field that draws 2'.
 unfoldable pub rulePart : List ℕ → Part
 rulePart bytes = placed ruleGrammar start (fieldsOf bytes)
 

@@ -4,8 +4,8 @@ use mathlib.Core.List.{List, [], _∷_}
 use mathlib.Core.Option.{Option, none, some}
 use Prim.Native.Nat.{ℕ, zero, suc, _+_, _*_, min}
 use lib.Dec.{eqb, ltb}
-use lib.ListN.{length, take, drop, getD}
-use Rattle.definition.specs.Base.{Outcome, refused, accepted, onAccepted, pick, orElse, firstOf, has, sameList}
+use lib.ListN.{length, take, drop, getD, getElem?}
+use Rattle.definition.specs.Base.{Outcome, refused, accepted, onAccepted, pick, orElse, orDefault, firstOf, has, sameList}
 use Rattle.definition.specs.Letters.{letterU, letterH, equality}
 use Rattle.definition.specs.Records.{Field}
 use Rattle.definition.specs.Signature.{Signature, readSignature, typeParents, parentModel}
@@ -16,11 +16,11 @@ pub data Scope : Type 0 where
   global : Scope
   model : ℕ → List ℕ → Scope
 
--- 'Variables are equal by name and type.'
+-- The variable of a number.
 abbrev pub variableNumbered : List Variable → ℕ → Variable
 variableNumbered table v = getD table v (record { type = 0; name = [] })
 
--- Whether two variables have the same name and type.
+-- 'Variables are equal by name and type.'
 unfoldable pub sameVariable : List Variable → ℕ → ℕ → Bool
 sameVariable table v w = eqb (variableNumbered table v .type) (variableNumbered table w .type)
     && sameList (variableNumbered table v .name) (variableNumbered table w .name)
@@ -41,23 +41,23 @@ unfoldable pub ownersVerdict : List Variable → List ℕ → ℕ → Statement 
 ownersVerdict table owners count s = pick (ltb (length (s .variables)) count) (some (refused 43))
     (pick (sameVariables table (take count (s .variables)) (take count owners)) none (some (accepted global)))
 
--- 'Every conclusion must share model and owners'; an Equality there has no model.
+-- Whether a statement's model is the model; an Equality has none.
 abbrev pub sharesModel : ℕ → Option ℕ → Bool
 sharesModel m none = false
 sharesModel m (some p) = eqb p m
 
--- What a conclusion settles, if anything.
+-- 'Every conclusion must share model and owners': what one settles, if anything.
 unfoldable pub conclusionVerdict : Signature → List Variable → ℕ → List ℕ → Statement → Option (Outcome Scope)
 conclusionVerdict sig table m owners s = pick (sharesModel m (parentModel sig (s .kind) (s .symbol)))
     (ownersVerdict table owners (ownerCount sig m) s)
     (some (accepted global))
 
--- 'a relation's model must be the model or one be among the other's parents, and its first arguments must equal the owners,
--- as many as the smaller of the owners' count and one more than that relation's model's own parents; else global'.
+-- 'a relation's model must be the model or one be among the other's parents'.
 unfoldable pub related : Signature → ℕ → ℕ → Bool
 related sig m p = eqb p m || has m (typeParents sig p) || has p (typeParents sig m)
 
--- What a premise with a parent model settles, if anything.
+-- 'and its first arguments must equal the owners, as many as the smaller of the owners' count and one more than that relation's
+-- model's own parents; else global': what a premise with a model settles, if anything.
 unfoldable pub relationVerdict : Signature → List Variable → ℕ → List ℕ → Statement → Option ℕ → Option (Outcome Scope)
 relationVerdict sig table m owners s none = none
 relationVerdict sig table m owners s (some p) = pick (related sig m p)
@@ -69,45 +69,40 @@ unfoldable pub premiseVerdict : Signature → List Variable → ℕ → List ℕ
 premiseVerdict sig table m owners s = pick (eqb (s .kind) equality) (some (refused 42))
     (relationVerdict sig table m owners s (parentModel sig (s .kind) (s .symbol)))
 
--- The first verdict, in order, else the model and the owners.
-abbrev pub settle : Option (Outcome Scope) → Outcome Scope → Outcome Scope
-settle (some verdict) other = verdict
-settle none other = other
-
+-- The first verdict, of the conclusions before the premises, else the model and the owners.
 unfoldable pub modelScope : Signature → List Variable → FlatRule → ℕ → List ℕ → Outcome Scope
-modelScope sig table r m owners = settle
+modelScope sig table r m owners = orDefault
     (orElse (firstOf (conclusionVerdict sig table m owners) (r .conclusion)) (firstOf (premiseVerdict sig table m owners) (r .premise)))
     (accepted (model m owners))
 
--- 'global on an empty conclusion, any Equality there reached, or a first output without parent model. The model is the last parent.'
+-- 'global on .. any Equality there reached, or a first output without parent model. The model is the last parent.'
 unfoldable pub outputScope : Signature → List Variable → FlatRule → Statement → Option ℕ → Outcome Scope
 outputScope sig table r s none = accepted global
 outputScope sig table r s (some m) = pick (ltb (length (s .variables)) (ownerCount sig m)) (refused 43)
     (modelScope sig table r m (take (ownerCount sig m) (s .variables)))
 
--- By the first conclusion, if there is one.
+-- 'global on an empty conclusion', else by the first one.
 unfoldable pub conclusionScope : Signature → List Variable → FlatRule → List Statement → Outcome Scope
 conclusionScope sig table r [] = accepted global
 conclusionScope sig table r (s ∷ ss) = outputScope sig table r s (parentModel sig (s .kind) (s .symbol))
 
 -- infer_scope; 41 'no rule at that position'.
-unfoldable pub inferScope : Signature → Group → List FlatRule → ℕ → Outcome Scope
-inferScope sig g [] position = refused 41
-inferScope sig g (r ∷ rs) zero = conclusionScope sig (g .variables) r (r .conclusion)
-inferScope sig g (r ∷ rs) (suc position) = inferScope sig g rs position
+unfoldable pub inferScope : Signature → Group → Option FlatRule → Outcome Scope
+inferScope sig g none = refused 41
+inferScope sig g (some r) = conclusionScope sig (g .variables) r (r .conclusion)
 
 -- 'Scope, given signature bytes, group bytes and a rule position from 0'.
 unfoldable pub scopeOf : List ℕ → List ℕ → ℕ → Outcome Scope
 scopeOf signature group position =
     onAccepted (readSignature signature) λ (sig : Signature).
     onAccepted (readGroup sig group) λ (g : Group).
-    inferScope sig g (g .rules) position
+    inferScope sig g (getElem? (g .rules) position)
 
--- Where the first conclusion of a rule stands: rules still to begin, the fields, and the bytes before them.
+-- How many bytes a field takes: 'a letter, a two-byte length, content'.
 abbrev pub fieldSize : Field → ℕ
 fieldSize f = 3 + length (f .content)
 
--- The byte at which the first conclusion's field stands.
+-- The byte at which a rule's first conclusion stands, by the rules still to begin, the fields, and the bytes before them.
 unfoldable pub conclusionAt : ℕ → List Field → ℕ → ℕ
 conclusionAt rules [] at = at
 conclusionAt zero (f ∷ fs) at = pick (eqb (f .letter) letterH) at (conclusionAt zero fs (at + fieldSize f))

@@ -10,7 +10,7 @@ use Rattle.definition.specs.Limits.{signatureBytes, symbolLimit, parentL
 use Rattle.definition.specs.Letters.{letterT, letterP, letterF, start}
 use Rattle.definition.specs.Records.{Field, Part, Grammar, numbers, fieldsOf, placed, withLetter, faultAmong, odd, notNumbers, readPart}
 
--- A predicate or function: its parents, and the columns behind them (of a function the domain, then the codomain).
+-- A predicate or function: 'parents', and behind them 'argument types', or 'domain, then codomain'.
 pub record Symbol : Type 0 where
   pub parents : List ℕ
   pub others : List ℕ
@@ -30,40 +30,40 @@ signatureGrammar = record {
     last = start ∷ letterT ∷ letterP ∷ letterF ∷ [];
   }
 
--- 'P (a byte counting parents, parents, argument types), then F (the same, domain, then codomain)'.
+-- P and F: 'a byte counting parents'.
 abbrev pub parentCount : List ℕ → ℕ
 parentCount content = getD content 0 0
 
--- The parents, then the other columns.
+-- P and F: 'parents, argument types', of an F 'domain, then codomain'.
 abbrev pub columnsOf : List ℕ → List ℕ
 columnsOf content = numbers (drop 1 content)
 
--- What a P or F field says.
+-- 'P (a byte counting parents, parents, argument types), then F (the same, domain, then codomain)'.
 unfoldable pub symbolOf : Field → Symbol
 symbolOf f = record {
     parents = take (parentCount (f .content)) (columnsOf (f .content));
     others = drop (parentCount (f .content)) (columnsOf (f .content));
   }
 
--- Every number names one of so many.
+-- Whether every number names one of so many; else 5 'a number naming nothing'.
 abbrev pub named : ℕ → List ℕ → Bool
 named count = all (λ (n : ℕ). ltb n count)
 
--- The lowest fault of a T field.
+-- 'in one field the lowest number', of a T: 3, 4, 5.
 unfoldable pub typeFault : ℕ → ℕ → Option Field → Field → Option ℕ
 typeFault types before last f = lowest (
     (3, notNumbers 0 (f .content))
     ∷ (4, leb symbolLimit before || ltb parentLimit (length (numbers (f .content))))
     ∷ (5, not (named types (numbers (f .content)))) ∷ [])
 
--- The lowest fault of a P (results 0) or an F field (results 1: its byte leaves a codomain).
+-- 'in one field the lowest number', of a P (results 0) or an F (results 1: its byte leaves a codomain): 3, 4, 5.
 unfoldable pub symbolFault : ℕ → ℕ → ℕ → Option Field → Field → Option ℕ
 symbolFault results types before last f = lowest (
     (3, not (odd (length (f .content))) || ltb (length (columnsOf (f .content))) (parentCount (f .content) + results))
     ∷ (4, leb symbolLimit before || ltb columnLimit (length (columnsOf (f .content))))
     ∷ (5, not (named types (columnsOf (f .content)))) ∷ [])
 
--- The first fault, where every T can be named.
+-- 'first faulty field from the front', where 'every T can be named'.
 unfoldable pub signatureFault : List Field → Option ℕ
 signatureFault fs =
     orElse (faultAmong letterT (typeFault (length (withLetter letterT fs))) fs)
@@ -78,7 +78,7 @@ signatureOf fs = record {
     funcs = each symbolOf (withLetter letterF fs);
   }
 
--- The fields before the first that draws 2.
+-- 'before the first field that draws 2'.
 unfoldable pub signaturePart : List ℕ → Part
 signaturePart bytes = placed signatureGrammar start (fieldsOf bytes)
 
@@ -87,23 +87,23 @@ unfoldable pub readSignature : List ℕ → Outcome Signature
 readSignature bytes = pick (ltb signatureBytes (length bytes)) (refused 1)
     (readPart (signaturePart bytes) (signatureFault (signaturePart bytes .fields)) (signatureOf (signaturePart bytes .fields)))
 
--- The parents of a type, and of a predicate or function.
+-- What stands where a number names no predicate or function.
 abbrev pub noSymbol : Symbol
 noSymbol = record { parents = []; others = [] }
 
--- 'at most 4 parents of a T': the parents of a type by its number.
+-- 'T fields (parent types)': the parents of a type by its number.
 abbrev pub typeParents : Signature → ℕ → List ℕ
 typeParents sig t = getD (sig .types) t []
 
--- The predicate of a number.
+-- 'Each symbol's number is its position among its letter': the predicate of a number.
 abbrev pub predOf : Signature → ℕ → Symbol
 predOf sig p = getD (sig .preds) p noSymbol
 
--- The function of a number.
+-- 'Each symbol's number is its position among its letter': the function of a number.
 abbrev pub funcOf : Signature → ℕ → Symbol
 funcOf sig f = getD (sig .funcs) f noSymbol
 
--- The number of columns of a predicate's row, and of a function's, the result counted.
+-- 'columns in all, a result counted'.
 abbrev pub columnCount : Symbol → ℕ
 columnCount s = length (s .parents) + length (s .others)
 

@@ -1,32 +1,31 @@
 -- The walk: kinds completed by X, the order of pairs, 21 to 24, and the fold over the walked maps.
-use mathlib.Core.Bool.{Bool, true, false, not, _&&_}
+use mathlib.Core.Bool.{Bool, not, _&&_}
 use mathlib.Core.List.{List, [], _∷_, _++_}
 use mathlib.Core.Option.{Option, none, some}
 use Prim.Native.Nat.{ℕ, _+_}
 use lib.Dec.{eqb}
 use lib.ListN.{length, getD, set}
-use Rattle.definition.specs.Base.{Outcome, refused, accepted, onAccepted, pick, orDefault, keep, each, joined, any, firstOf, span, empty}
+use Rattle.definition.specs.Base.{Outcome, refused, accepted, onAccepted, pick, given, orDefault, keep, each, joined, any, firstOf, span, empty}
 use Rattle.definition.specs.Letters.{underscore}
 use Rattle.definition.specs.Signature.{Signature}
 use Rattle.definition.specs.Rule.{Structure, Element, Rule, Map, Pair, Kind, MorphismKind, If, Noop, Auxiliary}
 use Rattle.definition.specs.Group.{Variable, Statement, FlatRule}
 use Rattle.definition.specs.Names.{decimal, carried, numbered, newVariables}
-use Rattle.definition.specs.Rows.{given}
 use Rattle.definition.specs.Kinds.{Side, Emitted, Step, initialStatements, mapStep}
 
--- incoming_source: 'the lowest source with a map to its structure' (maps stand by source, then target).
+-- A map's source, where it leads to the structure.
 abbrev pub sourceInto : ℕ → Map → Option ℕ
 sourceInto t m = pick (eqb (m .target) t) (some (m .source)) none
 
--- The lowest source of a structure.
+-- incoming_source: 'the lowest source with a map to its structure' (maps stand by source, then target).
 unfoldable pub incomingSource : List Map → ℕ → Option ℕ
 incomingSource maps t = firstOf (sourceInto t) maps
 
--- The map of a pair.
+-- A map's pairs, where it is between the two structures.
 abbrev pub mapOfPair : ℕ → ℕ → Map → Option (List Pair)
 mapOfPair s t m = pick (eqb (m .source) s && eqb (m .target) t) (some (m .pairs)) none
 
--- The pairs of the map between two structures, if there is one.
+-- 'a pair without a map': the pairs of the map between two structures, if there is one.
 unfoldable pub pairsBetween : List Map → ℕ → ℕ → Option (List Pair)
 pairsBetween maps s t = firstOf (mapOfPair s t) maps
 
@@ -35,13 +34,8 @@ unfoldable pub unmappedAuxiliary : Rule → Bool
 unmappedAuxiliary rule = any (λ (x : Auxiliary). not (given (incomingSource (rule .maps) (x .structure)))) (rule .auxiliaries)
 
 -- 22: 'a kind names a pair without a map'.
-abbrev pub found : Option (List Pair) → Bool
-found none = false
-found (some pairs) = true
-
--- Whether some K has no map.
 unfoldable pub unmappedKind : Rule → Bool
-unmappedKind rule = any (λ (k : Kind). not (found (pairsBetween (rule .maps) (k .source) (k .target)))) (rule .kinds)
+unmappedKind rule = any (λ (k : Kind). not (given (pairsBetween (rule .maps) (k .source) (k .target)))) (rule .kinds)
 
 -- Whether a kind is that of a pair.
 abbrev pub ofPair : ℕ → ℕ → Kind → Bool
@@ -55,7 +49,7 @@ auxiliaryKind class = pick (eqb class 0) Noop If
 unfoldable pub addPair : List Kind → Kind → List Kind
 addPair kinds k = pick (any (ofPair (k .source) (k .target)) kinds) kinds (kinds ++ (k ∷ []))
 
--- The kinds of K, then those that the X add.
+-- 'Each X, in order, adds a pair': the kinds of K, then those that the X add.
 unfoldable pub completed : List Map → List Kind → List Auxiliary → List Kind
 completed maps kinds [] = kinds
 completed maps kinds (x ∷ xs) = completed maps (addPair kinds (record {
@@ -84,7 +78,7 @@ pub record State : Type 0 where
 abbrev pub noStructure : Structure
 noStructure = record { elements = []; predRows = []; funcRows = []; variableNames = []; identifierNames = [] }
 
--- The structure of a number.
+-- 'Structures are numbered from 0 as they stand': the structure of a number.
 abbrev pub structureAt : Rule → ℕ → Structure
 structureAt rule s = getD (rule .structures) s noStructure
 
@@ -99,7 +93,8 @@ groupName rule = pick (empty (rule .name)) (anonymousRule ++ decimal (rule .inde
 -- 'A rule's name is the group's, `_`, and the count of rules before it.'
 unfoldable pub namedRules : List ℕ → ℕ → List Emitted → List FlatRule
 namedRules group count [] = []
-namedRules group count (e ∷ es) = record { name = group ++ (underscore ∷ decimal count); premise = e .premise; conclusion = e .conclusion } ∷ namedRules group (count + 1) es
+namedRules group count (e ∷ es) = record { name = group ++ (underscore ∷ decimal count); premise = e .premise; conclusion = e .conclusion }
+    ∷ namedRules group (count + 1) es
 
 -- A structure and its elements' variables: those taken over, the others from the next number on.
 unfoldable pub sideOf : Structure → ℕ → List (Option ℕ) → Side
@@ -141,7 +136,7 @@ walkMap sig rule state k pairs (some source) none = onAccepted
         pairs (k .kind) (source .statements))
     (λ (step : Step). accepted (reach rule state (k .target) (takenOver rule k pairs source) step))
 
--- The walk over the kinds that are left; a refusal ends it.
+-- 'map by map in the walk': over the kinds that are left; a refusal ends it.
 unfoldable pub walkFrom : Signature → Rule → State → List Kind → Outcome State
 walkFrom sig rule state [] = accepted state
 walkFrom sig rule state (k ∷ ks) = onAccepted

@@ -1,5 +1,6 @@
 // Reads a two-byte signature length (high byte first), the signature and the rule from standard input; prints the group, or
-// `refused`, a space, the number and a newline.
+// `refused`, a space, the number and a newline. A read that fails is answered like missing bytes, and told on standard error; a write
+// that fails is told there.
 use answers::desk::desk;
 use flatten::entry::ANSWER;
 
@@ -10,7 +11,7 @@ const INPUT: usize = 98306;
 fn main() {
     let mut input = [0u8; INPUT];
     let mut out = [0u8; ANSWER];
-    let n = io::read_full(0, &mut input);
+    let n = streams::read_input(&mut input, b"desk: standard input");
     let m = desk(&input[..n], &mut out);
-    io::write_all(1, &out[..m]);
+    streams::write_all(&out[..m], b"desk: standard output");
 }

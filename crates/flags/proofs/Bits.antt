@@ -2,7 +2,8 @@
 use Prim.Native.Nat.{ℕ, zero, suc, _+_, _*_, _/_, _%_, _^_, _≤_, _<_}
 use native.Mathlib.Omega.{arith}
 use native.Mathlib.Decide.{ℕ-discrete}
-use native.Mathlib.Nat.{pow-suc, pow-le-pow-right, div-eq-of-lt, add-mul-div-left, add-mul-mod-self-left, add-div-right, pow-zero, mul-assoc, mul-comm, mod-eq-of-lt}
+use native.Mathlib.Nat.{pow-suc, pow-le-pow-right, div-eq-of-lt, add-mul-div-left, add-mul-mod-self-left, add-div-right, pow-zero, mul-assoc}
+use native.Mathlib.Nat.{mul-comm, mod-eq-of-lt}
 use mathlib.Core.Path.{_≡_, refl, _∙_}
 use mathlib.Core.Bool.{Bool, true, false, _&&_}
 use Rattle.flags.specs.Flags.{digitAt}

@@ -77,7 +77,8 @@ module _ {s : List ℕ} {from end letter : ℕ} {check : ℕ → Option Field �
 
   pub along-over : Over → Section (checked.Upto count at) s from end letter check fs
   unfolding faultFrom
-  along-over v = record { is = (w .fault ∙ rw (v .front-over), rw (over-front v) (w .counted), rw (over-front v) (w .passed), rw (w .back ∙ v .back-over) (w .run)) }
+  along-over v = record
+      { is = (w .fault ∙ rw (v .front-over), rw (over-front v) (w .counted), rw (over-front v) (w .passed), rw (w .back ∙ v .back-over) (w .run)) }
 
   module _ (lt : at < end) where
     module _ {start len next : ℕ} (e : fieldAt s at ≡ Got letter start len next) where
@@ -90,11 +91,13 @@ module _ {s : List ℕ} {from end letter : ℕ} {check : ℕ → Option Field �
       unfolding trailing
       first-back b = rw (b .same, eq-eqb letter letter refl)
 
-      pub along-fault : {n : ℕ} → ((last : Option Field) → some n ≡ check count last (fieldOf s letter start len)) → Section (checked.Refused n) s from end letter check fs
+      pub along-fault : {n : ℕ} → ((last : Option Field) → some n ≡ check count last (fieldOf s letter start len))
+          → Section (checked.Refused n) s from end letter check fs
       unfolding faultFrom
       along-fault k = record { is = w .fault ∙ rw (first (run-got (w .run) lt e), ← (k (w .last))) }
 
-      unfoldable pub along-next : ((last : Option Field) → none ≡ check count last (fieldOf s letter start len)) → Along s from end letter check fs next (count + 1)
+      unfoldable pub along-next : ((last : Option Field) → none ≡ check count last (fieldOf s letter start len))
+          → Along s from end letter check fs next (count + 1)
       unfolding faultFrom
       along-next k =
           let b = run-got (w .run) lt e in

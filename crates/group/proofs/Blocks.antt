@@ -55,7 +55,9 @@ module _ (fs : List Field) (o : Ordered groupGrammar letterU fs) where
   cut = split letterB fs ∙ ap (λ (gs : List Field). bs ++ gs) (split letterH mid)
 
   body-is : upTo letterU fs ≡ bs ++ hs
-  body-is = ap (upTo letterU) cut ∙ rw (upto-leading letterB letterU (λ q. omega arith) fs (hs ++ rest-of), upto-leading letterH letterU (λ q. omega arith) mid rest-of, upto-rule rest-of rest-order, append-nil)
+  body-is = ap (upTo letterU) cut
+      ∙ rw (upto-leading letterB letterU (λ q. omega arith) fs (hs ++ rest-of), upto-leading letterH letterU (λ q. omega arith) mid rest-of,
+      upto-rule rest-of rest-order, append-nil)
 
   pub premises-are : withLetter letterB (upTo letterU fs) ≡ leading letterB fs
   unfolding withLetter
@@ -66,7 +68,8 @@ module _ (fs : List Field) (o : Ordered groupGrammar letterU fs) where
   conclusions-are = rw (body-is, keep-append) (rw (with-other letterB letterH (λ q. omega arith) fs, with-same letterH mid) refl)
 
   pub others-are : blocks letterU fs ≡ blocks letterU rest-of
-  others-are = ap (blocks letterU) cut ∙ rw (blocks-leading letterB letterU (λ q. omega arith) fs (hs ++ rest-of), blocks-leading letterH letterU (λ q. omega arith) mid rest-of)
+  others-are = ap (blocks letterU) cut
+      ∙ rw (blocks-leading letterB letterU (λ q. omega arith) fs (hs ++ rest-of), blocks-leading letterH letterU (λ q. omega arith) mid rest-of)
 
 -- Of two faults there is none.
 pub or-else-none : (a b : Option ℕ) → orElse a b ≡ none → (a ≡ none) × (b ≡ none)
@@ -101,7 +104,8 @@ module _ (sig : Signature) (variables before : ℕ) {s : List ℕ} {at end : ℕ
   unfolding faultAmong
   conclusion-check = rw (conclusions-are fs (o .1))
 
-  pub rule-fault : {n : ℕ} → ((letter : ℕ) → some n ≡ flatRuleFault before (fieldOf s letter start len)) → Rule (ruled.Refused n) sig variables before s at end f fs
+  pub rule-fault : {n : ℕ} → ((letter : ℕ) → some n ≡ flatRuleFault before (fieldOf s letter start len))
+      → Rule (ruled.Refused n) sig variables before s at end f fs
   unfolding blockFault
   rule-fault k = record { is = rw (ap (flatRuleFault before) (run-cons r e .0) ∙ sym (k l)) }
 
@@ -109,7 +113,8 @@ module _ (sig : Signature) (variables before : ℕ) {s : List ℕ} {at end : ℕ
     head-sound : flatRuleFault before f ≡ none
     head-sound = ap (flatRuleFault before) (run-cons r e .0) ∙ sym (k l)
 
-    pub premise-fault : {n : ℕ} → ((gs : List Field) → Run s next end gs → Section (checked.Refused n) s next end letterB (statementFault sig (kindsOf letterB) variables) gs)
+    pub premise-fault : {n : ℕ}
+        → ((gs : List Field) → Run s next end gs → Section (checked.Refused n) s next end letterB (statementFault sig (kindsOf letterB) variables) gs)
         → Rule (ruled.Refused n) sig variables before s at end f fs
     unfolding blockFault
     premise-fault p = record { is = rw (head-sound, premise-check ∙ p fs (run-cons r e .1) .is) }

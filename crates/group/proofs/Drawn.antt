@@ -1,10 +1,12 @@
 -- The faults of a field, from the tests that the code makes.
 use Prim.Native.Nat.{ℕ, zero, suc, _+_, _-_, _/_, _%_, _≤_, _<_}
 use native.Mathlib.Omega.{arith}
+use native.Mathlib.Decide.{decLt}
 use native.Mathlib.Nat.{add-zero}
 use mathlib.Core.Bool.{Bool, true, false, not, _&&_, _||_}
 use mathlib.Core.List.{List, [], _∷_}
 use mathlib.Core.Option.{Option, none, some}
+use mathlib.Core.Logic.{⊎-elim}
 use mathlib.Core.Path.{_≡_, refl, _∙_, ap}
 use lib.Dec.{eqb, ltb, leb}
 use lib.ListN.{length, getD}
@@ -17,6 +19,12 @@ use Rattle.definition.specs.Signature.{Signature, arity, symbolCount, typeParen
 use Rattle.definition.specs.Group.{premiseKinds, conclusionKinds, variableOf, statementOf, variableFault, statementFault, badColumns}
 use Rattle.records.specs.Places.{twoAt, stretch, fieldOf}
 use Rattle.laws.proofs.Numbers.{drop-numbers}
+use denote.Enum.Declared.{tagOf}
+use types.Run.{OneOf}
+use Rattle.signature.specs.Relations.{kindOf}
+use Rattle.signature.specs.declared.ids.Relation.{Relation}
+use Rattle.signature.proofs.ids.Relation.{the-type}
+use Rattle.signature.specs.declared.ids.Relation.the-variants.{Predicate, Function, Member, Equality, TypeSet, FuncDomain}
 use Rattle.group.specs.Sections.{kindsOf}
 use Rattle.records.proofs.Numbers.{length-stretch, stretch-at, drop-stretch, number-in, length-numbers-in}
 
@@ -72,10 +80,12 @@ module _ (s : List ℕ) (start len : ℕ) (h : start + len ≤ length s) (letter
 
     -- What the tests of a statement come to, by its kind and symbol.
     abbrev pub tested : ℕ → ℕ → Option ℕ
-    tested kind symbol = pick (not (has kind kinds) || not (ltb symbol (symbolCount sig kind)) || not (named variables (numbers (stretch s (start + 3) (len - 3))))) (some 5)
+    tested kind symbol = pick
+        (not (has kind kinds) || not (ltb symbol (symbolCount sig kind)) || not (named variables (numbers (stretch s (start + 3) (len - 3))))) (some 5)
         (pick (not (eqb ((len - 3) / 2) (arity sig kind symbol)) || (eqb kind member && empty (typeParents sig symbol))) (some 7) none)
 
-    pub statement-tests : len % 2 ≡ 1 → 3 ≤ len → statementFault sig kinds variables before last (fieldOf s letter start len) ≡ tested (getD s start 0) (twoAt s (start + 1))
+    pub statement-tests : len % 2 ≡ 1 → 3 ≤ len
+        → statementFault sig kinds variables before last (fieldOf s letter start len) ≡ tested (getD s start 0) (twoAt s (start + 1))
     unfolding statementFault lowest badColumns
     statement-tests q l = rw (length-stretch s start len h, eq-eqb _ _ q, le-ltb len 3 l, variables-count l, kind-is l, symbol-is l, variables-are l)
 
@@ -90,6 +100,17 @@ one-column sig symbol columns e = rw e (go (typeParents sig symbol))
       where
         no : (p : ℕ) (ps : List ℕ) → length (p ∷ ps) + 1 ≡ 1 → ⊥
         no p ps q = omega arith
+
+-- What is no member is of another kind.
+pub no-member : (rel : Relation) → OneOf (0 ∷ 1 ∷ 3 ∷ 4 ∷ 5 ∷ []) (tagOf the-type rel) → false ≡ eqb (kindOf rel) member
+no-member (Predicate p) o = refl
+no-member (Function f) o = refl
+no-member (Member t) o =
+    ⊎-elim (λ z. absurd (omega arith)) (⊎-elim (λ z. absurd (omega arith)) (⊎-elim (λ z. absurd (omega arith))
+    (⊎-elim (λ z. absurd (omega arith)) (λ z. absurd (omega arith))))) o
+no-member (Equality t) o = refl
+no-member (TypeSet t) o = refl
+no-member (FuncDomain f) o = refl
 
 -- The kinds that may stand in a B or an H.
 module _ (letter : ℕ) where
@@ -130,5 +151,14 @@ module _ (letter : ℕ) where
   high-kind kind h = go (eqb letter letterB)
     where
       go : (t : Bool) → has kind (pick t premiseKinds conclusionKinds) ≡ false
-      go true = rw (ne-eqb 0 kind (λ e. omega arith), ne-eqb 1 kind (λ e. omega arith), ne-eqb 2 kind (λ e. omega arith), ne-eqb 3 kind (λ e. omega arith), ne-eqb 4 kind (λ e. omega arith))
-      go false = rw (ne-eqb 0 kind (λ e. omega arith), ne-eqb 1 kind (λ e. omega arith), ne-eqb 2 kind (λ e. omega arith), ne-eqb 3 kind (λ e. omega arith), ne-eqb 5 kind (λ e. omega arith))
+      go true = rw (ne-eqb 0 kind (λ e. omega arith), ne-eqb 1 kind (λ e. omega arith), ne-eqb 2 kind (λ e. omega arith), ne-eqb 3 kind (λ e. omega arith),
+          ne-eqb 4 kind (λ e. omega arith))
+      go false = rw (ne-eqb 0 kind (λ e. omega arith), ne-eqb 1 kind (λ e. omega arith), ne-eqb 2 kind (λ e. omega arith), ne-eqb 3 kind (λ e. omega arith),
+          ne-eqb 5 kind (λ e. omega arith))
+
+  pub known-kind : (kind : ℕ) → has kind (kindsOf letter) ≡ true → kind ≤ funcDomain
+  known-kind kind e = go (decLt funcDomain kind)
+    where
+      go : Dec (funcDomain < kind) → kind ≤ funcDomain
+      go (yes h) = let q = high-kind kind h in let z : _≡_ {A = ℕ} 0 1 = cc in absurd (omega arith)
+      go (no h) = omega arith

@@ -12,4 +12,6 @@ pub mod Whole
 pub mod Passing
 pub mod Listing
 pub mod Values
-pub mod Stands
+pub mod SoundStatement
+pub mod Writing
+pub mod View

@@ -66,7 +66,8 @@ pub stored-start : {s index : List ℕ} → length index ≡ indexSize → Store
 stored-start l = record { size = l; few = omega arith; each = λ i h. absurd (omega arith) }
 
 -- A field without a fault, for some signature, is stored.
-pub stored-next : {s index : List ℕ} {count letter start len next : ℕ} (sig : Signature) (at : ℕ) → Stored s index count → fieldAt s at ≡ Got letter start len next
+pub stored-next : {s index : List ℕ} {count letter start len next : ℕ} (sig : Signature) (at : ℕ) → Stored s index count
+    → fieldAt s at ≡ Got letter start len next
     → none ≡ variableFault sig count none (fieldOf s letter start len) → Stored s (set index (variablesFrom + count) at) (count + 1)
 stored-next {s} {index} {count} {letter} {start} {len} sig at w e k =
     let g = got-is s at e in

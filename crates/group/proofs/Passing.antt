@@ -25,7 +25,8 @@ unfolding groupPart has any
 pass-start s = record { passed = []; placing = placing-start groupGrammar s; last = refl }
 
 module _ {s : List ℕ} {at behind : ℕ} (p : Passing s at behind) where
-  pub pass-next : {letter start len next : ℕ} → fieldAt s at ≡ Got letter start len next → follows (groupGrammar .places) behind letter ≡ true → Passing s next letter
+  pub pass-next : {letter start len next : ℕ} → fieldAt s at ≡ Got letter start len next → follows (groupGrammar .places) behind letter ≡ true
+      → Passing s next letter
   pass-next {letter} e f = record { passed = _; placing = placing-next (p .placing) e f; last = follows-last behind letter f }
 
   pub pass-stop : {letter start len next : ℕ} → fieldAt s at ≡ Got letter start len next → follows (groupGrammar .places) behind letter ≡ false

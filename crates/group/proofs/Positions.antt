@@ -43,7 +43,8 @@ passed-over {s} (more {at = at} {letter = l} {start = b} {len = n} {next = x} {f
     let w = not-first (soughtOf r) (fieldOf s l b n) xs e in
     step r (w .0) ∙ rw (field-end s at d) (passed-over q r ys (w .1))
   where
-    step : (r : ℕ) → eqb l (soughtOf r) ≡ false → conclusionAt r (fieldOf s l b n ∷ (xs ++ ys)) at ≡ conclusionAt r (xs ++ ys) (at + fieldSize (fieldOf s l b n))
+    step : (r : ℕ) → eqb l (soughtOf r) ≡ false
+        → conclusionAt r (fieldOf s l b n ∷ (xs ++ ys)) at ≡ conclusionAt r (xs ++ ys) (at + fieldSize (fieldOf s l b n))
     step zero e = rw e
     step (suc r) e = ap (λ (t : Bool). conclusionAt (pick t r (suc r)) (xs ++ ys) (at + fieldSize (fieldOf s l b n))) e
 

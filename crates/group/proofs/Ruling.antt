@@ -47,12 +47,15 @@ pub entered-start : (index : List ℕ) (from : ℕ) → length index ≡ indexSi
 entered-start index from l = record {
   size = length-set index rulesFrom from ∙ l;
   few = omega arith;
-  kept = record { same = λ i h. refl };
+  kept = record { long = refl; same = λ i h. refl };
   here = getD-set-same index rulesFrom from 0 (omega arith);
 }
 
 pub kept-start : {index index′ : List ℕ} (from : ℕ) → Kept (set index rulesFrom from) index′ → Kept index index′
-kept-start {index} from k = record { same = λ i h. k .same i h ∙ getD-set-other index rulesFrom i from 0 (λ q. omega arith) }
+kept-start {index} from k = record {
+  long = k .long ∙ length-set index rulesFrom from;
+  same = λ i h. k .same i h ∙ getD-set-other index rulesFrom i from 0 (λ q. omega arith);
+}
 
 -- One rule more: where its conclusions start, and where it ends.
 abbrev pub entered : List ℕ → ℕ → ℕ → ℕ → List ℕ
@@ -80,7 +83,10 @@ module _ {index₀ index : List ℕ} {at count : ℕ} (w : Entered index₀ inde
       record {
         size = rw (length-set, length-set) (w .size);
         few = omega arith;
-        kept = record { same = λ i h. other i (λ q. omega arith) (λ q. omega arith) ∙ w .kept .same i h };
+        kept = record {
+          long = rw (length-set, length-set) (w .kept .long);
+          same = λ i h. other i (λ q. omega arith) (λ q. omega arith) ∙ w .kept .same i h;
+        };
         here = rw e new-end;
       }
 
@@ -89,7 +95,8 @@ module _ {index₀ index : List ℕ} {at count : ℕ} (w : Entered index₀ inde
     rule-kept : {k : ℕ} {b : Block} → k < count → RuleAt s index k b → RuleAt s (entered index count conclusions next) k b
     rule-kept {k} h r =
         let a : ruleAt (entered index count conclusions next) k ≡ ruleAt index k = other (rulesFrom + k) (λ e. omega arith) (λ e. omega arith) in
-        let c : conclusionsAt (entered index count conclusions next) k ≡ conclusionsAt index k = other (conclusionsFrom + k) (λ e. omega arith) (λ e. omega arith) in
+        let c : conclusionsAt (entered index count conclusions next) k ≡ conclusionsAt index k =
+            other (conclusionsFrom + k) (λ e. omega arith) (λ e. omega arith) in
         let e : ruleEnd (entered index count conclusions next) k ≡ ruleEnd index k = other (rulesFrom + k + 1) (λ e. omega arith) (λ e. omega arith) in
         record {
           head = rw a (r .head);
@@ -98,7 +105,8 @@ module _ {index₀ index : List ℕ} {at count : ℕ} (w : Entered index₀ inde
           conclusion = rw (c, e) (r .conclusion);
         }
 
-    rule-new : {sig : Signature} {variables end : ℕ} {f : Field} {fs : List Field} → RuleRead sig variables s at conclusions next end f fs → RuleAt s (entered index count conclusions next) count (ruleOf f fs)
+    rule-new : {sig : Signature} {variables end : ℕ} {f : Field} {fs : List Field} → RuleRead sig variables s at conclusions next end f fs
+        → RuleAt s (entered index count conclusions next) count (ruleOf f fs)
     rule-new r = record {
       head = rw new-rule (r .head);
       within = rw new-rule (r .within);
@@ -133,7 +141,9 @@ pub record Ruling (sig : Signature) (variables : ℕ) (s index : List ℕ) (from
 
 pub ruling-start : {sig : Signature} {variables : ℕ} {s index : List ℕ} {end from : ℕ} {fs : List Field} → Run s from end fs → AtRule fs
     → Ruling sig variables s index from end fs from 0
-ruling-start {fs = fs} r o = record { done = []; rest = fs; run = r; order = o; split = refl; counted = refl; fault = refl; each = λ k h. absurd (omega arith); sound = λ k h. absurd (omega arith); places = λ r. rw zero-add; first = λ k h. absurd (omega arith) }
+ruling-start {fs = fs} r o =
+    record { done = []; rest = fs; run = r; order = o; split = refl; counted = refl; fault = refl; each = λ k h. absurd (omega arith); sound =
+    λ k h. absurd (omega arith); places = λ r. rw zero-add; first = λ k h. absurd (omega arith) }
 
 -- What is left begins with a rule.
 record Begins (s : List ℕ) (at end : ℕ) (rest : List Field) : Type 0 where
@@ -149,7 +159,8 @@ unfolding blocks
 begins [] lt none o = absurd (omega arith)
 begins (f ∷ fs) lt r o = record { head = f; tail = fs; same = refl; run = r; order = o; first = rw (o .0) }
 
-module _ {sig : Signature} {variables : ℕ} {s index : List ℕ} {from end : ℕ} {fs : List Field} {at count : ℕ} (w : Ruling sig variables s index from end fs at count) where
+module _ {sig : Signature} {variables : ℕ} {s index : List ℕ} {from end : ℕ} {fs : List Field} {at count : ℕ}
+    (w : Ruling sig variables s index from end fs at count) where
   pub ruling-end : count ≤ ruleLimit → end ≤ at → AllRules (checked.Upto count at) sig variables s index from fs
   unfolding blocks flatRulesFault
   ruling-end few h =
@@ -161,11 +172,14 @@ module _ {sig : Signature} {variables : ℕ} {s index : List ℕ} {from end : �
     here : Begins s at end (w .rest)
     here = begins (w .rest) lt (w .run) (w .order)
 
-    pub ruling-fault : {n : ℕ} → ((f : Field) (gs : List Field) → Run s at end (f ∷ gs) → AtRule (f ∷ gs) → Rule (ruled.Refused n) sig variables count s at end f gs)
+    pub ruling-fault : {n : ℕ}
+        → ((f : Field) (gs : List Field) → Run s at end (f ∷ gs) → AtRule (f ∷ gs) → Rule (ruled.Refused n) sig variables count s at end f gs)
         → AllRules (checked.Refused n) sig variables s index from fs
     ruling-fault q =
         let b = here in
-        record { is = w .fault ∙ rw (b .first, first-rule sig variables count (ruleOf (b .head) (b .tail)) (blocks letterU (b .tail)), q (b .head) (b .tail) (b .run) (b .order) .is) }
+        record { is = w .fault
+            ∙ rw (b .first, first-rule sig variables count (ruleOf (b .head) (b .tail)) (blocks letterU (b .tail)),
+            q (b .head) (b .tail) (b .run) (b .order) .is) }
 
     pub ruling-next : {index₀ : List ℕ} {conclusions next : ℕ} → Entered index₀ index at count → count < ruleLimit
         → ((f : Field) (gs : List Field) → Run s at end (f ∷ gs) → AtRule (f ∷ gs) → Rule (ruled.Upto conclusions next) sig variables count s at end f gs)
@@ -184,12 +198,15 @@ module _ {sig : Signature} {variables : ℕ} {s index : List ℕ} {from end : �
           fault = w .fault ∙ rw (e, first-rule sig variables count (ruleOf (b .head) (b .tail)) (blocks letterU (r .1 .rest)), r .0);
           each = each-snoc (RuleAt s (entered index count conclusions next)) (w .done) (ruleOf (b .head) (b .tail)) noBlock (w .counted)
               (λ k h. rule-kept v few conclusions next h (w .each k h)) (rule-new v few conclusions next (r .1));
-          sound = each-snoc (λ (k : ℕ) (a : Block). RuleSound sig variables a) (w .done) (ruleOf (b .head) (b .tail)) noBlock (w .counted) (w .sound) (r .1 .sound);
+          sound = each-snoc (λ (k : ℕ) (a : Block). RuleSound sig variables a) (w .done) (ruleOf (b .head) (b .tail)) noBlock (w .counted) (w .sound)
+              (r .1 .sound);
           places = λ j. steps j (r .1 .rest) (ap (λ (gs : List Field). conclusionAt (suc (suc j)) gs at) (b .same) ∙ r .1 .passed j);
           first = each-snoc (FirstConclusion (entered index count conclusions next) fs from) (w .done) (ruleOf (b .head) (b .tail)) noBlock (w .counted)
               (λ k h m. w .first k h m ∙ sym (other v few conclusions next (conclusionsFrom + k) (λ q. omega arith) (λ q. omega arith)))
-              (λ m. w .places zero ∙ ap (λ (gs : List Field). conclusionAt (suc zero) gs at) (b .same) ∙ r .1 .first m ∙ sym (new-conclusions v few conclusions next));
+              (λ m. w .places zero ∙ ap (λ (gs : List Field). conclusionAt (suc zero) gs at) (b .same) ∙ r .1 .first m
+                  ∙ sym (new-conclusions v few conclusions next));
         }
       where
-        steps : (j : ℕ) (rest : List Field) → conclusionAt (suc (suc j)) (w .rest) at ≡ conclusionAt (suc j) rest next → conclusionAt (count + 1 + suc j) fs from ≡ conclusionAt (suc j) rest next
+        steps : (j : ℕ) (rest : List Field) → conclusionAt (suc (suc j)) (w .rest) at ≡ conclusionAt (suc j) rest next
+            → conclusionAt (count + 1 + suc j) fs from ≡ conclusionAt (suc j) rest next
         steps j rest e = let q : count + 1 + suc j ≡ count + suc (suc j) = omega arith in rw q (w .places (suc j) ∙ e)

@@ -95,7 +95,8 @@ after-premises fs o = behind-leading groupGrammar letterB Before (Ordered groupG
     only b l p n (premise e h) = absurd (n e)
     only b l p n (conclusion e h) = rw e
 
-    other : (b : ℕ) (f : Field) (gs : List Field) → Before b → (f .letter ≡ letterB → ⊥) → Ordered groupGrammar b (f ∷ gs) → Ordered groupGrammar letterH (f ∷ gs)
+    other : (b : ℕ) (f : Field) (gs : List Field) → Before b → (f .letter ≡ letterB → ⊥) → Ordered groupGrammar b (f ∷ gs)
+        → Ordered groupGrammar letterH (f ∷ gs)
     other b f gs p n q = (only b (f .letter) p n (next b (f .letter) (q .0)), q .1)
 
 -- Behind those comes the next rule.

@@ -12,7 +12,8 @@ use borrow.Author.Tests.{lt-ltb, le-ltb}
 use Rattle.definition.specs.Base.{refused, accepted, when, orElse, any, has, keep}
 use Rattle.definition.specs.Letters.{letterG, letterW, letterU, start}
 use Rattle.definition.specs.Limits.{groupBytes}
-use Rattle.definition.specs.Records.{Field, Fields, end, bad, _▸_, follows, placed, inFront, fieldsOf, withLetter, blocks, faultFrom, faultAmong, readPart, numbers}
+use Rattle.definition.specs.Records.{Field, Fields, end, bad, _▸_, follows, placed, inFront, fieldsOf, withLetter, blocks, faultFrom, faultAmong}
+use Rattle.definition.specs.Records.{readPart, numbers}
 use Rattle.definition.specs.Signature.{Signature}
 use Rattle.definition.specs.Group.{groupGrammar, groupPart, groupFault, groupOf, readGroup, titleFault, variableFault, flatRulesFault, variableOf}
 use Rattle.definition.specs.Scope.{conclusionAt}
@@ -39,7 +40,8 @@ use Rattle.group.proofs.Listing.{type-named}
 -- A signature has as many types as its index counts.
 pub types-count : (s index : List ℕ) (counts : Counts) → length (signatureAt s index counts .types) ≡ counts .types
 unfolding signatureAt
-types-count s index counts = length-each (λ (f : Field). numbers (f .content)) (heldAt s index typesFrom (counts .types)) ∙ length-held s index typesFrom (counts .types)
+types-count s index counts = length-each (λ (f : Field). numbers (f .content)) (heldAt s index typesFrom (counts .types))
+    ∙ length-held s index typesFrom (counts .types)
 
 -- 1 comes before all fields.
 pub read-long : (sig : Signature) (s : List ℕ) → groupBytes < length s → refused 1 ≡ readGroup sig s
@@ -58,7 +60,8 @@ no-part (f ▸ fs) e = go (follows (groupGrammar .places) start (f .letter)) e
     go true e = let z : _≡_ {A = ℕ} 0 1 = cc in absurd (omega arith)
     go false e = refl
 
-pub read-empty : (sig : Signature) {s : List ℕ} {end : ℕ} {whole : Bool} → Parted s (groupPart s) end whole → length s ≤ groupBytes → end ≡ 0 → refused 2 ≡ readGroup sig s
+pub read-empty : (sig : Signature) {s : List ℕ} {end : ℕ} {whole : Bool} → Parted s (groupPart s) end whole → length s ≤ groupBytes → end ≡ 0
+    → refused 2 ≡ readGroup sig s
 unfolding readGroup readPart groupPart groupFault faultAmong faultFrom withLetter keep blocks flatRulesFault
 read-empty sig {s} p short z =
     let e = run-end (p .run) (omega arith) in
@@ -132,7 +135,8 @@ module _ (sig : Signature) {s : List ℕ} {end : ℕ} {whole : Bool} (p : Parted
       → refused m ≡ readGroup sig s
   read-title t = drawn (faults it sig ∙ rw (t end (it .head) (it .tail) (it .run) .is))
 
-  module _ {c₁ next₁ : ℕ} (t : (end : ℕ) (f : Field) (fs : List Field) → Run s 0 end (f ∷ fs) → First (checked.Upto c₁ next₁) s 0 end (titleFault 0 none f) f fs) where
+  module _ {c₁ next₁ : ℕ}
+      (t : (end : ℕ) (f : Field) (fs : List Field) → Run s 0 end (f ∷ fs) → First (checked.Upto c₁ next₁) s 0 end (titleFault 0 none f) f fs) where
     title-sound : titleFault 0 none (it .head) ≡ none
     title-sound = t end (it .head) (it .tail) (it .run) .is .0
 
@@ -144,7 +148,8 @@ module _ (sig : Signature) {s : List ℕ} {end : ℕ} {whole : Bool} (p : Parted
         → refused m ≡ readGroup sig s
     read-variables v = drawn (faults it sig ∙ rw (title-sound, v (it .tail) tail-run .section .is))
 
-    module _ {index₁ : List ℕ} {variables next₂ : ℕ} (v : (fs : List Field) → Run s next₁ end fs → Variable (checked.Upto variables next₂) sig s index₁ next₁ end fs) where
+    module _ {index₁ : List ℕ} {variables next₂ : ℕ}
+        (v : (fs : List Field) → Run s next₁ end fs → Variable (checked.Upto variables next₂) sig s index₁ next₁ end fs) where
       variables-sound : faultFrom (variableFault sig) 0 none (leading letterW (it .tail)) ≡ none
       variables-sound = v (it .tail) tail-run .section .is .0
 
@@ -155,11 +160,14 @@ module _ (sig : Signature) {s : List ℕ} {end : ℕ} {whole : Bool} (p : Parted
       rules-run = v (it .tail) tail-run .section .is .3
 
       -- A fault of a rule.
-      pub read-rules : {index : List ℕ} {m : ℕ} → ((fs : List Field) → Run s next₂ end fs → AtRule fs → AllRules (checked.Refused m) sig variables s index next₂ fs)
+      pub read-rules : {index : List ℕ} {m : ℕ}
+          → ((fs : List Field) → Run s next₂ end fs → AtRule fs → AllRules (checked.Refused m) sig variables s index next₂ fs)
           → refused m ≡ readGroup sig s
-      read-rules u = drawn (faults it sig ∙ rw (title-sound, variables-sound, variables-counted, u (trailing letterW (it .tail)) rules-run (rules-order it) .is))
+      read-rules u = drawn (faults it sig
+          ∙ rw (title-sound, variables-sound, variables-counted, u (trailing letterW (it .tail)) rules-run (rules-order it) .is))
 
-      module _ {index₂ : List ℕ} {rules next₃ : ℕ} (u : (fs : List Field) → Run s next₂ end fs → AtRule fs → AllRules (checked.Upto rules next₃) sig variables s index₂ next₂ fs) where
+      module _ {index₂ : List ℕ} {rules next₃ : ℕ}
+          (u : (fs : List Field) → Run s next₂ end fs → AtRule fs → AllRules (checked.Upto rules next₃) sig variables s index₂ next₂ fs) where
         rules-sound : flatRulesFault sig variables 0 (blocks letterU (trailing letterW (it .tail))) ≡ none
         rules-sound = u (trailing letterW (it .tail)) rules-run (rules-order it) .is .0
 
@@ -193,7 +201,8 @@ module _ (sig : Signature) {s : List ℕ} {end : ℕ} {whole : Bool} (p : Parted
               variable = record {
                 few = l .few;
                 each = λ i h. let f = l .few in rw (k .same (variablesFrom + i) (omega arith)) (l .each i h);
-                held = held-same s index₂ index₁ variablesFrom variables (λ i a b. let f = l .few in k .same i (omega arith)) ∙ l .held ∙ sym (variables-are it);
+                held = held-same s index₂ index₁ variablesFrom variables (λ i a b. let f = l .few in k .same i (omega arith)) ∙ l .held
+                    ∙ sym (variables-are it);
               };
               typed = λ i h. let f = l .few in rw (k .same (variablesFrom + i) (omega arith)) (typed i h (l .held));
               rule = rw (rules-are it) (u (trailing letterW (it .tail)) rules-run (rules-order it) .is .1);

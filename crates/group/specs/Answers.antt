@@ -27,7 +27,7 @@ use Rattle.group.specs.declared.reader.Here.the-variants as here
 use Rattle.group.specs.declared.reader.Reading.{Reading}
 use Rattle.group.specs.declared.reader.Reading.the-variants as reading
 
--- A group read: refused with document 01's number, or accepted with what its fields say.
+-- A group read: refused with document 01's number, or accepted with what its fields say. `Usable` ties the two counts to them.
 abbrev pub groupReading : List ℕ → Reading → Outcome Group
 groupReading s (reading.Refused n) = refused n
 groupReading s (reading.Sound variables rules) = accepted (groupOf (groupPart s .fields))
@@ -130,6 +130,7 @@ RulesAs (checked.Upto count next) sig variables s index from fs = (flatRulesFaul
 pub record AllRules (r : Checked) (sig : Signature) (variables : ℕ) (s index : List ℕ) (from : ℕ) (fs : List Field) : Type 0 where
   pub is : RulesAs r sig variables s index from fs
 
--- The entries of the variables are as they were.
+-- The index has as many entries as it had, and those of the variables are as they were.
 pub record Kept (index₀ index : List ℕ) : Type 0 where
+  pub long : length index ≡ length index₀
   pub same : (i : ℕ) → i < rulesFrom → getD index i 0 ≡ getD index₀ i 0

@@ -3,3 +3,4 @@ pub mod Sections
 pub mod Index
 pub mod Answers
 pub mod Lookups
+pub mod Written

@@ -12,6 +12,19 @@ pub const LETTER_B: u8 = b'B';
 
 pub const LETTER_H: u8 = b'H';
 
+// How many bytes of a field stand before its content: the letter, two of the length.
+pub const FIELD_HEAD: usize = 3;
+
+// How many bytes of a W field's content stand before the name, two of the type, and how many of the field.
+pub const NAME_AT: usize = 2;
+
+pub const BEFORE_NAME: usize = FIELD_HEAD + NAME_AT;
+
+// How many bytes of a B or H field's content stand before the variables, the kind and two of the symbol, and how many of the field.
+pub const VARS_AT: usize = 3;
+
+pub const BEFORE_VARS: usize = FIELD_HEAD + VARS_AT;
+
 // The limits of the record: bytes, W fields, U fields, bytes of a name.
 pub const GROUP_BYTES: usize = 65535;
 

@@ -1,18 +1,23 @@
 // What an accepted group says: its variables, where its rules stand, and its statements.
 ghost use mathlib.Core.Path.{_≡_};
-ghost use Prim.Native.Nat.{ℕ, _+_, _*_, _%_, _≤_, _<_};
-ghost use lib.ListN.{length, getD};
+ghost use Prim.Native.Nat.{_*_, _<_};
+ghost use lib.ListN.{getD};
 ghost use Rattle.definition.specs.Letters.{letterU};
 ghost use Rattle.definition.specs.Records.{numbers, blocks};
-ghost use Rattle.definition.specs.Group.{statementOf, groupPart};
+ghost use Rattle.definition.specs.Group.{groupPart};
 ghost use Rattle.definition.specs.Scope.{variableNumbered, sameVariable, sameVariables};
-ghost use Rattle.records.specs.Places.{stretch, fieldOf};
+ghost use Rattle.records.specs.Places.{stretch};
 ghost use Rattle.group.specs.Index.{conclusionsAt, noBlock, Rules};
-ghost use Rattle.group.specs.Lookups.{table, Listed, NameAt, SectionsAt, Says, VariablesAt};
+ghost use Rattle.group.specs.Lookups.{table, Listed, NameAt, SectionsAt, StatementAt, Reads, VariablesAt};
+use crate::ids::BEFORE_NAME;
+use crate::ids::BEFORE_VARS;
 use crate::ids::CONCLUSIONS_FROM;
+use crate::ids::FIELD_HEAD;
 use crate::ids::GROUP_INDEX;
+use crate::ids::NAME_AT;
 use crate::ids::RULES_FROM;
 use crate::ids::VARIABLES_FROM;
+use crate::ids::VARS_AT;
 use crate::ids::VarId;
 use records::fields::num;
 use records::fields::place;
@@ -33,12 +38,14 @@ pub struct Sections {
     pub end: usize,
 }
 
-// A statement: its kind and symbol, how many variables it has, and where they stand, two bytes each.
-pub struct Statement {
+// A B or H field: its kind and symbol, how many variables it has, where their numbers start, two bytes each, and where the next
+// field does. The variables stay where they stand: scope compares the first few of them, and an array would be filled for each field.
+pub struct StatementField {
     pub kind: u8,
     pub symbol: u16,
     pub count: usize,
-    pub at: usize,
+    pub start: usize,
+    pub next: usize,
 }
 
 // The type of a variable.
@@ -48,7 +55,7 @@ pub fn variable_type(s: &[u8], index: &[u16; GROUP_INDEX], variables: usize, v: 
     ensures { λ r. ⌜ r .0 ≡ variableNumbered (table (now (s .entry))) (v .0) .type ⌝ }
 {
     let at = place(index[VARIABLES_FROM + place(v.0)]);
-    TypeId(num(s, at + 3))
+    TypeId(num(s, at + FIELD_HEAD))
 }
 
 // Where the name of a variable stands.
@@ -59,8 +66,8 @@ pub fn variable_name(s: &[u8], index: &[u16; GROUP_INDEX], variables: usize, v: 
 {
     let at = place(index[VARIABLES_FROM + place(v.0)]);
     Name {
-        start: at + 5,
-        len: two(s, at + 1) - 2,
+        start: at + BEFORE_NAME,
+        len: two(s, at + 1) - NAME_AT,
     }
 }
 
@@ -90,32 +97,34 @@ pub fn same_variable(
 pub fn rule_sections(s: &[u8], index: &[u16; GROUP_INDEX], rules: usize, k: usize) -> Sections
     requires { ⌜ Rules (now s) (now index) rules (blocks letterU (groupPart (now s) .fields)) ⌝ }
     requires { ⌜ k < rules ⌝ }
-    ensures { λ r. ⌜ SectionsAt (now (s .entry)) (r .premises) (r .conclusions) (r .end) (getD (blocks letterU (groupPart (now (s .entry)) .fields)) k noBlock) ⌝ }
+    ensures { λ r. ⌜ SectionsAt (now (s .entry)) (r .premises) (r .conclusions) (r .end)
+        (getD (blocks letterU (groupPart (now (s .entry)) .fields)) k noBlock) ⌝ }
     ensures { λ r. ⌜ r .conclusions ≡ conclusionsAt (now (index .entry)) k ⌝ }
 {
     let at = place(index[RULES_FROM + k]);
     Sections {
-        premises: at + 3 + two(s, at + 1),
+        premises: at + FIELD_HEAD + two(s, at + 1),
         conclusions: place(index[CONCLUSIONS_FROM + k]),
         end: place(index[RULES_FROM + k + 1]),
     }
 }
 
-// The statement of a B or H field, by the content of the field.
-pub fn read_statement(s: &[u8], start: usize, len: usize) -> Statement
-    requires { ⌜ (start + len ≤ length (now s)) × (3 ≤ len) × (len % 2 ≡ 1) ⌝ }
-    ensures { λ r. ⌜ ((letter : ℕ) → Says (now (s .entry)) r (statementOf (fieldOf (now (s .entry)) letter start len))) ⌝ }
-    ensures { λ r. ⌜ r .at ≡ start + 3 ⌝ }
+// The B or H field at a position.
+pub fn read_statement(s: &[u8], at: usize) -> StatementField
+    requires { ⌜ StatementAt (now s) at ⌝ }
+    ensures { λ r. ⌜ Reads (now (s .entry)) at r ⌝ }
 {
-    Statement {
-        kind: s[start],
-        symbol: num(s, start + 1),
-        count: (len - 3) / 2,
-        at: start + 3,
+    let len = two(s, at + 1);
+    StatementField {
+        kind: s[at + FIELD_HEAD],
+        symbol: num(s, at + FIELD_HEAD + 1),
+        count: (len - VARS_AT) / 2,
+        start: at + BEFORE_VARS,
+        next: at + FIELD_HEAD + len,
     }
 }
 
-// Are the first variables at two positions the same, so many of each?
+// Are the variables at two positions the same, so many of each?
 pub fn same_variables(
     s: &[u8],
     index: &[u16; GROUP_INDEX],
@@ -127,7 +136,8 @@ pub fn same_variables(
     requires { ⌜ Listed (now s) (now index) variables ⌝ }
     requires { ⌜ VariablesAt (now s) variables a count ⌝ }
     requires { ⌜ VariablesAt (now s) variables b count ⌝ }
-    ensures { λ r. ⌜ r ≡ sameVariables (table (now (s .entry))) (numbers (stretch (now (s .entry)) a (2 * count))) (numbers (stretch (now (s .entry)) b (2 * count))) ⌝ }
+    ensures { λ r. ⌜ r ≡ sameVariables (table (now (s .entry)))
+        (numbers (stretch (now (s .entry)) a (2 * count))) (numbers (stretch (now (s .entry)) b (2 * count))) ⌝ }
 {
     let mut i: usize = 0;
     while i < count {

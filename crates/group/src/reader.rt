@@ -13,7 +13,8 @@ ghost use Rattle.records.specs.Places.{Run, Parted};
 ghost use Rattle.signature.specs.Index.{signatureAt, Indexed};
 ghost use Rattle.group.specs.Sections.{AtRule, kindsOf};
 ghost use Rattle.group.specs.Index.{indexSize};
-ghost use Rattle.group.specs.Answers.{groupReading, Usable, numberOf, ruleNumberOf, HereAt, Onward, RuleOnward, First, Section, Variable, Rule, AllRules, Kept};
+ghost use Rattle.group.specs.Answers.{groupReading, Usable, numberOf, ruleNumberOf, HereAt, Onward, RuleOnward, First, Section, Variable, Rule,
+    AllRules, Kept};
 use crate::faults::rule_fault;
 use crate::faults::statement_fault;
 use crate::faults::title_fault;
@@ -335,7 +336,8 @@ fn number(c: Checked) -> u8
     }
 }
 
-// The group's answer; where it is accepted, the index holds the positions of its fields. The bytes are only read.
+// The group's answer; where it is accepted, the index holds the positions of its fields.
+// Where it is refused, the entries of the index are left free: any may have been written, and only their number holds.
 // The index has the entries that its type says; a proof cannot tell that of a lent array, so the lender does.
 pub fn read_group(
     sig: &[u8],
@@ -349,6 +351,7 @@ pub fn read_group(
     ensures { λ r. ⌜ groupReading (now (s .entry)) r
         ≡ readGroup (signatureAt (now (sig .entry)) (now (symbols .entry)) counts) (now (s .entry)) ⌝ }
     ensures { λ r. ⌜ Usable (signatureAt (now (sig .entry)) (now (symbols .entry)) counts) (now (s .entry)) (now (index .exit)) r ⌝ }
+    ensures { λ r. ⌜ length (now (index .exit)) ≡ length (now (index .entry)) ⌝ }
 {
     if GROUP_BYTES < s.len() {
         return Reading::Refused(1);

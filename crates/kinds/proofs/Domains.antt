@@ -5,14 +5,14 @@ use mathlib.Core.List.{List, [], _∷_}
 use mathlib.Core.Option.{some}
 use mathlib.Core.Path.{_≡_, refl, sym, _∙_, ap}
 use lib.ListN.{length, getD, take}
-use Rattle.definition.specs.Base.{keep, each, all, butLast, placeFrom, _∈_}
+use Rattle.definition.specs.Base.{keep, each, all, butLast, placeFrom, _∈_, given}
 use Rattle.definition.specs.Group.{Variable}
 use Rattle.definition.specs.Kinds.{newElements, yieldingRow, domainStatement}
 use Rattle.definition.specs.Letters.{function}
 use Rattle.definition.specs.Names.{numbersOf}
 use Rattle.definition.specs.Records.{Field}
 use Rattle.definition.specs.Rule.{NonSurjThen, rowOf}
-use Rattle.definition.specs.Rows.{members, lastElement, typeSets, given, inImage}
+use Rattle.definition.specs.Rows.{members, lastElement, typeSets, inImage}
 use Rattle.definition.specs.Signature.{Signature}
 use Rattle.laws.proofs.Lists.{each-mem, mem-at}
 use Rattle.records.specs.Places.{Run}
@@ -20,21 +20,20 @@ use Rattle.laws.proofs.RowLaws.{but-last-mem}
 use Rattle.records.proofs.Runs.{run-same}
 use Rattle.rule.specs.Elements.{countAt, elementAt, elementNumbers}
 use Rattle.rule.proofs.Finding.{numbers-get}
-use Rattle.rule.specs.MapFields.{pairsIn}
-use Rattle.rule.specs.declared.maps.Map.{Map}
+use Rattle.rows.specs.Morphisms.{targetIn, pairsBy}
+use Rattle.rows.specs.declared.morphism.Morphism.{Morphism}
 use Rattle.flags.specs.Flags.{places, noFlags, onlyFlag}
 use Rattle.flags.proofs.Words.{no-flag, no-flags-none, one-some}
 use Rattle.naming.specs.Variables.{keptIn}
 use Rattle.naming.proofs.Placed.{numbers-are}
 use Rattle.statements.specs.Said.{flagged, memberFlag, saidBy, domainsBy}
-use Rattle.statements.specs.Structures.{sideIn}
 use Rattle.rule.specs.Structures.{structureIn, SoundAt}
 use Rattle.rule.specs.Rows.{rowFrom}
 use Rattle.laws.specs.Steps.{rowFault, newFault, stepFault, rowFor, own, conclusions}
 use Rattle.rule.specs.Lists.{elsIn}
 use Rattle.rule.specs.declared.rows.Row.{Row}
 use Rattle.kinds.specs.Elements.{Two, News}
-use Rattle.kinds.specs.Steps.{NonSurjDoes}
+use Rattle.kinds.specs.Steps.{to, NonSurjDoes}
 use Rattle.kinds.specs.Yielding.{ResultRows, noRow, Yields}
 use Rattle.kinds.specs.declared.step.Step.the-variants.{Adds, Refused}
 use Rattle.kinds.specs.declared.elements.New.{New}
@@ -64,8 +63,10 @@ module _ {sig : Signature} {s index : List ℕ} {k : ℕ} (w : SoundAt sig s ind
   number-is {i} l e = e ∙ rw (numbers-are (w .laid)) (sym (numbers-get (w .laid .elements .elements) i l))
 
   -- The flags of the images, by the places of the elements.
-  pub images-flagged : (p : ℕ → Bool) (images : List Bool) (row : List ℕ) (first : ℕ) {count : ℕ} → count ≡ countAt index k → take count images ≡ each given (keptIn first count row)
-      → each given (keptIn first (countAt index k) row) ≡ each p (numbersOf (structureIn s k)) → take (countAt index k) images ≡ each p (elementNumbers s index k)
+  pub images-flagged : (p : ℕ → Bool) (images : List Bool) (row : List ℕ) (first : ℕ) {count : ℕ} → count ≡ countAt index k
+      → take count images ≡ each given (keptIn first count row)
+      → each given (keptIn first (countAt index k) row) ≡ each p (numbersOf (structureIn s k))
+          → take (countAt index k) images ≡ each p (elementNumbers s index k)
   images-flagged p images row first e f h = (rw e at f) ∙ h ∙ rw (numbers-are (w .laid))
 
 -- The arguments of the row that was found are elements.
@@ -84,21 +85,21 @@ unfolding keep
 no-members p [] h = refl
 no-members p (x ∷ xs) h = rw (h x, no-members p xs h)
 
-module _ (sig : Signature) (table : List Variable) (s : List ℕ) (src tgt : ℕ) (m : Map) (source target : List ℕ) where
+module _ (sig : Signature) (table : List Variable) (s : List ℕ) (m : Morphism) (sourcevars targetvars : List ℕ) where
   abbrev fresh : List ℕ
-  fresh = newElements sig table (sideIn s src source) (sideIn s tgt target) (pairsIn s m)
+  fresh = newElements (to s m targetvars) (pairsBy s m)
 
-  no-flags : keep (memberFlag (structureIn s tgt) noFlags) (members (structureIn s tgt)) ≡ []
+  no-flags : keep (memberFlag (targetIn s m) noFlags) (members (targetIn s m)) ≡ []
   unfolding memberFlag
-  no-flags = no-members (memberFlag (structureIn s tgt) noFlags) (members (structureIn s tgt)) (λ r. no-flag (placeFrom 0 (lastElement r) (numbersOf (structureIn s tgt))))
+  no-flags = no-members (memberFlag (targetIn s m) noFlags) (members (targetIn s m)) (λ r. no-flag (placeFrom 0 (lastElement r) (numbersOf (targetIn s m))))
 
   -- By what the search for new elements told.
-  module _ {n : New} (w : News n (inImage (pairsIn s m)) (numbersOf (structureIn s tgt))) where
+  module _ {n : New} (w : News n (inImage (pairsBy s m)) (numbersOf (targetIn s m))) where
     none-new : n ≡ new.Nothing → fresh ≡ []
     unfolding newElements
     none-new e = let v = rw e at w in v .is
 
-    pub one-new : {i : ℕ} → n ≡ new.One i → fresh ≡ getD (numbersOf (structureIn s tgt)) i 0 ∷ []
+    pub one-new : {i : ℕ} → n ≡ new.One i → fresh ≡ getD (numbersOf (targetIn s m)) i 0 ∷ []
     unfolding newElements
     one-new e = let v = rw e at w in v .is .1
 
@@ -107,42 +108,43 @@ module _ (sig : Signature) (table : List Variable) (s : List ℕ) (src tgt : ℕ
     two-new e = let v = rw e at w in v .is
 
     pub nothing-new : n ≡ new.Nothing
-        → NonSurjDoes sig table s src tgt m source target (Adds (record { preds = noFlags; funcs = noFlags; members = noFlags; free = noFlags }))
+        → NonSurjDoes sig table s m sourcevars targetvars (Adds (record { preds = noFlags; funcs = noFlags; members = noFlags; free = noFlags }))
     unfolding stepFault newFault own conclusions rowFor saidBy typeSets keep each
     nothing-new q =
         let e = none-new q in
-        record { is = (rw e, (rw (e, none-flagged (structureIn s tgt .predRows), none-flagged (structureIn s tgt .funcRows), none-flagged (structureIn s tgt .elements), no-flags), rw (e, no-flags-none))) }
+        record { is = (rw e, (rw (e, none-flagged (targetIn s m .predRows), none-flagged (targetIn s m .funcRows), none-flagged (targetIn s m
+            .elements), no-flags), rw (e, no-flags-none))) }
 
-    pub more-new : n ≡ new.More → NonSurjDoes sig table s src tgt m source target (Refused 28)
+    pub more-new : n ≡ new.More → NonSurjDoes sig table s m sourcevars targetvars (Refused 28)
     unfolding stepFault newFault
     more-new q = record { is = rw (two-new q .same) }
 
-  module _ {e : ℕ} (one : fresh ≡ e ∷ []) {y : Yielding} (q : Yields y s function e (structureIn s tgt .funcRows)) where
-    pub no-row : y ≡ yielding.Nothing → NonSurjDoes sig table s src tgt m source target (Refused 29)
+  module _ {e : ℕ} (one : fresh ≡ e ∷ []) {y : Yielding} (q : Yields y s function e (targetIn s m .funcRows)) where
+    pub no-row : y ≡ yielding.Nothing → NonSurjDoes sig table s m sourcevars targetvars (Refused 29)
     unfolding stepFault newFault rowFault yieldingRow
     no-row f = let v = rw f at q in record { is = rw (one, v .is) }
 
     module _ {place : ℕ} {row : Row} (f : y ≡ yielding.At place row) (few : place < places) {arguments : List ℕ}
-        (a : arguments ≡ butLast (elsIn s (row .els))) {r : Bool} (t : r ≡ all (inImage (pairsIn s m)) (arguments)) where
-      inside : all (inImage (pairsIn s m)) (butLast (elsIn s (row .els))) ≡ r
-      inside = sym (t ∙ ap (all (inImage (pairsIn s m))) a)
+        (a : arguments ≡ butLast (elsIn s (row .els))) {r : Bool} (t : r ≡ all (inImage (pairsBy s m)) (arguments)) where
+      inside : all (inImage (pairsBy s m)) (butLast (elsIn s (row .els))) ≡ r
+      inside = sym (t ∙ ap (all (inImage (pairsBy s m))) a)
 
-      pub outside : r ≡ false → NonSurjDoes sig table s src tgt m source target (Refused 30)
+      pub outside : r ≡ false → NonSurjDoes sig table s m sourcevars targetvars (Refused 30)
       unfolding stepFault newFault rowFault yieldingRow
       outside b = let v = rw f at q in record { is = rw (one, v .is .2, inside, b) }
 
       pub yielded : r ≡ true
-          → NonSurjDoes sig table s src tgt m source target (Adds (record { preds = noFlags; funcs = onlyFlag place; members = noFlags; free = noFlags }))
+          → NonSurjDoes sig table s m sourcevars targetvars (Adds (record { preds = noFlags; funcs = onlyFlag place; members = noFlags; free = noFlags }))
       unfolding stepFault newFault rowFault own conclusions rowFor yieldingRow domainStatement saidBy domainsBy typeSets keep each
       yielded b =
           let v = rw f at q in
-          let only : flagged (onlyFlag place) (structureIn s tgt .funcRows) ≡ rowFrom s function row ∷ [] =
-              one-flagged noRow place few (structureIn s tgt .funcRows) (v .is .0) ∙ rw (v .is .1) in
+          let only : flagged (onlyFlag place) (targetIn s m .funcRows) ≡ rowFrom s function row ∷ [] =
+              one-flagged noRow place few (targetIn s m .funcRows) (v .is .0) ∙ rw (v .is .1) in
           record {
             is = (
               rw (one, v .is .2, inside, b),
               (
-                rw (one, v .is .2, none-flagged (structureIn s tgt .predRows), only, none-flagged (structureIn s tgt .elements), no-flags),
+                rw (one, v .is .2, none-flagged (targetIn s m .predRows), only, none-flagged (targetIn s m .elements), no-flags),
                 rw (one, v .is .2, one-some place few, only),
               ),
             );

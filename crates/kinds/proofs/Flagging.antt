@@ -1,6 +1,6 @@
 -- Member rows by the flags of their elements.
 use Prim.Native.Nat.{ℕ, _<_}
-use mathlib.Core.Bool.{Bool, true, false, not, _&&_}
+use mathlib.Core.Bool.{Bool, true, false, not, _&&_, and-true}
 use mathlib.Core.List.{List}
 use mathlib.Core.Path.{_≡_, sym, _∙_, ap}
 use lib.ListN.{getD, take}
@@ -17,7 +17,7 @@ use Rattle.rows.specs.Members.{newMember}
 use Rattle.rows.specs.Table.{isNew}
 use Rattle.rule.proofs.ElementLaws.{noElement, element-is}
 use Rattle.rows.proofs.Kept.{constrained-at}
-use Rattle.records.proofs.Parts.{and-one, mem-place}
+use Rattle.records.proofs.Parts.{mem-place}
 use Rattle.rows.proofs.Whole.{keep-same, keep-keep}
 use Rattle.flags.specs.declared.Mask.{Mask}
 use Rattle.flags.specs.Flags.{flagAt}
@@ -35,15 +35,18 @@ module _ {s index : List ℕ} {k : ℕ} (w : Laid s index k) where
       rw (numbers-are w) (sym (f .is .0))
 
   -- Flags that agree with a test of the member rows keep what it keeps.
-  member-flags : (mask : Mask) (test : Row → Bool) → ((i : ℕ) → i < countAt index k → hasParents (elementIn s index k i) ≡ true → flagAt mask i ≡ test (memberRow (elementIn s index k i)))
+  member-flags : (mask : Mask) (test : Row → Bool)
+      → ((i : ℕ) → i < countAt index k → hasParents (elementIn s index k i) ≡ true → flagAt mask i ≡ test (memberRow (elementIn s index k i)))
       → keep (memberFlag (structureIn s k) mask) (members (structureIn s k)) ≡ keep test (members (structureIn s k))
   unfolding memberFlag
   member-flags mask test h = keep-same (memberFlag (structureIn s k) mask) test (members (structureIn s k)) (λ r m. go r (members-mem (structureIn s k) m))
     where
-      at : (i : ℕ) → i < countAt index k → empty (elementIn s index k i .parents) ≡ false → memberFlag (structureIn s k) mask (memberRow (elementIn s index k i)) ≡ test (memberRow (elementIn s index k i))
+      at : (i : ℕ) → i < countAt index k → empty (elementIn s index k i .parents) ≡ false
+          → memberFlag (structureIn s k) mask (memberRow (elementIn s index k i)) ≡ test (memberRow (elementIn s index k i))
       at i l e = rw (member-last (elementIn s index k i), place-of i l) (h i l (rw e))
 
-      go : (r : Row) → (e : Element) × (e ∈ structureIn s k .elements) × (empty (e .parents) ≡ false) × (r ≡ memberRow e) → memberFlag (structureIn s k) mask r ≡ test r
+      go : (r : Row) → (e : Element) × (e ∈ structureIn s k .elements) × (empty (e .parents) ≡ false) × (r ≡ memberRow e)
+          → memberFlag (structureIn s k) mask r ≡ test r
       go r q =
           let p = mem-place (structureIn s k .elements) noElement (q .1) in
           let l : p .0 < countAt index k = rw (elements-are w) at (p .1) in
@@ -55,7 +58,8 @@ module _ {s index : List ℕ} {k : ℕ} (w : Laid s index k) where
     pub members-all : ((i : ℕ) → i < countAt index k → getD marks i false ≡ false)
         → keep (memberFlag (structureIn s k) mask) (members (structureIn s k)) ≡ keep (isNew pairs sources) (members (structureIn s k))
     unfolding newMember
-    members-all none = member-flags mask (isNew pairs sources) (λ i l h. u i l ∙ rw (none i l, h, and-one (isNew pairs sources (memberRow (elementIn s index k i)))))
+    members-all none = member-flags mask (isNew pairs sources)
+        (λ i l h. u i l ∙ rw (none i l, h, and-true (isNew pairs sources (memberRow (elementIn s index k i)))))
 
     -- with the constrained ones marked, those whose element is not.
     pub members-free : (sig : Signature) → take (countAt index k) marks ≡ each (constrained sig (structureIn s k)) (numbersOf (structureIn s k))

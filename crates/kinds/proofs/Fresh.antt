@@ -9,8 +9,7 @@ use mathlib.Core.Path.{_≡_, refl, sym, _∙_, ap}
 use borrow.Author.Tests.{lt-ltb, le-ltb}
 use lib.ListN.{length, getD, take, drop, take-append-drop}
 use lib.Seq.{getD-take, take-all}
-use Rattle.definition.specs.Base.{consIf, keep, each}
-use Rattle.definition.specs.Rows.{given}
+use Rattle.definition.specs.Base.{consIf, keep, each, given}
 use Rattle.laws.proofs.Lists.{length-each, getD-each}
 use Rattle.records.proofs.Lists.{keep-append}
 use Rattle.rows.proofs.Kept.{flag-at}
@@ -58,7 +57,8 @@ module _ {mask : Mask} {first : ℕ} {row : List ℕ} {marks : List Bool} {i : �
     pub free-new : not (getD marks i false) ≡ true → Freed (withFlag mask i) first row marks (i + 1)
     free-new e = record { flags = flags-set (w .flags) few (rw (le-ltb _ _ l, e)) }
 
-pub free-are : {row : List ℕ} {marks : List Bool} {first count : ℕ} {mask : Mask} → Freed mask first row marks count → (p q : ℕ → Bool) (els : List ℕ) → count ≡ length els
+pub free-are : {row : List ℕ} {marks : List Bool} {first count : ℕ} {mask : Mask} → Freed mask first row marks count → (p q : ℕ → Bool) (els : List ℕ)
+    → count ≡ length els
     → each given (keptIn first count row) ≡ each p els → take count marks ≡ each q els → FreeOf mask p q els
 free-are {row} {marks} {first} {count} {mask} w p q els n e f = record { at = at }
   where
@@ -99,7 +99,8 @@ module _ {p : ℕ → Bool} {els : List ℕ} {count found i : ℕ} (n : count �
   pub find-hit : i < count → p (getD els i 0) ≡ false → count ≤ found → Finding p els count i (i + 1)
   find-hit h e l = record { few = omega arith; is = inr (omega arith, go (w .is)) }
     where
-      go : ((found ≡ count) × (fresh p (take i els) ≡ [])) ⊎ ((found < i) × (fresh p (take i els) ≡ getD els found 0 ∷ [])) → fresh p (take (i + 1) els) ≡ getD els i 0 ∷ []
+      go : ((found ≡ count) × (fresh p (take i els) ≡ [])) ⊎ ((found < i) × (fresh p (take i els) ≡ getD els found 0 ∷ []))
+          → fresh p (take (i + 1) els) ≡ getD els i 0 ∷ []
       go (inl a) = one-more h ∙ rw (e, a .1)
       go (inr a) = absurd (omega (arith, a .0))
 
@@ -110,7 +111,8 @@ module _ {p : ℕ → Bool} {els : List ℕ} {count found i : ℕ} (n : count �
       go (inl a) = absurd (omega (arith, a .0))
       go (inr a) =
           let b : fresh p (take (i + 1) els) ≡ getD els found 0 ∷ getD els i 0 ∷ [] = one-more h ∙ rw (e, a .1) in
-          let c : fresh p (take (i + 1) els ++ drop (i + 1) els) ≡ fresh p (take (i + 1) els) ++ fresh p (drop (i + 1) els) = keep-append (λ (x : ℕ). not (p x)) (take (i + 1) els) (drop (i + 1) els) in
+          let c : fresh p (take (i + 1) els ++ drop (i + 1) els) ≡ fresh p (take (i + 1) els) ++ fresh p (drop (i + 1) els) =
+              keep-append (λ (x : ℕ). not (p x)) (take (i + 1) els) (drop (i + 1) els) in
           let d : take (i + 1) els ++ drop (i + 1) els ≡ els = take-append-drop (i + 1) els in
           record { one = getD els found 0; other = getD els i 0; rest = fresh p (drop (i + 1) els); same = ap (fresh p) (sym d) ∙ c ∙ rw b }
 
@@ -120,7 +122,8 @@ module _ {p : ℕ → Bool} {els : List ℕ} {count found i : ℕ} (n : count �
   pub find-one : count ≤ i → found < count → News (new.One found) p els
   find-one h l = record { is = go (w .is) }
     where
-      go : ((found ≡ count) × (fresh p (take i els) ≡ [])) ⊎ ((found < i) × (fresh p (take i els) ≡ getD els found 0 ∷ [])) → (found < length els) × (fresh p els ≡ getD els found 0 ∷ [])
+      go : ((found ≡ count) × (fresh p (take i els) ≡ [])) ⊎ ((found < i) × (fresh p (take i els) ≡ getD els found 0 ∷ []))
+          → (found < length els) × (fresh p els ≡ getD els found 0 ∷ [])
       go (inl a) = absurd (omega (arith, a .0))
       go (inr a) = (omega arith, rw (whole h) at (a .1))
 

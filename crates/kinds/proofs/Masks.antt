@@ -19,7 +19,8 @@ module _ {A : Type 0} (mask : Mask) (f : A → Bool) where
   flagged-from i [] h = refl
   flagged-from i (x ∷ xs) h =
       let a : flagAt mask i ≡ f x = rw (add-zero i) at (h 0 (omega arith)) in
-      let b : flaggedFrom mask (i + 1) xs ≡ keep f xs = flagged-from (i + 1) xs (λ j l. let e : i + 1 + j ≡ i + suc j = omega arith in rw e (h (suc j) (omega arith))) in
+      let b : flaggedFrom mask (i + 1) xs ≡ keep f xs =
+          flagged-from (i + 1) xs (λ j l. let e : i + 1 + j ≡ i + suc j = omega arith in rw e (h (suc j) (omega arith))) in
       rw (a, b)
 
   -- Flags that agree with a test flag what it keeps.
@@ -50,7 +51,8 @@ module _ {A : Type 0} (d : A) (i : ℕ) (few : i < places) where
   one-from k [] l h = absurd (omega arith)
   one-from k (x ∷ xs) l h = go (ℕ-discrete k i) (λ q. one-from (k + 1) xs q (omega arith))
     where
-      go : Dec (k ≡ i) → (k + 1 ≤ i → flaggedFrom (onlyFlag i) (k + 1) xs ≡ getD xs (i - (k + 1)) d ∷ []) → consIf (flagAt (onlyFlag i) k) x (flaggedFrom (onlyFlag i) (k + 1) xs) ≡ getD (x ∷ xs) (i - k) d ∷ []
+      go : Dec (k ≡ i) → (k + 1 ≤ i → flaggedFrom (onlyFlag i) (k + 1) xs ≡ getD xs (i - (k + 1)) d ∷ [])
+          → consIf (flagAt (onlyFlag i) k) x (flaggedFrom (onlyFlag i) (k + 1) xs) ≡ getD (x ∷ xs) (i - k) d ∷ []
       go (yes q) r = let z : i - k ≡ 0 = omega arith in let f : flagAt (onlyFlag i) k ≡ true = rw q (one-flag i few) in
           rw (f, behind (k + 1) (omega arith) xs, z)
       go (no q) r = let z : i - k ≡ suc (i - (k + 1)) = omega arith in rw (other-flag i few k (λ e. q (sym e)), r (omega arith), z)

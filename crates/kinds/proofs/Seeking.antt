@@ -49,7 +49,8 @@ module _ {s : List ℕ} {end i : ℕ} {fs : List Field} {r : Row} (n : NextRow s
   seek-found d q = record { is = (rw length-each (n .inside), row-at n kind noRow, q ∙ rw (rows-on n kind, ← is, eq-eqb _ _ d)) }
 
 pub seek-end : {s : List ℕ} {end at i : ℕ} {fs : List Field} → Passed s end fs at i → end ≤ at → (kind e : ℕ)
-    → firstOf (yieldsOf e) (each (rowOf kind) fs) ≡ firstOf (yieldsOf e) (each (rowOf kind) (drop i fs)) → Yields yielding.Nothing s kind e (each (rowOf kind) fs)
+    → firstOf (yieldsOf e) (each (rowOf kind) fs) ≡ firstOf (yieldsOf e) (each (rowOf kind) (drop i fs))
+        → Yields yielding.Nothing s kind e (each (rowOf kind) fs)
 unfolding each firstOf
 seek-end p h kind e q = record { is = q ∙ rw (run-end (p .run) h) }
 

@@ -1,15 +1,15 @@
 // The rows and members of a map's target that are no images of the source's: a flag for each, or that a row of the source has an
 // element without an image.
 ghost use mathlib.Core.List.{List};
-ghost use Prim.Native.Nat.{ℕ, _≤_, _<_};
+ghost use Prim.Native.Nat.{ℕ, _≤_};
 ghost use Rattle.definition.specs.Base.{each};
-ghost use Rattle.definition.specs.Limits.{structureLimit};
 ghost use Rattle.definition.specs.Records as definition;
 ghost use Rattle.definition.specs.Rule.{rowOf};
 ghost use Rattle.records.specs.Places.{Run};
 ghost use Rattle.rule.specs.MapFields.{pairsIn, MapIn};
 ghost use Rattle.rule.specs.Rows.{RowsFrom, Alike};
-ghost use Rattle.kinds.specs.Added.{Between, SectionRun, SectionRows, NewRows, NewMembers, AddsRows};
+ghost use Rattle.rows.specs.Morphisms.{pairsBy, Between};
+ghost use Rattle.kinds.specs.Added.{SectionRun, SectionRows, NewRows, NewMembers, AddsRows};
 ghost use Rattle.rule.specs.Layout.{placeE, placeI};
 use crate::step::Step;
 use flags::Mask;
@@ -19,6 +19,7 @@ use flags::packed_less;
 use rows::members::has_members;
 use rows::members::mapped_members;
 use rows::members::new_members;
+use rows::morphism::Morphism;
 use rows::table::Images;
 use rows::table::ROWS;
 use rows::table::TABLE;
@@ -57,81 +58,59 @@ fn new_between(s: &[u8], from: usize, end: usize, m: Map, start: usize, stop: us
 }
 
 // Which R or A rows of the target are new. Small rules often have none on either side: then no tables are cleared for them.
-fn new_section(
-    s: &[u8],
-    index: &[u16; RULE_INDEX],
-    src: usize,
-    tgt: usize,
-    place: usize,
-    m: Map,
-) -> Flagged
-    requires { ⌜ (src < structureLimit) × (tgt < structureLimit) × ((placeE ≤ place) × (place ≤ placeI)) ⌝ }
-    requires { ⌜ MapIn (now s) m ⌝ }
-    requires { ⌜ SectionRows (now s) (now index) src place ⌝ }
-    requires { ⌜ SectionRows (now s) (now index) tgt place ⌝ }
+fn new_section(s: &[u8], index: &[u16; RULE_INDEX], m: Morphism, place: usize) -> Flagged
+    requires { ⌜ Between (now s) (now index) m × ((placeE ≤ place) × (place ≤ placeI)) ⌝ }
+    requires { ⌜ SectionRows (now s) (now index) (m .source) place ⌝ }
+    requires { ⌜ SectionRows (now s) (now index) (m .target) place ⌝ }
     ensures { λ r. ⌜ ((kind : ℕ) (columns : ℕ → ℕ) (fs gs : List definition.Field)
-        → SectionRun (now (s .entry)) (now (index .entry)) src place fs → SectionRun (now (s .entry)) (now (index .entry)) tgt place gs
+        → SectionRun (now (s .entry)) (now (index .entry)) (m .source) place fs → SectionRun (now (s .entry)) (now (index .entry)) (m .target) place gs
         → Alike kind columns (each (rowOf kind) fs) → Alike kind columns (each (rowOf kind) gs)
-        → NewRows r (pairsIn (now (s .entry)) m) (each (rowOf kind) fs) (each (rowOf kind) gs)) ⌝ }
+        → NewRows r (pairsBy (now (s .entry)) m) (each (rowOf kind) fs) (each (rowOf kind) gs)) ⌝ }
 {
-    let source = section_of(index, src, place);
-    let target = section_of(index, tgt, place);
-    if source.from == source.to {
-        if target.from == target.to {
+    let old = section_of(index, m.source, place);
+    let new = section_of(index, m.target, place);
+    if old.from == old.to {
+        if new.from == new.to {
             return Flagged::Of(NO_FLAGS);
         }
     }
-    new_between(s, source.from, source.to, m, target.from, target.to)
+    new_between(s, old.from, old.to, m.map, new.from, new.to)
 }
 
 // Which elements of the target have a new member row and no mark. Here too no tables are cleared where there are none on either side.
-fn new_unmarked(
-    s: &[u8],
-    index: &[u16; RULE_INDEX],
-    src: usize,
-    tgt: usize,
-    m: Map,
-    marks: [bool; PLACES],
-) -> Flagged
-    requires { ⌜ Between (now s) (now index) src tgt m ⌝ }
-    ensures { λ r. ⌜ NewMembers r (now (s .entry)) (now (index .entry)) src tgt m marks ⌝ }
+fn new_unmarked(s: &[u8], index: &[u16; RULE_INDEX], m: Morphism, marks: [bool; PLACES]) -> Flagged
+    requires { ⌜ Between (now s) (now index) m ⌝ }
+    ensures { λ r. ⌜ NewMembers r (now (s .entry)) (now (index .entry)) m marks ⌝ }
 {
-    if !has_members(s, index, src) {
-        if !has_members(s, index, tgt) {
+    if !has_members(s, index, m.source) {
+        if !has_members(s, index, m.target) {
             return Flagged::Of(NO_FLAGS);
         }
     }
     let mut symbols = [0u16; ROWS];
     let mut els = [0u16; TABLE];
-    let mapped = mapped_members(s, index, src, m, &mut symbols, &mut els);
+    let mapped = mapped_members(s, index, m.source, m.map, &mut symbols, &mut els);
     let Images::Count(images) = mapped else {
         return Flagged::Unmapped;
     };
-    let new = new_members(s, index, tgt, &symbols, &els, images);
-    Flagged::Of(packed_less(new, marks, element_count(index, tgt)))
+    let new = new_members(s, index, m.target, &symbols, &els, images);
+    Flagged::Of(packed_less(new, marks, element_count(index, m.target)))
 }
 
 // 26, else the flags of the new rows, with the members that have no mark.
-pub fn added_rows(
-    s: &[u8],
-    index: &[u16; RULE_INDEX],
-    src: usize,
-    tgt: usize,
-    m: Map,
-    marks: [bool; PLACES],
-) -> Step
-    requires { ⌜ Between (now s) (now index) src tgt m ⌝ }
-    ensures { λ r. ⌜ AddsRows r (now (s .entry)) (now (index .entry)) src tgt m marks ⌝ }
+pub fn added_rows(s: &[u8], index: &[u16; RULE_INDEX], m: Morphism, marks: [bool; PLACES]) -> Step
+    requires { ⌜ Between (now s) (now index) m ⌝ }
+    ensures { λ r. ⌜ AddsRows r (now (s .entry)) (now (index .entry)) m marks ⌝ }
 {
-    let p = new_section(s, index, src, tgt, PLACE_R, m);
+    let p = new_section(s, index, m, PLACE_R);
     let Flagged::Of(preds) = p else {
         return Step::Refused(26);
     };
-    let f = new_section(s, index, src, tgt, PLACE_A, m);
+    let f = new_section(s, index, m, PLACE_A);
     let Flagged::Of(funcs) = f else {
         return Step::Refused(26);
     };
-    let e = new_unmarked(s, index, src, tgt, m, marks);
+    let e = new_unmarked(s, index, m, marks);
     let Flagged::Of(members) = e else {
         return Step::Refused(26);
     };

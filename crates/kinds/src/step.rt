@@ -1,7 +1,7 @@
-// What a map of a kind leads to.
+// What walking one map comes to.
 use statements::masks::Masks;
 
-// What it adds, or a refusal.
+// The masks of what its target adds to its source's statements, or a refusal.
 pub enum Step {
     Adds(Masks),
     Refused(u8),

@@ -33,7 +33,8 @@ pub enum Yielding {
 // The first A row whose result is an element.
 pub fn yielding_row(s: &[u8], from: usize, end: usize, e: ElId) -> Yielding
     requires { ⌜ ResultRows (now s) from end ⌝ }
-    ensures { λ r. ⌜ ((kind : ℕ) (fs : List definition.Field) → Run (now (s .entry)) from end fs → Yields r (now (s .entry)) kind (e .0) (each (rowOf kind) fs)) ⌝ }
+    ensures { λ r. ⌜ ((kind : ℕ) (fs : List definition.Field) → Run (now (s .entry)) from end fs
+        → Yields r (now (s .entry)) kind (e .0) (each (rowOf kind) fs)) ⌝ }
     ensures { λ r. ⌜ RowBounds r (now (s .entry)) ⌝ }
 {
     let mut found = Yielding::Nothing;

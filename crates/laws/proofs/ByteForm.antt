@@ -31,7 +31,8 @@ record-cons f fs = refl
 
 pub statements-append : (letter : ℕ) (xs ys : List Statement) → statementBytes letter (xs ++ ys) ≡ statementBytes letter xs ++ statementBytes letter ys
 unfolding statementBytes
-statements-append letter xs ys = ap recordBytes (each-append (statementField letter) xs ys) ∙ record-append (each (statementField letter) xs) (each (statementField letter) ys)
+statements-append letter xs ys =
+    ap recordBytes (each-append (statementField letter) xs ys) ∙ record-append (each (statementField letter) xs) (each (statementField letter) ys)
 
 -- A rule: its name, its premise, its conclusion.
 pub rule-bytes : (r : FlatRule) → recordBytes (flatRuleFields r)
@@ -50,11 +51,13 @@ group-bytes g = in-front (each variableField (g .variables) ++ joined flatRuleFi
         (record-append (each variableField (g .variables)) (joined flatRuleFields (g .rules))
           ∙ ap (λ (l : List ℕ). recordBytes (each variableField (g .variables)) ++ l) (record-joined flatRuleFields (g .rules)))
   where
-    in-front : (fs : List Field) → recordBytes (record { letter = letterG; content = g .name } ∷ fs) ≡ fieldBytes (record { letter = letterG; content = g .name }) ++ recordBytes fs
+    in-front : (fs : List Field)
+        → recordBytes (record { letter = letterG; content = g .name } ∷ fs) ≡ fieldBytes (record { letter = letterG; content = g .name }) ++ recordBytes fs
     in-front fs = record-cons (record { letter = letterG; content = g .name }) fs
 
 -- Rules named one behind the other.
-pub named-append : (group : List ℕ) (count : ℕ) (xs ys : List Emitted) → namedRules group count (xs ++ ys) ≡ namedRules group count xs ++ namedRules group (count + length xs) ys
+pub named-append : (group : List ℕ) (count : ℕ) (xs ys : List Emitted)
+    → namedRules group count (xs ++ ys) ≡ namedRules group count xs ++ namedRules group (count + length xs) ys
 unfolding namedRules
 named-append group count [] ys = rw add-zero
 named-append group count (x ∷ xs) ys = let q : count + 1 + length xs ≡ count + length (x ∷ xs) = omega arith in rw (named-append group (count + 1) xs ys, q)

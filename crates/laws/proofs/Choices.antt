@@ -9,7 +9,7 @@ module _ {A : Type 0} where
   or-none none = refl
   or-none (some a) = refl
 
-  or-assoc : (a b c : Option A) → orElse (orElse a b) c ≡ orElse a (orElse b c)
+  pub or-assoc : (a b c : Option A) → orElse (orElse a b) c ≡ orElse a (orElse b c)
   or-assoc none b c = refl
   or-assoc (some a) b c = refl
 

@@ -14,7 +14,9 @@ among-in : (ks : List ℕ) {p : Pair} → p ∈ pairsAmong ks → (p .key ∈ ks
 unfolding pairsAmong
 among-in [] m = absurd (List·Memᴰ·not-nil m)
 among-in (k ∷ ks) {p} m = ⊎-elim
-    (λ a. let r = mem-each (λ (l : ℕ). record { key = k; image = l }) ks a in (List·Memᴰ·head (ap (λ (x : Pair). x .key) (r .2)), List·Memᴰ·tail (Memᴰ·cast (ap (λ (x : Pair). x .image) (r .2)) (r .1))))
+    (λ a.
+        let r = mem-each (λ (l : ℕ). record { key = k; image = l }) ks a in
+        (List·Memᴰ·head (ap (λ (x : Pair). x .key) (r .2)), List·Memᴰ·tail (Memᴰ·cast (ap (λ (x : Pair). x .image) (r .2)) (r .1))))
     (λ b. let r = among-in ks b in (List·Memᴰ·tail (r .0), List·Memᴰ·tail (r .1)))
     (List·Memᴰ·append-cases (each (λ (l : ℕ). record { key = k; image = l }) ks) m)
 

@@ -1,19 +1,23 @@
--- The walked kinds as a table: at each pair of structures one kind or none.
+-- The walked kinds as a table: at each pair of structures one kind or none. The definition keeps, pair by pair, the kinds of that pair
+-- out of a list (`walkedKinds`); a program asks a table for one. Both are the same because each pair stands once in that list (`Once`):
+-- K fields ascend, and an X adds only a pair that has no kind yet.
 use Prim.Native.Nat.{ℕ}
 use native.Mathlib.Omega.{arith}
 use mathlib.Core.Path.{_≡_, refl, ap, sym, _∙_}
 use mathlib.Core.Logic.{⊎-elim}
 use mathlib.Core.Bool.{Bool, true, false}
 use mathlib.Core.Option.{Option, none, some}
-use mathlib.Core.List.{List, [], _∷_, _++_, List·Memᴰ·head, List·Memᴰ·tail, List·Memᴰ·not-nil, List·Memᴰ·cases-cons, List·Memᴰ·append-cases, List·Memᴰ·eq-of-singleton}
+use mathlib.Core.List.{List, [], _∷_, _++_, List·Memᴰ·head, List·Memᴰ·tail, List·Memᴰ·not-nil, List·Memᴰ·cases-cons,
+    List·Memᴰ·append-cases, List·Memᴰ·eq-of-singleton}
 use lib.Dec.{eqb}
 use lib.ListN.{length}
 use borrow.Author.Tests.{eqb-true, eq-eqb}
-use Rattle.definition.specs.Base.{pick, orElse, consIf, keep, each, joined, any, firstOf, span, less, _∈_}
+use Rattle.definition.specs.Base.{pick, orElse, consIf, keep, joined, any, firstOf, span, less, _∈_}
 use Rattle.definition.specs.Rule.{Map, Kind, MorphismKind, Auxiliary, Rule}
 use Rattle.definition.specs.Walk.{ofPair, addPair, completed, walkedKinds}
-use Rattle.laws.proofs.Lists.{never, or-else-none, joined-same, bool-cases, and-left, and-right, and-true, or-left, or-right, any-true, any-false}
+use Rattle.laws.proofs.Lists.{never, or-else-none, joined-same, bool-cases, and-left, and-right, and-true, any-true, any-false}
 use Rattle.laws.proofs.Orders.{Ascending, less-not}
+use Rattle.laws.proofs.Choices.{or-none}
 use Rattle.laws.proofs.SoundOrder.{kindKey}
 use Rattle.laws.specs.KindTable.{kindOfPair, kindAt, kindsOf, Once}
 
@@ -49,22 +53,14 @@ unfolding firstOf
 first-append f [] ys = refl
 first-append f (x ∷ xs) ys = go (f x) (first-append f xs ys)
   where
-    go : (o : Option _) → firstOf f (xs ++ ys) ≡ orElse (firstOf f xs) (firstOf f ys) → orElse o (firstOf f (xs ++ ys)) ≡ orElse (orElse o (firstOf f xs)) (firstOf f ys)
+    go : (o : Option _) → firstOf f (xs ++ ys) ≡ orElse (firstOf f xs) (firstOf f ys)
+        → orElse o (firstOf f (xs ++ ys)) ≡ orElse (orElse o (firstOf f xs)) (firstOf f ys)
     go none e = e
     go (some b) e = refl
-
-none-at : (s t : ℕ) (ks : List Kind) → any (ofPair s t) ks ≡ false → kindAt ks s t ≡ none
-unfolding kindAt firstOf any
-none-at s t [] h = refl
-none-at s t (k ∷ ks) h = rw (or-left (ofPair s t k) _ h) (none-at s t ks (or-right (ofPair s t k) _ h))
 
 behind : (ks : List Kind) (k : Kind) (s t : ℕ) → kindAt (ks ++ (k ∷ [])) s t ≡ orElse (kindAt ks s t) (kindOfPair s t k)
 unfolding kindAt firstOf
 behind ks k s t = first-append (kindOfPair s t) ks (k ∷ []) ∙ ap (orElse (firstOf (kindOfPair s t) ks)) (or-none (kindOfPair s t k))
-  where
-    or-none : (o : Option MorphismKind) → orElse o none ≡ o
-    or-none none = refl
-    or-none (some x) = refl
 
 first-none : {A B : Type 0} (f : A → Option B) (xs : List A) → firstOf f xs ≡ none → {a : A} → a ∈ xs → f a ≡ none
 unfolding firstOf
@@ -86,7 +82,8 @@ pub added-at : (ks : List Kind) (k : Kind) (s t : ℕ) → kindAt (addPair ks k)
 unfolding addPair
 added-at ks k s t = go (any (ofPair (k .source) (k .target)) ks) refl
   where
-    there : (o : Option MorphismKind) → kindAt ks s t ≡ o → (c : Bool) → ofPair s t k ≡ c → any (ofPair (k .source) (k .target)) ks ≡ true → o ≡ orElse o (pick c (some (k .kind)) none)
+    there : (o : Option MorphismKind) → kindAt ks s t ≡ o → (c : Bool) → ofPair s t k ≡ c → any (ofPair (k .source) (k .target)) ks ≡ true
+        → o ≡ orElse o (pick c (some (k .kind)) none)
     there (some x) p c q e = refl
     there none p false q e = refl
     there none p true q e = let w = pair-is s t k q in absurd (some-at s t ks (rw (w .0, w .1) at e) p)
@@ -97,7 +94,9 @@ added-at ks k s t = go (any (ofPair (k .source) (k .target)) ks) refl
 -- They still stand once.
 pair-sym : (k j : Kind) → ofPair (k .source) (k .target) j ≡ false → ofPair (j .source) (j .target) k ≡ false
 pair-sym k j h = ⊎-elim
-    (λ q. let w = pair-is (j .source) (j .target) k q in never (and-true _ _ (eq-eqb (j .source) (k .source) (sym (w .0))) (eq-eqb (j .target) (k .target) (sym (w .1)))) h)
+    (λ q.
+        let w = pair-is (j .source) (j .target) k q in
+        never (and-true _ _ (eq-eqb (j .source) (k .source) (sym (w .0))) (eq-eqb (j .target) (k .target) (sym (w .1)))) h)
     (λ q. q) (bool-cases (ofPair (j .source) (j .target) k))
 
 once-append : (ks : List Kind) (k : Kind) → Once ks → ((j : Kind) → j ∈ ks → ofPair (j .source) (j .target) k ≡ false) → Once (ks ++ (k ∷ []))

@@ -1,4 +1,5 @@
--- Laws of the definition's list functions and tests, over any element type.
+-- Laws of the definition's list functions and tests, over any element type: what a test's answer tells, and which members the lists have
+-- that `keep`, `each` and `joined` give.
 use Prim.Native.Nat.{ℕ, zero, suc, _<_}
 use native.Mathlib.Omega.{arith}
 use native.Mathlib.Decide.{decLt}
@@ -6,7 +7,8 @@ use mathlib.Core.Path.{_≡_, refl, ap, sym, _∙_}
 use mathlib.Core.Logic.{_⊎_, inl, inr, ⊎-elim}
 use mathlib.Core.Bool.{Bool, true, false, not, _&&_, _||_}
 use mathlib.Core.Option.{Option, none, some}
-use mathlib.Core.List.{List, [], _∷_, _++_, append-assoc, List·Memᴰ·head, List·Memᴰ·tail, List·Memᴰ·not-nil, List·Memᴰ·cases-cons, List·Memᴰ·append-cases, Memᴰ·append-left, Memᴰ·append-right, Memᴰ·cast}
+use mathlib.Core.List.{List, [], _∷_, _++_, append-assoc, List·Memᴰ·head, List·Memᴰ·tail, List·Memᴰ·not-nil, List·Memᴰ·cases-cons,
+    List·Memᴰ·append-cases, Memᴰ·append-left, Memᴰ·append-right, Memᴰ·cast}
 use lib.Dec.{eqb}
 use lib.ListN.{length, getD}
 use borrow.Author.Tests.{eq-eqb, eqb-true}
@@ -35,14 +37,6 @@ or-right false b e = e
 pub or-cases : (a b : Bool) → (a || b) ≡ true → (a ≡ true) ⊎ (b ≡ true)
 or-cases true b e = inl refl
 or-cases false b e = inr e
-
-pub not-false : (a : Bool) → not a ≡ false → a ≡ true
-not-false true e = refl
-not-false false e = sym e
-
-pub not-true : (a : Bool) → not a ≡ true → a ≡ false
-not-true true e = sym e
-not-true false e = refl
 
 pub not-and-right : (a b : Bool) → b ≡ false → not (a && b) ≡ true
 not-and-right true b e = rw e
@@ -86,7 +80,8 @@ module _ {A B : Type 0} where
   pub mem-each : (f : A → B) (xs : List A) {b : B} → b ∈ each f xs → (a : A) × (a ∈ xs) × (b ≡ f a)
   unfolding each
   mem-each f [] m = absurd (List·Memᴰ·not-nil m)
-  mem-each f (x ∷ xs) m = ⊎-elim (λ q. (x, List·Memᴰ·head refl, q)) (λ t. let r = mem-each f xs t in (r .0, List·Memᴰ·tail (r .1), r .2)) (List·Memᴰ·cases-cons m)
+  mem-each f (x ∷ xs) m =
+      ⊎-elim (λ q. (x, List·Memᴰ·head refl, q)) (λ t. let r = mem-each f xs t in (r .0, List·Memᴰ·tail (r .1), r .2)) (List·Memᴰ·cases-cons m)
 
   pub each-mem : (f : A → B) (xs : List A) {a : A} → a ∈ xs → f a ∈ each f xs
   unfolding each
@@ -112,12 +107,14 @@ module _ {A B : Type 0} where
   pub mem-joined : (f : A → List B) (xs : List A) {b : B} → b ∈ joined f xs → (a : A) × (a ∈ xs) × (b ∈ f a)
   unfolding joined
   mem-joined f [] m = absurd (List·Memᴰ·not-nil m)
-  mem-joined f (x ∷ xs) m = ⊎-elim (λ q. (x, List·Memᴰ·head refl, q)) (λ t. let r = mem-joined f xs t in (r .0, List·Memᴰ·tail (r .1), r .2)) (List·Memᴰ·append-cases (f x) m)
+  mem-joined f (x ∷ xs) m =
+      ⊎-elim (λ q. (x, List·Memᴰ·head refl, q)) (λ t. let r = mem-joined f xs t in (r .0, List·Memᴰ·tail (r .1), r .2)) (List·Memᴰ·append-cases (f x) m)
 
   pub joined-mem : (f : A → List B) (xs : List A) {a : A} {b : B} → a ∈ xs → b ∈ f a → b ∈ joined f xs
   unfolding joined
   joined-mem f [] m n = absurd (List·Memᴰ·not-nil m)
-  joined-mem f (x ∷ xs) {a} {b} m n = ⊎-elim (λ q. Memᴰ·append-left (joined f xs) (rw q at n)) (λ t. Memᴰ·append-right (f x) (joined-mem f xs t n)) (List·Memᴰ·cases-cons m)
+  joined-mem f (x ∷ xs) {a} {b} m n =
+      ⊎-elim (λ q. Memᴰ·append-left (joined f xs) (rw q at n)) (λ t. Memᴰ·append-right (f x) (joined-mem f xs t n)) (List·Memᴰ·cases-cons m)
 
   pub joined-same : (f g : A → List B) → ((a : A) → f a ≡ g a) → (xs : List A) → joined f xs ≡ joined g xs
   unfolding joined
@@ -143,7 +140,8 @@ module _ {A : Type 0} (p : A → Bool) where
   pub any-true : (xs : List A) → any p xs ≡ true → (a : A) × (a ∈ xs) × (p a ≡ true)
   unfolding any
   any-true [] e = let z : _≡_ {A = ℕ} 0 1 = cc in absurd (omega arith)
-  any-true (x ∷ xs) e = ⊎-elim (λ q. (x, List·Memᴰ·head refl, q)) (λ t. let r = any-true xs t in (r .0, List·Memᴰ·tail (r .1), r .2)) (or-cases (p x) (any p xs) e)
+  any-true (x ∷ xs) e =
+      ⊎-elim (λ q. (x, List·Memᴰ·head refl, q)) (λ t. let r = any-true xs t in (r .0, List·Memᴰ·tail (r .1), r .2)) (or-cases (p x) (any p xs) e)
 
   pub any-false : (xs : List A) → any p xs ≡ false → {a : A} → a ∈ xs → p a ≡ false
   any-false xs e {a} m = ⊎-elim (λ q. never (any-mem xs m q) e) (λ q. q) (bool-cases (p a))
@@ -190,7 +188,8 @@ unfolding firstOf
 first-mem f [] e = let z : _≡_ {A = ℕ} 0 1 = cc in absurd (omega arith)
 first-mem f (x ∷ xs) {b} e = go (f x) refl (λ q. first-mem f xs q) e
   where
-    go : (o : Option _) → f x ≡ o → (firstOf f xs ≡ some b → (a : _) × (a ∈ xs) × (f a ≡ some b)) → orElse o (firstOf f xs) ≡ some b → (a : _) × (a ∈ (x ∷ xs)) × (f a ≡ some b)
+    go : (o : Option _) → f x ≡ o → (firstOf f xs ≡ some b → (a : _) × (a ∈ xs) × (f a ≡ some b)) → orElse o (firstOf f xs) ≡ some b
+        → (a : _) × (a ∈ (x ∷ xs)) × (f a ≡ some b)
     go none p ih e = let r = ih e in (r .0, List·Memᴰ·tail (r .1), r .2)
     go (some c) p ih e = (x, List·Memᴰ·head refl, p ∙ e)
 

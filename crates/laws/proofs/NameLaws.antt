@@ -1,4 +1,5 @@
--- Names: good ones put together, numbers printed, and what tells two printed names apart.
+-- Names: good ones put together, numbers printed, and what tells two printed names apart. If two bases end in no digit, then the
+-- digits at the end of a printed name are its number's and no more, so equal names have equal numbers (`name-tells`).
 use Prim.Native.Nat.{ℕ, zero, suc, _+_, _-_, _*_, _/_, _%_, _^_, _≤_, _<_}
 use native.Mathlib.Omega.{arith}
 use native.Mathlib.Nat.{div-add-mod', mod-lt, div-lt-iff-lt-mul, pow-suc}
@@ -9,14 +10,14 @@ use mathlib.Core.Option.{Option, none, some}
 use mathlib.Core.List.{List, [], _∷_, _++_, List·Memᴰ·head, List·Memᴰ·not-nil, List·Memᴰ·append-cases, List·Memᴰ·eq-of-singleton, Memᴰ·append-left}
 use lib.Dec.{ltb, leb}
 use lib.ListN.{length, length-append}
-use borrow.Author.Tests.{ltb-false, ltb-true, le-ltb, le-leb, leb-true}
+use borrow.Author.Tests.{ltb-false, ltb-true, le-ltb, le-leb, leb-true, not-false}
 use Rattle.definition.specs.Base.{pick, orDefault, all, lastOf, _∈_}
 use Rattle.definition.specs.Limits.{firstNameByte, lastNameByte, numberDigits}
 use Rattle.definition.specs.Letters.{digitZero, digitNine}
 use Rattle.definition.specs.Records.{nameByte, badName}
 use Rattle.definition.specs.Names.{digitsTo, decimal}
 use Rattle.definition.specs.Demands.{digit, endsInDigit}
-use Rattle.laws.proofs.Lists.{and-true, and-left, and-right, or-left, or-right, not-false, never, all-mem, mem-all, trichotomy}
+use Rattle.laws.proofs.Lists.{and-true, and-left, and-right, or-left, or-right, never, all-mem, mem-all, trichotomy}
 use Rattle.laws.proofs.Numbering.{last-mem, last-none}
 
 -- A name within a range of lengths, of bytes that a name may have.

@@ -1,4 +1,5 @@
--- The variables that a structure's elements get: those taken over, and the next numbers.
+-- The variables that a structure's elements get: those taken over, and the next numbers. `fresh` counts how many before a place took
+-- nothing over; the number there is the first new one plus that count, so that the new numbers differ and follow each other.
 use Prim.Native.Nat.{ℕ, zero, suc, _+_, _-_, _≤_, _<_}
 use native.Mathlib.Omega.{arith}
 use native.Mathlib.Nat.{add-zero}
@@ -15,7 +16,8 @@ use Rattle.definition.specs.Rule.{Structure, Element, Pair, keysAscend}
 use Rattle.definition.specs.Group.{Variable}
 use Rattle.definition.specs.Names.{numbersOf, variableAt, fiber, carriedKey, numbered, newVariable, newVariables}
 use Rattle.definition.specs.Rows.{inImage}
-use Rattle.laws.proofs.Lists.{never, and-left, and-right, bool-cases, mem-keep, keep-mem, mem-each, each-mem, length-each, getD-each, any-true, trichotomy}
+use Rattle.laws.proofs.Lists.{never, and-left, and-right, bool-cases, mem-keep, keep-mem, mem-each, each-mem, length-each,
+    getD-each, any-true, trichotomy}
 use Rattle.laws.specs.Numbering.{fresh}
 
 -- An element that takes a variable over has it.
@@ -99,7 +101,8 @@ place-from i e (n ∷ ns) m = go (eqb n e) refl (λ t. place-from (i + 1) e ns t
     go : (b : Bool) → eqb n e ≡ b
         → (e ∈ ns → (i + 1 ≤ placeFrom (i + 1) e ns) × (placeFrom (i + 1) e ns < i + 1 + length ns) × (getD ns (placeFrom (i + 1) e ns - (i + 1)) 0 ≡ e))
         → (e ≡ n) ⊎ (e ∈ ns)
-        → (i ≤ pick b i (placeFrom (i + 1) e ns)) × (pick b i (placeFrom (i + 1) e ns) < i + length (n ∷ ns)) × (getD (n ∷ ns) (pick b i (placeFrom (i + 1) e ns) - i) 0 ≡ e)
+        → (i ≤ pick b i (placeFrom (i + 1) e ns)) × (pick b i (placeFrom (i + 1) e ns) < i + length (n ∷ ns))
+        × (getD (n ∷ ns) (pick b i (placeFrom (i + 1) e ns) - i) 0 ≡ e)
     go true q ih m = let z : i - i ≡ 0 = omega arith in (omega arith, omega arith, rw z (eqb-true n e q))
     go false q ih (inl p) = never (eq-eqb n e (sym p)) q
     go false q ih (inr t) =
@@ -140,7 +143,9 @@ carried-pair pairs e h =
 pub not-carried : (pairs : List Pair) (e : ℕ) → carriedKey pairs e ≡ none → inImage pairs e ≡ false
 unfolding carriedKey fiber inImage
 not-carried pairs e h = ⊎-elim
-    (λ t. let r = any-true (λ (p : Pair). eqb (p .image) e) pairs t in absurd (last-none _ h (each-mem (λ (p : Pair). p .key) _ (keep-mem (λ (p : Pair). eqb (p .image) e) pairs (r .1) (r .2)))))
+    (λ t.
+        let r = any-true (λ (p : Pair). eqb (p .image) e) pairs t in
+        absurd (last-none _ h (each-mem (λ (p : Pair). p .key) _ (keep-mem (λ (p : Pair). eqb (p .image) e) pairs (r .1) (r .2)))))
     (λ f. f) (bool-cases (any (λ (p : Pair). eqb (p .image) e) pairs))
 
 -- Keys that ascend: a key has one image.
@@ -160,7 +165,10 @@ ascend-rest p (r ∷ ps) e = and-right (ltb (p .key) (r .key)) _ e
 pub one-image : (ps : List Pair) → keysAscend ps ≡ true → {p q : Pair} → p ∈ ps → q ∈ ps → p .key ≡ q .key → p .image ≡ q .image
 one-image [] e m n k = absurd (List·Memᴰ·not-nil m)
 one-image (r ∷ ps) e {p} {q} m n k = ⊎-elim
-    (λ a. ⊎-elim (λ b. ap (λ (x : Pair). x .image) (a ∙ sym b)) (λ b. let c : r .key < q .key = ascend-above r ps e b in let d : p .key ≡ r .key = rw a in absurd (omega arith)) (List·Memᴰ·cases-cons n))
+    (λ a. ⊎-elim
+        (λ b. ap (λ (x : Pair). x .image) (a ∙ sym b))
+        (λ b. let c : r .key < q .key = ascend-above r ps e b in let d : p .key ≡ r .key = rw a in absurd (omega arith))
+        (List·Memᴰ·cases-cons n))
     (λ a. ⊎-elim (λ b. let c : r .key < p .key = ascend-above r ps e a in let d : q .key ≡ r .key = rw b in absurd (omega arith))
         (λ b. one-image ps (ascend-rest r ps e) a b k) (List·Memᴰ·cases-cons n))
     (List·Memᴰ·cases-cons m)

@@ -1,4 +1,5 @@
--- The order of lists, and fields that ascend by it.
+-- The order of lists, and fields that ascend by it. Refusal 6 compares a field only with the last one of its letter; as the order is
+-- transitive, fields without a fault ascend as a whole.
 use Prim.Native.Nat.{ℕ, _+_}
 use native.Mathlib.Omega.{arith}
 use mathlib.Core.Path.{_≡_, refl}

@@ -1,18 +1,21 @@
--- Rows of a sound structure: what they list.
+-- Rows of a sound structure: what they list. A row is an R field's, an A field's or a member; each asks for a reason of its own why the
+-- elements that it lists are the structure's.
 use mathlib.Core.Option.{some}
 use Prim.Native.Nat.{ℕ, _-_}
 use native.Mathlib.Omega.{arith}
 use mathlib.Core.Path.{_≡_, refl}
 use mathlib.Core.Logic.{_⊎_, inl, inr, ⊎-elim}
 use mathlib.Core.Bool.{Bool, true, false, not}
-use mathlib.Core.List.{List, [], _∷_, _++_, List·Memᴰ·head, List·Memᴰ·tail, List·Memᴰ·not-nil, List·Memᴰ·cases-cons, List·Memᴰ·append-cases, List·Memᴰ·eq-of-singleton, Memᴰ·append-left, Memᴰ·append-right, Memᴰ·cast}
+use mathlib.Core.List.{List, [], _∷_, _++_, List·Memᴰ·head, List·Memᴰ·tail, List·Memᴰ·not-nil, List·Memᴰ·cases-cons,
+    List·Memᴰ·append-cases, List·Memᴰ·eq-of-singleton, Memᴰ·append-left, Memᴰ·append-right, Memᴰ·cast}
 use lib.ListN.{length}
+use borrow.Author.Tests.{not-true}
 use Rattle.definition.specs.Base.{pick, lastOf, butLast, empty, _∈_}
 use Rattle.definition.specs.Signature.{Signature}
 use Rattle.definition.specs.Rule.{Structure, Element, Row}
 use Rattle.definition.specs.Names.{numbersOf}
 use Rattle.definition.specs.Rows.{lastElement, memberRow, rowBefore, insertRow, sortRows, members, rowsOf}
-use Rattle.laws.proofs.Lists.{not-true, mem-keep, keep-mem, mem-each, each-mem}
+use Rattle.laws.proofs.Lists.{mem-keep, keep-mem, mem-each, each-mem}
 use Rattle.laws.specs.Sound.{SoundStructure}
 
 -- Sorting keeps the members.
@@ -104,7 +107,9 @@ module _ (st : Structure) where
 module _ (sig : Signature) (st : Structure) (sound : SoundStructure sig st) where
   pub member-elements : (x : Element) → x ∈ st .elements → (e : ℕ) → e ∈ memberRow x .elements → e ∈ numbersOf st
   unfolding memberRow
-  member-elements x k e i = ⊎-elim (λ p. sound .elements-sound x k .parents-in e p) (λ n. Memᴰ·cast (List·Memᴰ·eq-of-singleton n) (number-in st k)) (List·Memᴰ·append-cases (x .parents) i)
+  member-elements x k e i =
+      ⊎-elim (λ p. sound .elements-sound x k .parents-in e p) (λ n. Memᴰ·cast (List·Memᴰ·eq-of-singleton n) (number-in st k))
+          (List·Memᴰ·append-cases (x .parents) i)
 
   pub row-elements : {r : Row} → r ∈ rowsOf st → (e : ℕ) → e ∈ r .elements → e ∈ numbersOf st
   row-elements {r} m e i = ⊎-elim

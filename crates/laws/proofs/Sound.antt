@@ -1,4 +1,5 @@
--- What an accepted signature and an accepted rule are known to satisfy.
+-- What an accepted signature is known to satisfy, and how an accepted record's fields come to have no fault: a reading that accepts found
+-- no fault in a whole part (`read-part`), and then no field of a letter has one (`among-mem`).
 use Prim.Native.Nat.{ℕ, _+_, _≤_, _<_}
 use native.Mathlib.Omega.{arith}
 use mathlib.Core.Path.{_≡_, refl}
@@ -81,4 +82,6 @@ fields-sound fs e = let t = or-else-none _ _ e in let p = or-else-none _ _ (t .1
 
 pub sound-signature : (bytes : List ℕ) {sig : Signature} → readSignature bytes ≡ accepted sig → SoundSignature sig
 unfolding readSignature
-sound-signature bytes e = let r = read-part (signaturePart bytes) _ _ (read-within (ltb signatureBytes (length bytes)) _ e .1) in rw (← (r .2)) (fields-sound (signaturePart bytes .fields) (r .0))
+sound-signature bytes e =
+    let r = read-part (signaturePart bytes) _ _ (read-within (ltb signatureBytes (length bytes)) _ e .1) in
+    rw (← (r .2)) (fields-sound (signaturePart bytes .fields) (r .0))

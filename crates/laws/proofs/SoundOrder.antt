@@ -1,4 +1,5 @@
--- An accepted rule is in order: elements by number, maps and kinds by source and target.
+-- An accepted rule is in order: elements by number, maps and kinds by source and target. Each field of a letter that has no fault is
+-- behind the one before it (6), and what a value is ordered by is what its field was compared by.
 use Prim.Native.Nat.{ℕ, _≤_}
 use native.Mathlib.Omega.{arith}
 use mathlib.Core.Path.{_≡_, refl}
@@ -7,14 +8,15 @@ use mathlib.Core.Option.{Option, none, some}
 use mathlib.Core.List.{List, [], _∷_}
 use lib.Dec.{ltb}
 use lib.ListN.{length, take}
-use borrow.Author.Tests.{ltb-false, eqb-true}
+use borrow.Author.Tests.{ltb-false, eqb-true, not-false}
 use Rattle.definition.specs.Base.{accepted, each, less, _∈_}
 use Rattle.definition.specs.Limits.{ruleBytes}
 use Rattle.definition.specs.Letters.{letterE, letterM, letterK, letterS}
 use Rattle.definition.specs.Records.{Field, Block, numbers, numberAt, withLetter, blocks, odd}
 use Rattle.definition.specs.Signature.{Signature}
-use Rattle.definition.specs.Rule.{Element, Map, Kind, Structure, Rule, elementOf, mapOf, kindOf, sourceTarget, elementFault, mapFault, kindFault, namedElements, namedIn, structureOf, ruleOf, ruleFault, rulePart, readRule}
-use Rattle.laws.proofs.Lists.{or-left, or-right, not-false, lowest-none, mem-each}
+use Rattle.definition.specs.Rule.{Element, Map, Kind, Structure, Rule, elementOf, mapOf, kindOf, sourceTarget, elementFault, mapFault, kindFault}
+use Rattle.definition.specs.Rule.{namedElements, namedIn, structureOf, ruleOf, ruleFault, rulePart, readRule}
+use Rattle.laws.proofs.Lists.{or-left, or-right, lowest-none, mem-each}
 use Rattle.laws.proofs.Orders.{Ascending, letter-ascends, ascending-each}
 use Rattle.laws.proofs.Sound.{read-part, read-within, among-mem}
 use Rattle.laws.proofs.SoundRule.{body-parts, rule-parts, structure-bodies}
@@ -50,7 +52,8 @@ two-numbers (a ∷ b ∷ c ∷ []) h = absurd (omega arith)
 two-numbers (a ∷ b ∷ c ∷ d ∷ s) h = refl
 
 -- The tests of order and length that each field passed.
-element-order : (sig : Signature) (els : List ℕ) (m : ℕ) (g f : Field) → elementFault sig els m (some g) f ≡ none → less (take 1 (numbers (g .content))) (take 1 (numbers (f .content))) ≡ true
+element-order : (sig : Signature) (els : List ℕ) (m : ℕ) (g f : Field) → elementFault sig els m (some g) f ≡ none
+    → less (take 1 (numbers (g .content))) (take 1 (numbers (f .content))) ≡ true
 unfolding elementFault
 element-order sig els m g f e =
     let t3 = lowest-none 3 _ _ e in let t4 = lowest-none 4 _ _ (t3 .1) in let t5 = lowest-none 5 _ _ (t4 .1) in not-false _ (lowest-none 6 _ _ (t5 .1) .0)
@@ -62,7 +65,8 @@ element-long sig els m l f e = ltb-false _ _ (or-right (odd (length (f .content)
 map-order : (named : List (List ℕ)) (m : ℕ) (g f : Field) → mapFault named m (some g) f ≡ none → less (sourceTarget g) (sourceTarget f) ≡ true
 unfolding mapFault
 map-order named m g f e =
-    let t3 = lowest-none 3 _ _ e in let t4 = lowest-none 4 _ _ (t3 .1) in let t5 = lowest-none 5 _ _ (t4 .1) in not-false _ (or-left _ _ (lowest-none 6 _ _ (t5 .1) .0))
+    let t3 = lowest-none 3 _ _ e in let t4 = lowest-none 4 _ _ (t3 .1) in let t5 = lowest-none 5 _ _ (t4 .1) in
+        not-false _ (or-left _ _ (lowest-none 6 _ _ (t5 .1) .0))
 
 pub map-long : (named : List (List ℕ)) (m : ℕ) (l : Option Field) (f : Field) → mapFault named m l f ≡ none → 4 ≤ length (f .content)
 unfolding mapFault
@@ -100,16 +104,20 @@ module _ (sig : Signature) (fs : List Field) (e : ruleFault sig fs ≡ none) whe
         (λ f i. let p = among-mem letterE _ (b .body) t i in element-key f (element-long sig _ (p .0) (p .1) f (p .2)))
         (letter-ascends (elementFault sig (namedElements (b .body))) _ (element-order sig _) letterE (b .body) t)
 
-  pub ordered : OrderedRule (ruleOf fs)
+  pub kinds-in-order : Ascending kindKey (ruleOf fs .kinds)
+  unfolding ruleOf
+  kinds-in-order = let t = rule-parts sig fs e .3 in ascending-each kindOf sourceTarget kindKey (withLetter letterK fs)
+      (λ f i. let p = among-mem letterK _ fs t i in kind-key f (kind-long _ (p .0) (p .1) f (p .2)))
+      (letter-ascends (kindFault (namedIn fs)) sourceTarget (kind-order _) letterK fs t)
+
+  ordered : OrderedRule (ruleOf fs)
   unfolding ruleOf
   ordered = let t = rule-parts sig fs e in record {
       elements-ascend = λ st m. let r = mem-each structureOf _ m in rw (r .2) (structure-ascends (r .0) (r .1));
       maps-ascend = ascending-each mapOf sourceTarget mapKey (withLetter letterM fs)
           (λ f i. let p = among-mem letterM _ fs (t .2) i in map-key f (map-long _ (p .0) (p .1) f (p .2)))
           (letter-ascends (mapFault (namedIn fs)) sourceTarget (map-order _) letterM fs (t .2));
-      kinds-ascend = ascending-each kindOf sourceTarget kindKey (withLetter letterK fs)
-          (λ f i. let p = among-mem letterK _ fs (t .3) i in kind-key f (kind-long _ (p .0) (p .1) f (p .2)))
-          (letter-ascends (kindFault (namedIn fs)) sourceTarget (kind-order _) letterK fs (t .3));
+      kinds-ascend = kinds-in-order;
     }
 
 pub ordered-rule : (sig : Signature) (bytes : List ℕ) {rule : Rule} → readRule sig bytes ≡ accepted rule → OrderedRule rule

@@ -1,4 +1,5 @@
--- An accepted rule is sound: from the passed tests of each field.
+-- An accepted rule is sound. No field has a fault, so each of its tests failed to fail: letter by letter the `..-passed` laws say what
+-- that gives of a field, `structure-sound` and `rule-sound` say it of the values. That a rule has an N and an S is its grammar's (`begins`).
 use Prim.Native.Nat.{ℕ, _+_, _*_, _≤_, _<_}
 use native.Mathlib.Omega.{arith}
 use mathlib.Core.Path.{_≡_, refl, sym}
@@ -8,16 +9,20 @@ use mathlib.Core.Option.{Option, none}
 use mathlib.Core.List.{List, [], _∷_, List·Memᴰ·head, List·Memᴰ·not-nil, List·Memᴰ·cases-cons}
 use lib.Dec.{eqb, ltb}
 use lib.ListN.{length, getD, take, drop}
-use borrow.Author.Tests.{eq-eqb, eqb-true, ltb-true, ltb-false, leb-false}
+use borrow.Author.Tests.{eq-eqb, eqb-true, ltb-true, ltb-false, leb-false, not-false}
 use Rattle.definition.specs.Base.{accepted, when, orElse, keep, each, any, all, has, _∈_}
 use Rattle.definition.specs.Limits.{ruleBytes, structureLimit, fieldLimit, nameBytes}
 use Rattle.definition.specs.Letters.{letterN, letterS, letterE, letterR, letterA, letterV, letterI, letterM, letterK, letterX, start, predicate, function}
-use Rattle.definition.specs.Records.{Field, Fields, end, bad, _▸_, Block, numbers, numberAt, follows, placed, inFront, withLetter, blocks, faultAmong, notAbove, badName, odd, fieldsOf}
+use Rattle.definition.specs.Records.{Field, Fields, end, bad, _▸_, Block, numbers, numberAt, follows, placed, inFront, withLetter, blocks,
+    faultAmong, notAbove, badName, odd, fieldsOf}
 use Rattle.definition.specs.Signature.{Signature, predOf, funcOf, columnCount}
-use Rattle.definition.specs.Rule.{Element, Pair, Rule, ruleGrammar, elementOf, rowOf, nameOf, mapOf, kindOf, auxiliaryOf, namedElements, headFault, structureFault, elementFault, rowFault, nameFault, mapFault, kindFault, auxiliaryFault, keysAscend, sourceTarget, elementsAt, bodyFault, structuresFault, namedIn, ruleFault, structureOf, headField, ruleOf, rulePart, readRule}
+use Rattle.definition.specs.Rule.{Element, Pair, Rule, ruleGrammar, elementOf, rowOf, nameOf, mapOf, kindOf, auxiliaryOf, namedElements,
+    headFault, structureFault, elementFault, rowFault, nameFault, mapFault, kindFault, auxiliaryFault, keysAscend, sourceTarget,
+    elementsAt, bodyFault, structuresFault, namedIn, ruleFault, structureOf, headField, ruleOf, rulePart, readRule}
 use Rattle.definition.specs.Names.{numbersOf}
 use Rattle.definition.specs.Walk.{noStructure}
-use Rattle.laws.proofs.Lists.{and-left, and-right, or-left, or-right, not-false, never, or-cases, or-else-none, mem-keep, mem-each, each-mem, length-each, getD-each, all-mem, has-mem, lowest-none}
+use Rattle.laws.proofs.Lists.{and-left, and-right, or-left, or-right, never, or-cases, or-else-none, mem-keep, mem-each, each-mem,
+    length-each, getD-each, all-mem, has-mem, lowest-none}
 use Rattle.laws.proofs.Sound.{read-part, read-within, among-mem, among-few}
 use Rattle.laws.specs.Sound.{SoundElement, SoundRow, SoundStructure, SoundRule}
 
@@ -120,7 +125,8 @@ structure-sound sig b e =
           rw (r .2) (refl, record { symbol-in = q .symbol-in; elements-in = q .elements-in; columns-count = q .columns-count });
       funcs-sound = λ x m. let r = mem-each (rowOf function) _ m in let p = among-mem letterA _ (b .body) (t .2) (r .1) in
           let w = row-passed 1 _ _ b (p .0) (p .1) (r .0) (p .2) in let q = w .1 in
-          rw (r .2) (refl, two-numbers (r .0 .content) (w .0), record { symbol-in = q .symbol-in; elements-in = q .elements-in; columns-count = q .columns-count });
+          rw (r .2)
+              (refl, two-numbers (r .0 .content) (w .0), record { symbol-in = q .symbol-in; elements-in = q .elements-in; columns-count = q .columns-count });
       variables-sound = λ x m. let r = mem-each (nameOf 1) _ m in let p = among-mem letterV _ (b .body) (t .3) (r .1) in
           rw (r .2) (name-passed 1 _ _ (p .0) (p .1) (r .0) (p .2));
       identifiers-sound = λ x m. let r = mem-each (nameOf 2) _ m in let p = among-mem letterI _ (b .body) (t .4) (r .1) in
@@ -146,11 +152,14 @@ unfolding mapFault
 map-passed named n l f e =
     let t3 = lowest-none 3 _ _ e in let t4 = lowest-none 4 _ _ (t3 .1) in let t5 = lowest-none 5 _ _ (t4 .1) in let t6 = lowest-none 6 _ _ (t5 .1) in
     let ends : all (λ (s : ℕ). ltb s (length named)) (sourceTarget f) ≡ true = not-false _ (or-left _ _ (t5 .0)) in
-    let pairs : all (inside named f) (mapOf f .pairs) ≡ true = not-false _ (or-right (not (all (λ (s : ℕ). ltb s (length named)) (sourceTarget f))) _ (t5 .0)) in
+    let pairs : all (inside named f) (mapOf f .pairs) ≡ true =
+        not-false _ (or-right (not (all (λ (s : ℕ). ltb s (length named)) (sourceTarget f))) _ (t5 .0)) in
     let long : 4 ≤ length (f .content) = ltb-false _ _ (or-left _ _ (t3 .0)) in
     let two = two-ends (f .content) (length named) long ends in
     (rw (source-is f) (two .0), rw (target-is f) (two .1),
-      λ p m. let h = all-mem (inside named f) (mapOf f .pairs) pairs m in (has-mem _ _ (and-left _ _ h), has-mem _ _ (and-right (has (p .key) (elementsAt named (mapOf f .source))) _ h)),
+      λ p m.
+          let h = all-mem (inside named f) (mapOf f .pairs) pairs m in
+          (has-mem _ _ (and-left _ _ h), has-mem _ _ (and-right (has (p .key) (elementsAt named (mapOf f .source))) _ h)),
       not-false _ (or-right (notAbove sourceTarget l f) _ (t6 .0)))
 
 pub kind-passed : (named : List (List ℕ)) (n : ℕ) (l : Option Field) (f : Field) → kindFault named n l f ≡ none
@@ -184,7 +193,8 @@ structures-passed sig n (b ∷ bs) h e =
     let rest = structures-passed sig (n + 1) bs (omega arith) (r .1) in
     (omega (arith, rest .0), λ x m. ⊎-elim (λ q. rw q (r .0)) (λ t. rest .1 x t) (List·Memᴰ·cases-cons m))
 
-pub structure-bodies : (sig : Signature) (bs : List Block) → structuresFault sig 0 bs ≡ none → (b : Block) → b ∈ bs → bodyFault sig (namedElements (b .body)) (b .body) ≡ none
+pub structure-bodies : (sig : Signature) (bs : List Block) → structuresFault sig 0 bs ≡ none → (b : Block) → b ∈ bs
+    → bodyFault sig (namedElements (b .body)) (b .body) ≡ none
 structure-bodies sig bs e = structures-passed sig 0 bs (omega arith) e .1
 
 -- What can be named in a structure is what it has.
@@ -218,7 +228,8 @@ pub record Begins (fs : List Field) : Type 0 where
   pub first-is : first .letter ≡ letterN
   pub second-is : second .letter ≡ letterS
 
-begins-second : (f : Field) → f .letter ≡ letterN → (fs : Fields) → placed ruleGrammar (f .letter) fs .whole ≡ true → Begins (f ∷ placed ruleGrammar (f .letter) fs .fields)
+begins-second : (f : Field) → f .letter ≡ letterN → (fs : Fields) → placed ruleGrammar (f .letter) fs .whole ≡ true
+    → Begins (f ∷ placed ruleGrammar (f .letter) fs .fields)
 unfolding placed has any
 begins-second f n end w = never w (rw n)
 begins-second f n bad w = never w refl
@@ -227,7 +238,9 @@ begins-second f n (g ▸ fs) w = go (follows (ruleGrammar .places) (f .letter) (
     go : (b : Bool) → follows (ruleGrammar .places) (f .letter) (g .letter) ≡ b
         → when b (λ _. inFront g (placed ruleGrammar (g .letter) fs)) (λ _. record { fields = []; whole = false }) .whole ≡ true
         → Begins (f ∷ when b (λ _. inFront g (placed ruleGrammar (g .letter) fs)) (λ _. record { fields = []; whole = false }) .fields)
-    go true e w = record { first = f; second = g; rest = placed ruleGrammar (g .letter) fs .fields; all = refl; first-is = n; second-is = second-letter (g .letter) (rw n at e) }
+    go true e w =
+        let l = second-letter (g .letter) (rw n at e) in
+        record { first = f; second = g; rest = placed ruleGrammar (g .letter) fs .fields; all = refl; first-is = n; second-is = l }
     go false e w = never w refl
 
 pub begins : (fs : Fields) → placed ruleGrammar start fs .whole ≡ true → Begins (placed ruleGrammar start fs .fields)
@@ -297,10 +310,6 @@ module _ (sig : Signature) (fs : List Field) where
               images-in = λ y i. named-at fs _ _ (q .1) (q .2 y i .1);
               keys-ascend = q .3;
             };
-        kinds-sound = λ x m. let r = mem-each kindOf _ m in let p = among-mem letterK _ fs (t .3) (r .1) in
-            let q = kind-passed (namedIn fs) (p .0) (p .1) (r .0) (p .2) in rw (r .2) (rw named-length at (q .0), rw named-length at (q .1));
-        auxiliaries-sound = λ x m. let r = mem-each auxiliaryOf _ m in let p = among-mem letterX _ fs (t .4) (r .1) in
-            rw (r .2) (rw named-length at (auxiliary-passed (namedIn fs) (p .0) (p .1) (r .0) (p .2)));
       }
 
 pub sound-rule : (sig : Signature) (bytes : List ℕ) {rule : Rule} → readRule sig bytes ≡ accepted rule → SoundRule sig rule

@@ -1,4 +1,5 @@
--- A refusal of the walk is one of document 01's numbers for it.
+-- A refusal of the walk is one of document 01's numbers for it. `Refuses` says from which to which number an answer's refusals lie; it is
+-- kept by each way in which the definition puts answers together, so that the walk's follows its definition.
 use Prim.Native.Nat.{ℕ, _≤_}
 use native.Mathlib.Omega.{arith}
 use mathlib.Core.Path.{_≡_, refl}
@@ -31,7 +32,8 @@ pub refuses-pick : {A : Type 0} {low high : ℕ} (b : Bool) {x y : Outcome A} �
 refuses-pick true p q = p
 refuses-pick false p q = q
 
-pub refuses-on : {A B : Type 0} {low high : ℕ} (o : Outcome A) (f : A → Outcome B) → Refuses o low high → ((a : A) → Refuses (f a) low high) → Refuses (onAccepted o f) low high
+pub refuses-on : {A B : Type 0} {low high : ℕ} (o : Outcome A) (f : A → Outcome B) → Refuses o low high → ((a : A) → Refuses (f a) low high)
+    → Refuses (onAccepted o f) low high
 refuses-on (accepted a) f p q = q a
 refuses-on (refused n) f p q = let b = p .within n refl in refuses-here n (b .0) (b .1)
 
@@ -56,22 +58,22 @@ three-tests a b c false false false step h i j k l m = refuses-not step
 
 -- A map of each kind refuses with 25 to 30.
 module _ (sig : Signature) (table : List Variable) (source target : Side) (pairs : List Pair) (statements : List Statement) where
-  domain-refuses : (o : Option Row) → Refuses (domainStep sig table source target pairs statements o) 25 30
+  domain-refuses : (o : Option Row) → Refuses (domainStep target pairs statements o) 25 30
   unfolding domainStep
   domain-refuses none = refuses-here 29 (omega arith) (omega arith)
   domain-refuses (some r) = refuses-pick (all (inImage pairs) (butLast (r .elements))) (refuses-not _) (refuses-here 30 (omega arith) (omega arith))
 
-  non-surj-refuses : (els : List ℕ) → Refuses (nonSurjStep sig table source target pairs statements els) 25 30
+  non-surj-refuses : (els : List ℕ) → Refuses (nonSurjStep target pairs statements els) 25 30
   unfolding nonSurjStep
   non-surj-refuses [] = refuses-not _
-  non-surj-refuses (e ∷ []) = domain-refuses (yieldingRow sig table source target pairs e)
+  non-surj-refuses (e ∷ []) = domain-refuses (yieldingRow target e)
   non-surj-refuses (e ∷ d ∷ els) = refuses-here 28 (omega arith) (omega arith)
 
   if-refuses : Refuses (ifStep sig table source target pairs statements) 25 30
   unfolding ifStep
   if-refuses = two-tests 25 26 _ _ _ (omega arith) (omega arith) (omega arith) (omega arith)
 
-  surj-refuses : Refuses (surjStep sig table source target pairs statements) 25 30
+  surj-refuses : Refuses (surjStep table source target pairs statements) 25 30
   unfolding surjStep
   surj-refuses = three-tests 25 26 27 _ _ _ _ (omega arith) (omega arith) (omega arith) (omega arith) (omega arith) (omega arith)
 
@@ -80,15 +82,17 @@ module _ (sig : Signature) (table : List Variable) (source target : Side) (pairs
   step-refuses If = if-refuses
   step-refuses Noop = if-refuses
   step-refuses SurjThen = surj-refuses
-  step-refuses NonSurjThen = non-surj-refuses (newElements sig table source target pairs)
+  step-refuses NonSurjThen = non-surj-refuses (newElements target pairs)
 
 -- The walk refuses with 21 to 30.
-map-refuses : (sig : Signature) (rule : Rule) (state : State) (k : Kind) (pairs : List Pair) (a b : Option Reached) → Refuses (walkMap sig rule state k pairs a b) 21 30
+map-refuses : (sig : Signature) (rule : Rule) (state : State) (k : Kind) (pairs : List Pair) (a b : Option Reached)
+    → Refuses (walkMap sig rule state k pairs a b) 21 30
 unfolding walkMap
 map-refuses sig rule state k pairs none b = refuses-here 23 (omega arith) (omega arith)
 map-refuses sig rule state k pairs (some source) (some r) = refuses-here 24 (omega arith) (omega arith)
 map-refuses sig rule state k pairs (some source) none =
-    refuses-on _ _ (refuses-wide (step-refuses sig (state .variables) _ _ pairs (source .statements) (k .kind)) (omega arith) (omega arith)) (λ step. refuses-not _)
+    refuses-on _ _ (refuses-wide (step-refuses sig (state .variables) _ _ pairs (source .statements) (k .kind)) (omega arith) (omega arith))
+        (λ step. refuses-not _)
 
 pub walk-refuses : (sig : Signature) (rule : Rule) (ks : List Kind) (state : State) → Refuses (walkFrom sig rule state ks) 21 30
 unfolding walkFrom

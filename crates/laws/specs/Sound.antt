@@ -9,7 +9,7 @@ use Rattle.definition.specs.Letters.{predicate, function}
 use Rattle.definition.specs.Limits.{symbolLimit, structureLimit, fieldLimit, nameBytes}
 use Rattle.definition.specs.Names.{numbersOf}
 use Rattle.definition.specs.Records.{badName}
-use Rattle.definition.specs.Rule.{Element, Row, Name, Pair, Map, Kind, Auxiliary, Structure, Rule, keysAscend}
+use Rattle.definition.specs.Rule.{Element, Row, Name, Pair, Map, Structure, Rule, keysAscend}
 use Rattle.definition.specs.Signature.{Signature, typeParents, predOf, funcOf, columnCount}
 use Rattle.definition.specs.Walk.{structureAt}
 
@@ -33,8 +33,10 @@ pub record SoundRow (symbols : ℕ) (columns : ℕ → ℕ) (els : List ℕ) (r 
 pub record SoundStructure (sig : Signature) (st : Structure) : Type 0 where
   pub elements-few : length (st .elements) ≤ fieldLimit
   pub elements-sound : (e : Element) → e ∈ st .elements → SoundElement sig (numbersOf st) e
-  pub preds-sound : (r : Row) → r ∈ st .predRows → (r .kind ≡ predicate) × SoundRow (length (sig .preds)) (λ (p : ℕ). columnCount (predOf sig p)) (numbersOf st) r
-  pub funcs-sound : (r : Row) → r ∈ st .funcRows → (r .kind ≡ function) × (0 < length (r .elements)) × SoundRow (length (sig .funcs)) (λ (g : ℕ). columnCount (funcOf sig g)) (numbersOf st) r
+  pub preds-sound : (r : Row) → r ∈ st .predRows
+      → (r .kind ≡ predicate) × SoundRow (length (sig .preds)) (λ (p : ℕ). columnCount (predOf sig p)) (numbersOf st) r
+  pub funcs-sound : (r : Row) → r ∈ st .funcRows
+      → (r .kind ≡ function) × (0 < length (r .elements)) × SoundRow (length (sig .funcs)) (λ (g : ℕ). columnCount (funcOf sig g)) (numbersOf st) r
   pub variables-sound : (n : Name) → n ∈ st .variableNames → badName 1 nameBytes (n .name) ≡ false
   pub identifiers-sound : (n : Name) → n ∈ st .identifierNames → badName 1 nameBytes (n .name) ≡ false
 
@@ -51,5 +53,3 @@ pub record SoundRule (sig : Signature) (rule : Rule) : Type 0 where
   pub structures-few : length (rule .structures) ≤ structureLimit
   pub structures-sound : (st : Structure) → st ∈ rule .structures → SoundStructure sig st
   pub maps-sound : (m : Map) → m ∈ rule .maps → SoundMap rule m
-  pub kinds-sound : (k : Kind) → k ∈ rule .kinds → (k .source < length (rule .structures)) × (k .target < length (rule .structures))
-  pub auxiliaries-sound : (x : Auxiliary) → x ∈ rule .auxiliaries → x .structure < length (rule .structures)

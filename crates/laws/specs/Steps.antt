@@ -9,61 +9,61 @@ use Rattle.definition.specs.Signature.{Signature}
 use Rattle.definition.specs.Rule.{Row, Pair, MorphismKind, If, SurjThen, NonSurjThen, Noop}
 use Rattle.definition.specs.Group.{Variable, Statement}
 use Rattle.definition.specs.Rows.{rowStatement, inImage}
-use Rattle.definition.specs.Kinds.{Side, variableIn, Emitted, Step, kernelClashes, rowUnmapped, newElements, ifStatements, surjConclusion, yieldingRow, domainStatement}
+use Rattle.definition.specs.Kinds.{Side, variableIn, Emitted, Step, kernelClashes, rowUnmapped, newElements, ifStatements, surjConclusion,
+    yieldingRow, domainStatement}
 
 -- A rule that is emitted: the source's statements, and a conclusion.
 abbrev pub emitted : List Statement → List Statement → Emitted
 emitted statements conclusion = record { premise = statements; conclusion = conclusion }
 
-module _ (sig : Signature) (table : List Variable) (source target : Side) (pairs : List Pair) where
-  -- 29 and 30, of the row that yields the one new element.
-  unfoldable pub rowFault : Option Row → Option ℕ
-  rowFault none = some 29
-  rowFault (some r) = pick (all (inImage pairs) (butLast (r .elements))) none (some 30)
+-- 29 and 30, of the row that yields the one new element.
+unfoldable pub rowFault : List Pair → Option Row → Option ℕ
+rowFault pairs none = some 29
+rowFault pairs (some r) = pick (all (inImage pairs) (butLast (r .elements))) none (some 30)
 
-  -- 28 to 30, by the new elements.
-  unfoldable pub newFault : List ℕ → Option ℕ
-  newFault [] = none
-  newFault (e ∷ []) = rowFault (yieldingRow sig table source target pairs e)
-  newFault (e ∷ d ∷ es) = some 28
+-- 28 to 30, by the new elements.
+unfoldable pub newFault : Side → List Pair → List ℕ → Option ℕ
+newFault target pairs [] = none
+newFault target pairs (e ∷ []) = rowFault pairs (yieldingRow target e)
+newFault target pairs (e ∷ d ∷ es) = some 28
 
-  -- The refusal of a map: 25 to 30.
-  unfoldable pub stepFault : MorphismKind → Option ℕ
-  stepFault If = lowest ((25, kernelClashes sig table source target pairs) ∷ (26, rowUnmapped sig table source target pairs) ∷ [])
-  stepFault Noop = lowest ((25, kernelClashes sig table source target pairs) ∷ (26, rowUnmapped sig table source target pairs) ∷ [])
-  stepFault SurjThen = lowest ((25, kernelClashes sig table source target pairs) ∷ (26, rowUnmapped sig table source target pairs)
-      ∷ (27, not (empty (newElements sig table source target pairs))) ∷ [])
-  stepFault NonSurjThen = newFault (newElements sig table source target pairs)
+-- The row that yields the new element, where there is one.
+unfoldable pub rowFor : Side → List ℕ → Option Row
+rowFor target [] = none
+rowFor target (e ∷ []) = yieldingRow target e
+rowFor target (e ∷ d ∷ es) = none
 
-  -- The row that yields the new element, where there is one.
-  unfoldable pub rowFor : List ℕ → Option Row
-  rowFor [] = none
-  rowFor (e ∷ []) = yieldingRow sig table source target pairs e
-  rowFor (e ∷ d ∷ es) = none
+-- What that row says, and the conclusions that it leads to.
+abbrev pub rowOwn : Side → Option Row → List Statement
+rowOwn target none = []
+rowOwn target (some r) = rowStatement (variableIn target) r ∷ []
 
-  -- What that row says, and the conclusions that it leads to.
-  abbrev pub rowOwn : Option Row → List Statement
-  rowOwn none = []
-  rowOwn (some r) = rowStatement (variableIn target) r ∷ []
+abbrev pub rowConclusions : Side → Option Row → List (List Statement)
+rowConclusions target none = []
+rowConclusions target (some r) = (domainStatement target r ∷ []) ∷ []
 
-  abbrev pub rowConclusions : Option Row → List (List Statement)
-  rowConclusions none = []
-  rowConclusions (some r) = (domainStatement sig table source target pairs r ∷ []) ∷ []
+-- The step that appends so much and emits such conclusions.
+abbrev pub stepWith : List Statement → List Statement → List (List Statement) → Step
+stepWith statements more concluded = record { statements = statements ++ more; emitted = each (emitted statements) concluded }
 
-  -- What the target appends to the source's statements.
-  unfoldable pub own : MorphismKind → List Statement
-  own If = ifStatements sig table source target pairs
-  own Noop = ifStatements sig table source target pairs
-  own SurjThen = []
-  own NonSurjThen = rowOwn (rowFor (newElements sig table source target pairs))
+-- The refusal of a map: 25 to 30.
+unfoldable pub stepFault : List Variable → Side → Side → List Pair → MorphismKind → Option ℕ
+stepFault table source target pairs If = lowest ((25, kernelClashes table source target pairs) ∷ (26, rowUnmapped source pairs) ∷ [])
+stepFault table source target pairs Noop = lowest ((25, kernelClashes table source target pairs) ∷ (26, rowUnmapped source pairs) ∷ [])
+stepFault table source target pairs SurjThen = lowest ((25, kernelClashes table source target pairs) ∷ (26, rowUnmapped source pairs)
+    ∷ (27, not (empty (newElements target pairs))) ∷ [])
+stepFault table source target pairs NonSurjThen = newFault target pairs (newElements target pairs)
 
-  -- The conclusions of the rules that the map emits.
-  unfoldable pub conclusions : MorphismKind → List (List Statement)
-  conclusions If = []
-  conclusions Noop = []
-  conclusions SurjThen = surjConclusion sig table source target pairs ∷ []
-  conclusions NonSurjThen = rowConclusions (rowFor (newElements sig table source target pairs))
+-- What the target appends to the source's statements.
+unfoldable pub own : Signature → List Variable → Side → Side → List Pair → MorphismKind → List Statement
+own sig table source target pairs If = ifStatements sig table source target pairs
+own sig table source target pairs Noop = ifStatements sig table source target pairs
+own sig table source target pairs SurjThen = []
+own sig table source target pairs NonSurjThen = rowOwn target (rowFor target (newElements target pairs))
 
-  -- The step that appends so much and emits such conclusions.
-  abbrev pub stepWith : List Statement → List Statement → List (List Statement) → Step
-  stepWith statements more concluded = record { statements = statements ++ more; emitted = each (emitted statements) concluded }
+-- The conclusions of the rules that the map emits.
+unfoldable pub conclusions : List Variable → Side → Side → List Pair → MorphismKind → List (List Statement)
+conclusions table source target pairs If = []
+conclusions table source target pairs Noop = []
+conclusions table source target pairs SurjThen = surjConclusion table source target pairs ∷ []
+conclusions table source target pairs NonSurjThen = rowConclusions target (rowFor target (newElements target pairs))

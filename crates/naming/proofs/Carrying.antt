@@ -11,11 +11,11 @@ use lib.Dec.{eqb}
 use lib.ListN.{length, getD, set, take, drop, length-set, replicate}
 use lib.Seq.{ext-getD, getD-set-same, getD-set-other, take-suc, take-all, getD-take}
 use borrow.Author.Tests.{eq-eqb, ne-eqb}
-use Rattle.definition.specs.Base.{orElse, keep, each, lastOf}
+use Rattle.definition.specs.Base.{orElse, keep, each, lastOf, given}
 use Rattle.definition.specs.Limits.{fieldLimit}
 use Rattle.definition.specs.Rule.{Structure, Pair}
 use Rattle.definition.specs.Names.{numbersOf, variableAt, fiber, carriedKey, overMap, carried, numbered}
-use Rattle.definition.specs.Rows.{given, inImage}
+use Rattle.definition.specs.Rows.{inImage}
 use Rattle.definition.specs.Walk.{nothingTaken}
 use Rattle.records.proofs.Lists.{keep-append}
 use Rattle.laws.proofs.Lists.{each-append, length-each, getD-each, trichotomy, never, mem-has, has-mem, mem-each, any-mem, mem-at}
@@ -60,7 +60,8 @@ each-set f g ns j y h rises other same = ext-getD 0 (each g ns) (set (each f ns)
       where
         go : Dec (i ≡ j) → i < length ns → g (getD ns i 0) ≡ getD (set (each f ns) j y) i 0
         go (yes q) k = rw q (same ∙ sym (getD-set-same (each f ns) j y 0 (rw (length-each f ns) h)))
-        go (no q) k = other (getD ns i 0) (λ e. ⊎-elim (λ z. let r = rises i j z h in omega arith) (⊎-elim (λ z. q z) (λ z. let r = rises j i z k in omega arith)) (trichotomy i j))
+        go (no q) k = other (getD ns i 0)
+            (λ e. ⊎-elim (λ z. let r = rises i j z h in omega arith) (⊎-elim (λ z. q z) (λ z. let r = rises j i z k in omega arith)) (trichotomy i j))
             ∙ sym (getD-set-other (each f ns) j i y 0 q ∙ getD-each f ns i 0 0 k)
 
 -- The entries of the target's elements, by the pairs so far.
@@ -100,14 +101,16 @@ module _ {s index : List ℕ} {src tgt : ℕ} {m : Map} (a : Laid s index src) (
   not-absent {A} {p} j h =
       let n : length (pairsIn s m) ≡ m .pairs = pairs-many map in
       let i = mem-at (pairsIn s m) p noPair (omega arith) in
-      ((λ f. never (mem-has _ _ (rw (numbers-are a) at (j .keys .named _ i))) (f .is)), (λ f. never (mem-has _ _ (rw (numbers-are b) at (j .images .named _ i))) (f .is)))
+      ((λ f. never (mem-has _ _ (rw (numbers-are a) at (j .keys .named _ i))) (f .is)),
+          (λ f. never (mem-has _ _ (rw (numbers-are b) at (j .images .named _ i))) (f .is)))
 
 module _ {s index : List ℕ} {src tgt : ℕ} {m : Map} (a : Laid s index src) (b : Laid s index tgt) (map : MapIn s m) (vars : List ℕ) where
   pub carrying : Carrying s vars src tgt m (replicate fieldLimit noVar) 0
   carrying = record { same = entries-none (structureIn s src) (structureIn s tgt) _ (element-few b) }
 
   -- Where a number was found, it stands.
-  stands : {k e i : ℕ} → Laid s index k → Finds (At i) e (elementNumbers s index k) → (i < length (numbersOf (structureIn s k))) × (getD (numbersOf (structureIn s k)) i 0 ≡ e)
+  stands : {k e i : ℕ} → Laid s index k → Finds (At i) e (elementNumbers s index k)
+      → (i < length (numbersOf (structureIn s k))) × (getD (numbersOf (structureIn s k)) i 0 ≡ e)
   stands {k} {e} l f = let w = f .is in let x = place-in e (elementNumbers s index k) (has-mem e _ (w .2)) in rw (numbers-are l) (w .1, rw (w .0) (x .1))
 
   entry : {e i : ℕ} → Finds (At i) e (elementNumbers s index src) → variableAt (structureIn s src) (variablesIn (structureIn s src) vars) e ≡ getD vars i 0
@@ -123,8 +126,10 @@ module _ {s index : List ℕ} {src tgt : ℕ} {m : Map} (a : Laid s index src) (
       let n : length (pairsIn s m) ≡ m .pairs = pairs-many map in
       let l : p < length (pairsIn s m) = omega arith in
       let t = stands b g in
-      let e = entries-more (structureIn s src) (structureIn s tgt) (variablesIn (structureIn s src) vars) (numbers-rise b) (take p (pairsIn s m)) (getD (pairsIn s m) p noPair) j (t .0) (t .1) in
-      let w : length (each entryOf (carried (structureIn s src) (variablesIn (structureIn s src) vars) (take p (pairsIn s m)) (structureIn s tgt))) ≡ length (numbersOf (structureIn s tgt))
+      let e = entries-more (structureIn s src) (structureIn s tgt) (variablesIn (structureIn s src) vars) (numbers-rise b) (take p (pairsIn s m))
+          (getD (pairsIn s m) p noPair) j (t .0) (t .1) in
+      let w : length (each entryOf (carried (structureIn s src) (variablesIn (structureIn s src) vars) (take p (pairsIn s m)) (structureIn s tgt)))
+          ≡ length (numbersOf (structureIn s tgt))
       = length-each entryOf _ ∙ length-carried (structureIn s src) (structureIn s tgt) _ (take p (pairsIn s m)) ∙ sym (length-numbers-of (structureIn s tgt)) in
       record { same = rw (add-one, take-suc (pairsIn s m) p noPair l, e, c .same, entry f) (set-row _ _ _ (rw w (t .0))) }
 
@@ -135,9 +140,11 @@ module _ {s index : List ℕ} {src tgt : ℕ} {m : Map} (a : Laid s index src) (
 pub taken-below : {s : List ℕ} {src tgt next : ℕ} {m : Map} {row : List ℕ} → Joins s src tgt m → GivenOut (structureIn s src) row next
     → TakenBelow next (takenOver s row src tgt m)
 unfolding carried
-taken-below {s} {src} {tgt} {next} {m} {row} j g = record { below = λ v i. let w = mem-each _ (numbersOf (structureIn s tgt)) i in go v (w .0) (carriedKey (pairsIn s m) (w .0)) refl (w .2) }
+taken-below {s} {src} {tgt} {next} {m} {row} j g =
+    record { below = λ v i. let w = mem-each _ (numbersOf (structureIn s tgt)) i in go v (w .0) (carriedKey (pairsIn s m) (w .0)) refl (w .2) }
   where
-    go : (v e : ℕ) (o : Option ℕ) → carriedKey (pairsIn s m) e ≡ o → some v ≡ overMap (variableAt (structureIn s src) (variablesIn (structureIn s src) row)) o → v < next
+    go : (v e : ℕ) (o : Option ℕ) → carriedKey (pairsIn s m) e ≡ o
+        → some v ≡ overMap (variableAt (structureIn s src) (variablesIn (structureIn s src) row)) o → v < next
     go v e none q h = let z : _≡_ {A = ℕ} 0 1 = cc in absurd (omega arith)
     go v e (some k) q h =
         let p = carried-pair (pairsIn s m) e q in
@@ -150,7 +157,8 @@ pub assigned : {s index row taken vars : List ℕ} {src tgt next count : ℕ} {m
     → taken ≡ rowOf (each entryOf (takenOver s row src tgt m)) → vars ≡ numbered next (takenIn count taken) ++ drop count taken
     → vars ≡ rowOf (numbered next (takenOver s row src tgt m))
 assigned {s} {index} {row} {src = src} {tgt} {m = m} l j g n k e f =
-    f ∙ rw e (numbered-row (taken-below j g) (length-carried (structureIn s src) (structureIn s tgt) (variablesIn (structureIn s src) row) (pairsIn s m) ∙ elements-are l ∙ sym k) n)
+    f ∙ rw e (numbered-row (taken-below j g)
+        (length-carried (structureIn s src) (structureIn s tgt) (variablesIn (structureIn s src) row) (pairsIn s m) ∙ elements-are l ∙ sym k) n)
 
 -- Structure 0 takes nothing over.
 pub nothing-below : (st : Structure) → TakenBelow 0 (nothingTaken st)
@@ -166,12 +174,15 @@ pub assigned-first : {s index vars : List ℕ} {count : ℕ} → Laid s index 0 
     → vars ≡ numbered 0 (takenIn count (replicate fieldLimit noVar)) ++ drop count (replicate fieldLimit noVar)
     → vars ≡ rowOf (numbered 0 (nothingTaken (structureIn s 0)))
 assigned-first {s} l k f =
-    f ∙ rw (empty-row (structureIn s 0 .elements) (element-few l)) (numbered-row (nothing-below (structureIn s 0)) (length-nothing (structureIn s 0) ∙ elements-are l ∙ sym k) (omega arith))
+    f ∙ rw (empty-row (structureIn s 0 .elements) (element-few l))
+        (numbered-row (nothing-below (structureIn s 0)) (length-nothing (structureIn s 0) ∙ elements-are l ∙ sym k) (omega arith))
 
 -- The images are the elements that take something over.
-pub given-images : (source target : Structure) (vs : List ℕ) (pairs : List Pair) → each given (carried source vs pairs target) ≡ each (inImage pairs) (numbersOf target)
+pub given-images : (source target : Structure) (vs : List ℕ) (pairs : List Pair)
+    → each given (carried source vs pairs target) ≡ each (inImage pairs) (numbersOf target)
 unfolding carried inImage
-given-images source target vs pairs = each-each given _ (numbersOf target) ∙ each-same _ (inImage pairs) (λ e. whether e (carriedKey pairs e) refl) (numbersOf target)
+given-images source target vs pairs =
+    each-each given _ (numbersOf target) ∙ each-same _ (inImage pairs) (λ e. whether e (carriedKey pairs e) refl) (numbersOf target)
   where
     whether : (e : ℕ) (o : Option ℕ) → carriedKey pairs e ≡ o → given (overMap (variableAt source vs) o) ≡ inImage pairs e
     whether e none q = sym (not-carried pairs e q)

@@ -11,9 +11,8 @@ use lib.Dec.{ltb}
 use lib.ListN.{length, getD, set, take, drop, length-set, drop-of-length-le, take-append-drop}
 use lib.Seq.{take-suc, drop-cons, take-suc-set, drop-set-lt, getD-drop, getD-take, length-take-le}
 use borrow.Author.Tests.{eq-eqb, ne-eqb, lt-ltb, le-ltb}
-use Rattle.definition.specs.Base.{pick, each}
+use Rattle.definition.specs.Base.{pick, each, given}
 use Rattle.definition.specs.Names.{numbered}
-use Rattle.definition.specs.Rows.{given}
 use Rattle.laws.specs.Numbering.{fresh}
 use Rattle.naming.specs.Variables.{noVar, takenBy, takenIn, keptBy, keptIn}
 
@@ -95,7 +94,8 @@ module _ {first count : ℕ} {row : List ℕ} {n i : ℕ} (k : Counting first co
   unfolding fresh
   count-new h e =
       let f = k .few in
-      let q : fresh (leftIn (keptBy first) count row i) ≡ 1 + fresh (leftIn (keptBy first) count row (i + 1)) = rw (left-on (keptBy first) row few h, le-ltb _ _ e) in
+      let q : fresh (leftIn (keptBy first) count row i) ≡ 1 + fresh (leftIn (keptBy first) count row (i + 1)) =
+          rw (left-on (keptBy first) row few h, le-ltb _ _ e) in
       record { left = let l = k .left in omega arith; few = omega arith }
 
   pub count-kept : i < count → getD row i 0 < first → Counting first count row n (i + 1)
@@ -121,7 +121,8 @@ module _ {first count : ℕ} {row : List ℕ} {flags : List Bool} {i : ℕ} (f :
   flag-on h =
       let g : given (keptBy first (getD row i 0)) ≡ ltb (getD row i 0) first = whether (ltb (getD row i 0) first) in
       record {
-        left = f .left ∙ rw (left-on (keptBy first) row few h, g, add-one i, take-suc-set flags i (ltb (getD row i 0) first) (let l = f .long in omega arith), append-assoc);
+        left = f .left ∙ rw (left-on (keptBy first) row few h, g, add-one i,
+            take-suc-set flags i (ltb (getD row i 0) first) (let l = f .long in omega arith), append-assoc);
         long = let l = f .long in rw length-set (omega arith);
       }
     where

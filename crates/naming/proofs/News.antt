@@ -49,7 +49,8 @@ pub record Typing (st : Structure) (first : ℕ) (row types₀ types : List ℕ)
 pub typing : (st : Structure) (first : ℕ) (row types : List ℕ) → Typing st first row types types first 0
 typing st first row types = record { left = rw (new-all st first row); few = omega arith; long = refl }
 
-module _ {st : Structure} {first : ℕ} {row types₀ types : List ℕ} {number i : ℕ} (t : Typing st first row types₀ types number i) (few : length (st .elements) ≤ length row) where
+module _ {st : Structure} {first : ℕ} {row types₀ types : List ℕ} {number i : ℕ} (t : Typing st first row types₀ types number i)
+    (few : length (st .elements) ≤ length row) where
   pub type-on : {v : ℕ} → i < length (st .elements) → first ≤ getD row i 0 → v ≡ getD (st .elements) i noElement .type
       → Typing st first row types₀ (set types number v) (number + 1) (i + 1)
   unfolding each newVariable

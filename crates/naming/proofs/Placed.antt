@@ -50,7 +50,8 @@ module _ {s index : List ℕ} {k : ℕ} (l : Laid s index k) where
   pub element-get : (i : ℕ) → i < countAt index k → getD (structureIn s k .elements) i noElement ≡ elementIn s index k i
   element-get i h = rw (l .same) (elements-get s index k i h)
 
-  pub type-read : (r : read.Element) (i : ℕ) → i < countAt index k → elementFrom s r ≡ elementIn s index k i → r .ty .0 ≡ getD (structureIn s k .elements) i noElement .type
+  pub type-read : (r : read.Element) (i : ℕ) → i < countAt index k → elementFrom s r ≡ elementIn s index k i
+      → r .ty .0 ≡ getD (structureIn s k .elements) i noElement .type
   type-read r i h e = ap (λ (x : Element). x .type) (e ∙ sym (element-get i h))
 
   -- A type that was read is a byte.

@@ -5,16 +5,17 @@ use mathlib.Core.List.{List, [], _∷_, _++_}
 use mathlib.Core.Path.{_≡_, refl, sym, _∙_}
 use lib.ListN.{length, getD, length-append}
 use Rattle.definition.specs.Base.{pick, each, joined, empty}
-use Rattle.definition.specs.Letters.{letterW}
 use Rattle.definition.specs.Limits.{nameBytes, numberDigits}
 use Rattle.definition.specs.Rule.{Structure, Element}
 use Rattle.definition.specs.Names.{el, decimal, baseName, newVariable}
 use Rattle.definition.specs.Walk.{groupName, anonymousRule}
-use Rattle.definition.specs.Writer.{twoBytes, variableField, fieldBytes, recordBytes}
+use Rattle.definition.specs.Writer.{variableField, fieldBytes, recordBytes}
 use Rattle.records.specs.Places.{twoAt}
-use Rattle.records.specs.Buffer.{Put, capped, countLimit, headBytes}
+use Rattle.records.specs.Buffer.{Put, capped, countLimit}
 use Rattle.records.proofs.Numbers.{length-stretch}
-use Rattle.records.proofs.Tail.{Writing, begin, wrote, passed, finish, counted}
+use Rattle.records.proofs.Tail.{then, Writing, begin, wrote, passed, finish, counted}
+use Rattle.group.specs.Written.{variableHead}
+use Rattle.group.proofs.Writing.{variable-parts, variable-long}
 use Rattle.laws.proofs.NameLaws.{digits-few}
 use Rattle.rule.specs.Elements.{countAt}
 use Rattle.rule.specs.ElementFields.{elementIn}
@@ -40,18 +41,21 @@ pub unnamed-base : {base : Base} → base ≡ El → (s : List ℕ) → (length 
 unnamed-base e s = rw e (refl, omega arith)
 
 -- The field of a new variable.
-pub variable-parts : (s : List ℕ) (type : ℕ) (base : Base) (number : ℕ) {len : ℕ} → len ≡ length (baseBytes s base ++ decimal number)
-    → (headBytes letterW (2 + len) ++ twoBytes type) ++ (baseBytes s base ++ decimal number) ≡ variableBytes s type base number
-unfolding variableBytes fieldBytes variableField
-variable-parts s type base number e = let n : 2 + length (baseBytes s base ++ decimal number) ≡ suc (suc (length (baseBytes s base ++ decimal number))) = omega arith in rw (e, n)
+pub variable-put : (s : List ℕ) (type : ℕ) (base : Base) (number : ℕ) {out₀ out₁ out : List ℕ} {len at r : ℕ}
+    → len ≡ length (baseBytes s base ++ decimal number) → Put out₀ out₁ (variableHead type len) 0 at
+    → Put out₁ out (baseBytes s base ++ decimal number) at r → Put out₀ out (variableBytes s type base number) 0 r
+unfolding variableBytes
+variable-put s type base number e p q = rw (← (variable-parts (record { type = type; name = baseBytes s base ++ decimal number }) e)) (then p q)
 
 -- Nothing of it fits: it is counted by its name's length.
 pub variable-counted : (s : List ℕ) (type : ℕ) (base : Base) (number : ℕ) (out : List ℕ) {at len r : ℕ} → len ≡ length (baseBytes s base ++ decimal number)
     → r ≡ capped (at + (5 + len)) → length out ≤ at → Put out out (variableBytes s type base number) at r
-unfolding variableBytes fieldBytes variableField
-variable-counted s type base number out e z h = counted out _ _ (omega arith) (omega arith)
+unfolding variableBytes
+variable-counted s type base number out e z h =
+    let n = variable-long (record { type = type; name = baseBytes s base ++ decimal number }) in counted out _ _ (omega arith) (omega arith)
 
-pub variable-bytes : (s : List ℕ) (k number : ℕ) (base : Base) (e : Element) {type n : ℕ} → baseBytes s base ≡ baseName (structureIn s k) n → n ≡ e .number → type ≡ e .type
+pub variable-bytes : (s : List ℕ) (k number : ℕ) (base : Base) (e : Element) {type n : ℕ} → baseBytes s base ≡ baseName (structureIn s k) n → n ≡ e .number
+    → type ≡ e .type
     → variableBytes s type base number ≡ fieldBytes (variableField (newVariable (structureIn s k) number e))
 unfolding variableBytes newVariable
 variable-bytes s k number base e b n t = rw (t, b, n)
@@ -73,10 +77,12 @@ pub record Printing (out₀ out : List ℕ) (st : Structure) (first : ℕ) (row 
 pub printing : (out : List ℕ) (st : Structure) (first : ℕ) (row : List ℕ) (from : ℕ) → from ≤ countLimit → Printing out out st first row from from first 0
 printing out st first row from h = record { few = omega arith; left = rw (new-all st first row); writing = begin out from h }
 
-module _ {s index : List ℕ} {k : ℕ} (l : Laid s index k) {out₀ out : List ℕ} {first : ℕ} {row : List ℕ} {from at number count i : ℕ} (e : count ≡ countAt index k)
+module _ {s index : List ℕ} {k : ℕ} (l : Laid s index k) {out₀ out : List ℕ} {first : ℕ} {row : List ℕ} {from at number count i : ℕ}
+    (e : count ≡ countAt index k)
     (long : length (structureIn s k .elements) ≤ length row) (w : Printing out₀ out (structureIn s k) first row from at number i) where
   pub printing-on : i < count → first ≤ getD row i 0 → {out′ : List ℕ} {r : ℕ}
-      → Put out out′ (fieldBytes (variableField (newVariable (structureIn s k) number (elementIn s index k i)))) at r → Printing out₀ out′ (structureIn s k) first row from r (number + 1) (i + 1)
+      → Put out out′ (fieldBytes (variableField (newVariable (structureIn s k) number (elementIn s index k i)))) at r
+          → Printing out₀ out′ (structureIn s k) first row from r (number + 1) (i + 1)
   unfolding fieldsFrom recordBytes joined each
   printing-on h g p =
       let f = w .few in let q = w .left in

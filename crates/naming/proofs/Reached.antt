@@ -7,11 +7,11 @@ use mathlib.Core.Logic.{_⊎_, inl, inr}
 use mathlib.Core.Path.{_≡_, sym, _∙_, ap}
 use lib.ListN.{length, getD, set, length-append, length-set, List·getD-append, List·getD-eq-default}
 use lib.Seq.{sets, append-snoc, getD-append-seam, getD-set-same, getD-set-other}
-use Rattle.definition.specs.Base.{each}
+use Rattle.definition.specs.Base.{each, given}
 use Rattle.definition.specs.Group.{Variable}
 use Rattle.definition.specs.Kinds.{typeIn}
 use Rattle.definition.specs.Names.{numbersOf, numbered, newVariables}
-use Rattle.definition.specs.Rows.{given, inImage}
+use Rattle.definition.specs.Rows.{inImage}
 use Rattle.definition.specs.Rule.{Structure}
 use Rattle.laws.proofs.Lists.{trichotomy}
 use Rattle.rows.specs.Kernel.{TypesOf}
@@ -33,7 +33,8 @@ module _ (st : Structure) {next : ℕ} {taken : List (Option ℕ)} (t : TakenBel
 
 -- Those that were taken over are the images.
 pub images-taken : {s row : List ℕ} {src tgt next : ℕ} {m : Map} → Joins s src tgt m → GivenOut (structureIn s src) row next
-    → each given (keptIn next (length (structureIn s tgt .elements)) (rowOf (numbered next (takenOver s row src tgt m)))) ≡ each (inImage (pairsIn s m)) (numbersOf (structureIn s tgt))
+    → each given (keptIn next (length (structureIn s tgt .elements)) (rowOf (numbered next (takenOver s row src tgt m))))
+        ≡ each (inImage (pairsIn s m)) (numbersOf (structureIn s tgt))
 images-taken {s} {row} {src} {tgt} {m = m} j g =
     let l = length-carried (structureIn s src) (structureIn s tgt) (variablesIn (structureIn s src) row) (pairsIn s m) in
     rw (kept-row (taken-below j g) l) (given-images (structureIn s src) (structureIn s tgt) (variablesIn (structureIn s src) row) (pairsIn s m))
@@ -47,7 +48,8 @@ module _ {table : List Variable} {types : List ℕ} (t : TypesOf table types) (x
   unfolding typeIn
   one-more = record { same = λ v h. go v (rw length-set at h) (trichotomy v (length table)) }
     where
-      go : (v : ℕ) → v < length types → (v < length table) ⊎ ((v ≡ length table) ⊎ (length table < v)) → getD (set types (length table) (x .type)) v 0 ≡ getD (table ++ (x ∷ [])) v noVariable .type
+      go : (v : ℕ) → v < length types → (v < length table) ⊎ ((v ≡ length table) ⊎ (length table < v))
+          → getD (set types (length table) (x .type)) v 0 ≡ getD (table ++ (x ∷ [])) v noVariable .type
       go v h (inl l) = getD-set-other types (length table) v (x .type) 0 (λ e. omega arith) ∙ t .same v h ∙ rw (List·getD-append table (x ∷ []) noVariable v l)
       go v h (inr (inl e)) = rw (e, getD-set-same types (length table) (x .type) 0 fits, getD-append-seam table x [] noVariable)
       go v h (inr (inr l)) =

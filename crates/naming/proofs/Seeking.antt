@@ -82,4 +82,5 @@ lists-end st e list h = let k : 2 - list ≡ 0 = omega arith in rw k
 -- The base is the first name over both lists, or `el`.
 pub base-is : (st : Structure) (e : ℕ) {o : Option (List ℕ)} → inLists st e 2 1 ≡ o → baseName st e ≡ orDefault o el
 unfolding inLists baseName
-base-is st e q = rw (← q) (ap (λ (o : Option (List ℕ)). orDefault (orElse (firstName e (st .variableNames)) o) el) (sym (or-none (firstName e (st .identifierNames)))))
+base-is st e q = rw (← q)
+    (ap (λ (o : Option (List ℕ)). orDefault (orElse (firstName e (st .variableNames)) o) el) (sym (or-none (firstName e (st .identifierNames)))))

@@ -46,7 +46,8 @@ unfolding each
 blank [] = refl
 blank (y ∷ ys) = rw (blank ys)
 
-pub empty-row : {A : Type 0} (xs : List A) → length xs ≤ fieldLimit → replicate fieldLimit noVar ≡ rowOf (each entryOf (each {B = Option ℕ} (λ (x : A). none) xs))
+pub empty-row : {A : Type 0} (xs : List A) → length xs ≤ fieldLimit
+    → replicate fieldLimit noVar ≡ rowOf (each entryOf (each {B = Option ℕ} (λ (x : A). none) xs))
 unfolding rowOf
 empty-row xs h =
     let e : length xs + (fieldLimit - length xs) ≡ fieldLimit = omega arith in

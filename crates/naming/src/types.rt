@@ -26,7 +26,8 @@ pub fn type_variables(
     requires { ⌜ Laid (now s) (now index) k ⌝ }
     requires { ⌜ ByteTypes (structureIn (now s) k) ⌝ }
     requires { ⌜ first + fieldLimit ≤ length (now types) ⌝ }
-    ensures { λ r. ⌜ now (types .exit) ≡ sets (now (types .entry)) first (each (λ (v : definition.Variable). v .type) (newIn (structureIn (now (s .entry)) k) first row)) ⌝ }
+    ensures { λ r. ⌜ now (types .exit)
+        ≡ sets (now (types .entry)) first (each (λ (v : definition.Variable). v .type) (newIn (structureIn (now (s .entry)) k) first row)) ⌝ }
 {
     let count = element_count(index, k);
     let mut number = place(first);

@@ -18,14 +18,14 @@ ghost use Rattle.naming.specs.Variables.{newIn};
 ghost use Rattle.naming.specs.Bases.{baseBytes, Fits, variableBytes};
 use crate::bases::Base;
 use crate::bases::el_base_name;
+use group::ids::BEFORE_NAME;
+use group::write::put_variable_head;
 use records::fields::place;
 use records::write::digits;
 use records::write::past;
 use records::write::put_byte;
 use records::write::put_bytes;
 use records::write::put_decimal;
-use records::write::put_field_head;
-use records::write::put_num;
 use rule::elements::element_count;
 use rule::elements::read_element;
 use rule::ids::FIELDS;
@@ -33,8 +33,6 @@ use rule::ids::RULE_INDEX;
 use rule::names::rule_index;
 use rule::names::rule_name;
 use signature::ids::TypeId;
-
-pub const LETTER_W: u8 = b'W';
 
 // The length of `el`.
 const EL_BYTES: usize = 2;
@@ -85,13 +83,9 @@ fn put_variable(out: &mut [u8], s: &[u8], t: TypeId, base: Base, number: u16) ->
     requires { ⌜ Fits (now s) base ⌝ }
     ensures { λ r. ⌜ Put (now (out .entry)) (now (out .exit)) (variableBytes (now (s .entry)) (t .0) base number) 0 r ⌝ }
 {
-    let head = put_field_head(out, 0, LETTER_W, 2 + name_length(s, base, number));
-    let at = put_num(out, head, t.0);
+    let at = put_variable_head(out, 0, t, name_length(s, base, number));
     put_name(out, at, s, base, number)
 }
-
-// The bytes of a W field that stand before the name: the letter, two of the length, two of the type.
-const BEFORE_NAME: usize = 5;
 
 // The W field of an element's new variable, written into the rest of the buffer from its own start. Where nothing of it fits it is
 // only counted.
@@ -106,7 +100,8 @@ fn put_new_variable(
 ) -> usize
     requires { ⌜ (at ≤ countLimit) × (i < countAt (now index) k) ⌝ }
     requires { ⌜ Laid (now s) (now index) k ⌝ }
-    ensures { λ r. ⌜ Put (now (out .entry)) (now (out .exit)) (fieldBytes (variableField (newVariable (structureIn (now (s .entry)) k) number (elementIn (now (s .entry)) (now (index .entry)) k i)))) at r ⌝ }
+    ensures { λ r. ⌜ Put (now (out .entry)) (now (out .exit))
+        (fieldBytes (variableField (newVariable (structureIn (now (s .entry)) k) number (elementIn (now (s .entry)) (now (index .entry)) k i)))) at r ⌝ }
 {
     let e = read_element(s, index, k, i);
     let base = el_base_name(s, index, k, e.number);
@@ -130,7 +125,8 @@ pub fn put_variables(
     requires { ⌜ from ≤ countLimit ⌝ }
     requires { ⌜ Laid (now s) (now index) k ⌝ }
     requires { ⌜ (now next + fieldLimit ≤ variableLimit) × (length (structureIn (now s) k .elements) ≤ length (now row)) ⌝ }
-    ensures { λ r. ⌜ Put (now (out .entry)) (now (out .exit)) (recordBytes (each variableField (newIn (structureIn (now (s .entry)) k) (now (next .entry)) (now (row .entry))))) from r ⌝ }
+    ensures { λ r. ⌜ Put (now (out .entry)) (now (out .exit))
+        (recordBytes (each variableField (newIn (structureIn (now (s .entry)) k) (now (next .entry)) (now (row .entry))))) from r ⌝ }
     ensures { λ r. ⌜ now (next .exit) ≡ now (next .entry) + length (newIn (structureIn (now (s .entry)) k) (now (next .entry)) (now (row .entry))) ⌝ }
 {
     let first = *next;
@@ -172,7 +168,7 @@ pub fn put_rule_name(out: &mut [u8], from: usize, s: &[u8], count: u16) -> usize
     put_decimal(out, at, count)
 }
 
-// The lengths of the two.
+// How many bytes the group's name has, and a rule's.
 pub fn group_name_length(s: &[u8]) -> u16
     requires { ⌜ Headed (now s) ⌝ }
     ensures { λ r. ⌜ (r ≡ length (groupName (ruleAt (now (s .entry))))) × (r < 256) ⌝ }

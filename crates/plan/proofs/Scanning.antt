@@ -49,7 +49,8 @@ module _ {A : Type 0} {s : List ℕ} {of : Field → A} {least to at : ℕ} {xs 
       values-next = let b = run-got (w .run) lt e in record {
         rest = each of (b .rest);
         same = w .same ∙ ap (each of) (b .same);
-        values = record { fields = b .rest; run = b .run; long = long-rest least (fieldOf s letter start len) (b .rest) (rw (b .same) at (w .long)); same = refl };
+        values = record { fields = b .rest; run = b .run; long = long-rest least (fieldOf s letter start len) (b .rest) (rw (b .same) at (w .long)); same =
+            refl };
       }
 
 -- The M, the K and the X fields.
@@ -87,7 +88,8 @@ pub record Asking {A B : Type 0} (s : List ℕ) (of : Field → A) (least : ℕ)
   pub values : Values s of least to at rest
   pub left : ask all ≡ ask rest
 
-pub asking : {A B : Type 0} {s : List ℕ} {of : Field → A} {least to at : ℕ} {all : List A} (ask : List A → B) → Values s of least to at all → Asking s of least ask all to at
+pub asking : {A B : Type 0} {s : List ℕ} {of : Field → A} {least to at : ℕ} {all : List A} (ask : List A → B) → Values s of least to at all
+    → Asking s of least ask all to at
 asking {all = all} ask w = record { rest = all; values = w; left = refl }
 
 module _ {A B : Type 0} {s : List ℕ} {of : Field → A} {least to at : ℕ} {ask : List A → B} {all : List A} (w : Asking s of least ask all to at) where

@@ -5,10 +5,9 @@ use mathlib.Core.List.{List, [], _∷_}
 use mathlib.Core.Option.{Option, none, some}
 use mathlib.Core.Path.{_≡_, refl, sym, _∙_}
 use borrow.Author.Tests.{eq-eqb, ne-eqb}
-use Rattle.definition.specs.Base.{any, firstOf}
+use Rattle.definition.specs.Base.{any, firstOf, given}
 use Rattle.definition.specs.Rule.{Map, Kind, Auxiliary}
-use Rattle.definition.specs.Rows.{given}
-use Rattle.definition.specs.Walk.{incomingSource, pairsBetween, found}
+use Rattle.definition.specs.Walk.{incomingSource, pairsBetween}
 use Rattle.rule.specs.Lookup.{FindsMap}
 use Rattle.rule.specs.declared.lookup.MapFound.{MapFound}
 use Rattle.rule.specs.declared.lookup.MapFound.the-variants as map
@@ -21,7 +20,8 @@ use Rattle.plan.specs.declared.sources.Source.the-variants.{At, Nothing}
 abbrev pub into : ℕ → List Map → Option ℕ
 into t maps = incomingSource maps t
 
-pub source-here : (t : ℕ) (m : Map) {target source : ℕ} → target ≡ m .target → source ≡ m .source → target ≡ t → (rest : List Map) → into t (m ∷ rest) ≡ some source
+pub source-here : (t : ℕ) (m : Map) {target source : ℕ} → target ≡ m .target → source ≡ m .source → target ≡ t → (rest : List Map)
+    → into t (m ∷ rest) ≡ some source
 unfolding incomingSource firstOf
 source-here t m p q e rest = rw (eq-eqb (m .target) t (sym p ∙ e), q)
 
@@ -47,9 +47,10 @@ module _ (maps : List Map) (x : Auxiliary) {t : ℕ} {r : Source} (p : t ≡ x .
   unmapped-behind e rest = rw (← p, ← q, e)
 
 abbrev pub noMap : List Map → Kind → Bool
-noMap maps k = not (found (pairsBetween maps (k .source) (k .target)))
+noMap maps k = not (given (pairsBetween maps (k .source) (k .target)))
 
-module _ (maps : List Map) (k : Kind) {s : List ℕ} {u t : ℕ} {r : MapFound} (p : u ≡ k .source) (q : t ≡ k .target) (w : FindsMap r s (pairsBetween maps u t)) where
+module _ (maps : List Map) (k : Kind) {s : List ℕ} {u t : ℕ} {r : MapFound} (p : u ≡ k .source) (q : t ≡ k .target)
+    (w : FindsMap r s (pairsBetween maps u t)) where
   pub no-map-here : r ≡ map.Nothing → (rest : List Kind) → any (noMap maps) (k ∷ rest) ≡ true
   unfolding any
   no-map-here e rest = rw (← p, ← q, found-none (rw e at w))

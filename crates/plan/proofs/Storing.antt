@@ -16,7 +16,8 @@ use Rattle.laws.specs.KindTable.{kindOfPair, kindAt}
 use Rattle.plan.specs.Table.{kindIn, Tabled, Adds}
 use Rattle.plan.proofs.Scanning.{Values, values-end, values-next}
 use Rattle.rule.proofs.SoundParts.{sound-kind, sound-auxiliary, structures-few}
-use Rattle.plan.proofs.TableLaws.{tabled-as, or-none, or-or}
+use Rattle.laws.proofs.Choices.{or-none, or-assoc}
+use Rattle.plan.proofs.TableLaws.{tabled-as}
 
 -- The kinds of `done` are in the table, those of `rest` are left; what they name is there.
 pub record Storing (s : List ℕ) (to at : ℕ) (table : List (List ℕ)) : Type 0 where
@@ -27,7 +28,8 @@ pub record Storing (s : List ℕ) (to at : ℕ) (table : List (List ℕ)) : Type
   pub named : (k : Kind) → k ∈ rest → (k .source < structureLimit) × (k .target < structureLimit)
   pub left : (u t : ℕ) → kindAt (ruleAt s .kinds) u t ≡ orElse (kindAt done u t) (kindAt rest u t)
 
-pub store-start : {s index : List ℕ} {to at : ℕ} {table : List (List ℕ)} → Ready s index → Tabled table [] → Values s kindOf 5 to at (ruleAt s .kinds) → Storing s to at table
+pub store-start : {s index : List ℕ} {to at : ℕ} {table : List (List ℕ)} → Ready s index → Tabled table [] → Values s kindOf 5 to at (ruleAt s .kinds)
+    → Storing s to at table
 unfolding kindAt firstOf
 store-start {s} r w v = record {
   done = [];
@@ -50,12 +52,14 @@ module _ {s : List ℕ} {to at : ℕ} {table : List (List ℕ)} (w : Storing s t
     pub store-named : {u t : ℕ} → u ≡ kind .source → t ≡ kind .target → (u < structureLimit) × (t < structureLimit)
     store-named p q = let n = values-next (w .values) lt e in rw (p, q) (w .named kind (rw (n .same) (List·Memᴰ·head refl)))
 
-    kind-next : (rest : List Kind) → w .rest ≡ kind ∷ rest → (u t : ℕ) → kindAt (ruleAt s .kinds) u t ≡ orElse (kindAt (addPair (w .done) kind) u t) (kindAt rest u t)
+    kind-next : (rest : List Kind) → w .rest ≡ kind ∷ rest → (u t : ℕ)
+        → kindAt (ruleAt s .kinds) u t ≡ orElse (kindAt (addPair (w .done) kind) u t) (kindAt rest u t)
     unfolding kindAt firstOf
     kind-next rest q u t =
-        w .left u t ∙ rw (q, added-at (w .done) kind u t) (sym (or-or (kindAt (w .done) u t) (kindOfPair u t kind) (kindAt rest u t)))
+        w .left u t ∙ rw (q, added-at (w .done) kind u t) (sym (or-assoc (kindAt (w .done) u t) (kindOfPair u t kind) (kindAt rest u t)))
 
-    pub store-next : {more : List (List ℕ)} {u t n : ℕ} → u ≡ kind .source → t ≡ kind .target → kindIn n ≡ some (kind .kind) → Adds table more u t n → Storing s to next more
+    pub store-next : {more : List (List ℕ)} {u t n : ℕ} → u ≡ kind .source → t ≡ kind .target → kindIn n ≡ some (kind .kind) → Adds table more u t n
+        → Storing s to next more
     store-next p q m a = let n = values-next (w .values) lt e in record {
       done = addPair (w .done) kind;
       rest = n .rest;
@@ -78,7 +82,8 @@ pub record Completing (s : List ℕ) (to at : ℕ) (table : List (List ℕ)) : T
   pub named : (x : Auxiliary) → x ∈ rest → x .structure < structureLimit
   pub left : completed (ruleAt s .maps) (ruleAt s .kinds) (ruleAt s .auxiliaries) ≡ completed (ruleAt s .maps) done rest
 
-pub complete-start : {s index : List ℕ} {to at : ℕ} {table : List (List ℕ)} → Ready s index → Tabled table (ruleAt s .kinds) → Values s auxiliaryOf 3 to at (ruleAt s .auxiliaries) → Completing s to at table
+pub complete-start : {s index : List ℕ} {to at : ℕ} {table : List (List ℕ)} → Ready s index → Tabled table (ruleAt s .kinds)
+    → Values s auxiliaryOf 3 to at (ruleAt s .auxiliaries) → Completing s to at table
 complete-start {s} r w v = record {
   done = ruleAt s .kinds;
   rest = ruleAt s .auxiliaries;
@@ -100,7 +105,8 @@ module _ {s : List ℕ} {to at : ℕ} {table : List (List ℕ)} (w : Completing 
     pub complete-named : {t : ℕ} → t ≡ auxiliary .structure → t < structureLimit
     complete-named q = let n = values-next (w .values) lt e in rw q (w .named auxiliary (rw (n .same) (List·Memᴰ·head refl)))
 
-    pub complete-next : {more : List (List ℕ)} {u t class n : ℕ} → t ≡ auxiliary .structure → u ≡ orDefault (incomingSource (ruleAt s .maps) t) 0 → class ≡ auxiliary .class
+    pub complete-next : {more : List (List ℕ)} {u t class n : ℕ} → t ≡ auxiliary .structure → u ≡ orDefault (incomingSource (ruleAt s .maps) t) 0
+        → class ≡ auxiliary .class
         → kindIn n ≡ some (auxiliaryKind class) → Adds table more u t n → Completing s to next more
     unfolding completed
     complete-next q p c m a = let n = values-next (w .values) lt e in record {

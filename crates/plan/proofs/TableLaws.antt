@@ -15,6 +15,7 @@ use Rattle.definition.specs.Limits.{structureLimit}
 use Rattle.definition.specs.Rule.{Kind, MorphismKind, If, SurjThen, NonSurjThen, Noop}
 use Rattle.definition.specs.Walk.{ofPair, addPair}
 use Rattle.laws.proofs.KindTable.{added-at}
+use Rattle.laws.proofs.Choices.{or-none}
 use Rattle.laws.proofs.Lists.{and-left, and-right}
 use Rattle.laws.specs.KindTable.{kindAt}
 use Rattle.plan.specs.Table.{kindIn, entryAt, Tabled}
@@ -41,16 +42,9 @@ unfolding kindAt firstOf
 empty-table = record {
   long = length-replicate structureLimit (replicate {A = ℕ} structureLimit 4);
   wide = λ u h. rw (getD-replicate structureLimit u (replicate {A = ℕ} structureLimit 4) [] h) (length-replicate {A = ℕ} structureLimit 4);
-  same = λ u t h l. rw (getD-replicate structureLimit u (replicate {A = ℕ} structureLimit 4) [] h, getD-replicate {A = ℕ} structureLimit t 4 0 l) (kind-none 4 (omega arith));
+  same = λ u t h l. rw (getD-replicate structureLimit u (replicate {A = ℕ} structureLimit 4) [] h, getD-replicate {A = ℕ} structureLimit t 4 0 l)
+      (kind-none 4 (omega arith));
 }
-
-pub or-none : {A : Type 0} (o : Option A) → orElse o none ≡ o
-or-none none = refl
-or-none (some x) = refl
-
-pub or-or : {A : Type 0} (a b c : Option A) → orElse (orElse a b) c ≡ orElse a (orElse b c)
-or-or none b c = refl
-or-or (some x) b c = refl
 
 clash : {A B : Type 0} (x : A) → some x ≡ none → B
 clash x e = let z : _≡_ {A = ℕ} 0 1 = cc in absurd (omega arith)
@@ -59,7 +53,8 @@ clash x e = let z : _≡_ {A = ℕ} 0 1 = cc in absurd (omega arith)
 pub tabled-as : {table : List (List ℕ)} {ks js : List Kind} → Tabled table ks → ((u t : ℕ) → kindAt js u t ≡ kindAt ks u t) → Tabled table js
 tabled-as w e = record { long = w .long; wide = w .wide; same = λ u t h l. w .same u t h l ∙ sym (e u t) }
 
-module _ {table : List (List ℕ)} {ks : List Kind} (w : Tabled table ks) (k : Kind) {u t : ℕ} (hu : u < structureLimit) (ht : t < structureLimit) (p : u ≡ k .source) (q : t ≡ k .target) where
+module _ {table : List (List ℕ)} {ks : List Kind} (w : Tabled table ks) (k : Kind) {u t : ℕ} (hu : u < structureLimit) (ht : t < structureLimit)
+    (p : u ≡ k .source) (q : t ≡ k .target) where
   -- The pair has a kind.
   pub kept : entryAt table u t < 4 → Tabled table (addPair ks k)
   kept h = tabled-as w (λ i j. added-at ks k i j ∙ go i j (kindAt ks i j) refl (ofPair i j k) refl)

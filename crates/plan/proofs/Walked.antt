@@ -1,19 +1,19 @@
 -- The walked kinds by the table, and that each has a map.
-use Prim.Native.Nat.{ℕ, _+_, _<_}
+use Prim.Native.Nat.{ℕ, _<_}
 use native.Mathlib.Omega.{arith}
-use mathlib.Core.Bool.{Bool, true, false, not}
-use mathlib.Core.List.{List, [], _∷_, _++_, List·Memᴰ·head, List·Memᴰ·tail, List·Memᴰ·not-nil, List·Memᴰ·cases-cons, List·Memᴰ·append-cases, List·Memᴰ·eq-of-singleton}
+use mathlib.Core.Bool.{Bool, true, false}
+use mathlib.Core.List.{List, [], _∷_, _++_, List·Memᴰ·head, List·Memᴰ·tail, List·Memᴰ·not-nil, List·Memᴰ·cases-cons, List·Memᴰ·append-cases}
+use mathlib.Core.List.{List·Memᴰ·eq-of-singleton}
 use mathlib.Core.Logic.{_⊎_, inl, inr, ⊎-elim}
 use mathlib.Core.Option.{Option, none, some}
 use mathlib.Core.Path.{_≡_, refl, sym, ap}
 use lib.Dec.{eqb}
 use lib.ListN.{length}
-use borrow.Author.Tests.{eqb-true, eq-eqb}
-use Rattle.definition.specs.Base.{pick, orElse, orDefault, any, firstOf, _∈_}
-use Rattle.definition.specs.Rows.{given}
+use borrow.Author.Tests.{eqb-true, eq-eqb, not-false}
+use Rattle.definition.specs.Base.{pick, orElse, orDefault, any, firstOf, _∈_, given}
 use Rattle.definition.specs.Rule.{Map, Pair, Kind, MorphismKind, Auxiliary, Rule}
-use Rattle.definition.specs.Walk.{sourceInto, incomingSource, mapOfPair, pairsBetween, found, unmappedAuxiliary, unmappedKind, ofPair, addPair, completed}
-use Rattle.laws.proofs.Lists.{and-left, and-right, not-false, any-false, first-mem, picked}
+use Rattle.definition.specs.Walk.{sourceInto, incomingSource, mapOfPair, pairsBetween, unmappedAuxiliary, unmappedKind, ofPair, addPair, completed}
+use Rattle.laws.proofs.Lists.{and-left, and-right, any-false, first-mem, picked, never}
 use Rattle.rule.specs.Lookup.{Ready, ruleAt}
 use Rattle.laws.specs.KindTable.{kindOfPair, kindAt}
 use Rattle.plan.proofs.SourceLaws.{noSource, noMap}
@@ -42,20 +42,20 @@ completed-mem maps ks (x ∷ xs) m = ⊎-elim
     (λ a. inr (a .0, List·Memᴰ·tail (a .1), a .2)) (completed-mem maps (addPair ks (pairOf maps x)) xs m)
 
 -- A map among the maps is found.
-first-found : (f : Map → Option (List Pair)) (maps : List Map) {m : Map} → m ∈ maps → found (f m) ≡ true → found (firstOf f maps) ≡ true
+first-found : (f : Map → Option (List Pair)) (maps : List Map) {m : Map} → m ∈ maps → given (f m) ≡ true → given (firstOf f maps) ≡ true
 unfolding firstOf
 first-found f [] i h = absurd (List·Memᴰ·not-nil i)
 first-found f (x ∷ xs) {m} i h = go (f x) refl (⊎-elim (λ q. inl q) (λ t. inr (first-found f xs t h)) (List·Memᴰ·cases-cons i))
   where
-    go : (o : Option (List Pair)) → f x ≡ o → (m ≡ x) ⊎ (found (firstOf f xs) ≡ true) → found (orElse o (firstOf f xs)) ≡ true
+    go : (o : Option (List Pair)) → f x ≡ o → (m ≡ x) ⊎ (given (firstOf f xs) ≡ true) → given (orElse o (firstOf f xs)) ≡ true
     go (some ps) e c = refl
-    go none e c = ⊎-elim (λ q. let z : found (f x) ≡ true = rw (← q) h in let y : found none ≡ true = rw e at z in let v : _≡_ {A = ℕ} 0 1 = cc in absurd (omega arith)) (λ r. r) c
+    go none e c = ⊎-elim (λ q. let z : given (f x) ≡ true = rw (← q) h in never z (rw e)) (λ r. r) c
 
-source-found : (maps : List Map) (t : ℕ) → given (incomingSource maps t) ≡ true → found (pairsBetween maps (orDefault (incomingSource maps t) 0) t) ≡ true
+source-found : (maps : List Map) (t : ℕ) → given (incomingSource maps t) ≡ true → given (pairsBetween maps (orDefault (incomingSource maps t) 0) t) ≡ true
 unfolding incomingSource pairsBetween
 source-found maps t h = go (incomingSource maps t) refl h
   where
-    go : (o : Option ℕ) → incomingSource maps t ≡ o → given o ≡ true → found (pairsBetween maps (orDefault o 0) t) ≡ true
+    go : (o : Option ℕ) → incomingSource maps t ≡ o → given o ≡ true → given (pairsBetween maps (orDefault o 0) t) ≡ true
     go none e h = let z : _≡_ {A = ℕ} 0 1 = cc in absurd (omega arith)
     go (some u) e h =
         let r = first-mem (sourceInto t) maps e in
@@ -64,7 +64,7 @@ source-found maps t h = go (incomingSource maps t) refl h
 
 -- A pair that has a map, between two structures.
 pub record Mapped (rule : Rule) (u t : ℕ) : Type 0 where
-  pub has-map : found (pairsBetween (rule .maps) u t) ≡ true
+  pub has-map : given (pairsBetween (rule .maps) u t) ≡ true
   pub source-in : u < length (rule .structures)
   pub target-in : t < length (rule .structures)
 
@@ -76,7 +76,8 @@ module _ {s index : List ℕ} (w : Ready s index) (x21 : unmappedAuxiliary (rule
   member-mapped : (k : Kind) → k ∈ kindsAll (ruleAt s) → Mapped (ruleAt s) (k .source) (k .target)
   unfolding unmappedAuxiliary unmappedKind
   member-mapped k m = ⊎-elim
-      (λ a. let b = sound-kind w k a in record { has-map = not-false _ (any-false (noMap (ruleAt s .maps)) (ruleAt s .kinds) x22 a); source-in = b .0; target-in = b .1 })
+      (λ a. let b = sound-kind w k a in
+          record { has-map = not-false _ (any-false (noMap (ruleAt s .maps)) (ruleAt s .kinds) x22 a); source-in = b .0; target-in = b .1 })
       (λ a. mapped-as (ap (λ (j : Kind). j .source) (sym (a .2))) (ap (λ (j : Kind). j .target) (sym (a .2))) record {
         has-map = source-found (ruleAt s .maps) (a .0 .structure) (not-false _ (any-false (noSource (ruleAt s .maps)) (ruleAt s .auxiliaries) x21 (a .1)));
         source-in = lowest-in w (a .0 .structure);

@@ -114,7 +114,8 @@ fn stored(s: &[u8], index: &[u16; RULE_INDEX], table: &mut [[u8; STRUCTURES]; ST
 fn complete(s: &[u8], index: &[u16; RULE_INDEX], table: &mut [[u8; STRUCTURES]; STRUCTURES])
     requires { ⌜ Ready (now s) (now index) ⌝ }
     requires { ⌜ Tabled (now table) (ruleAt (now s) .kinds) ⌝ }
-    ensures { λ r. ⌜ Tabled (now (table .exit)) (completed (ruleAt (now (s .entry)) .maps) (ruleAt (now (s .entry)) .kinds) (ruleAt (now (s .entry)) .auxiliaries)) ⌝ }
+    ensures { λ r. ⌜ Tabled (now (table .exit))
+        (completed (ruleAt (now (s .entry)) .maps) (ruleAt (now (s .entry)) .kinds) (ruleAt (now (s .entry)) .auxiliaries)) ⌝ }
 {
     let auxiliaries = section_behind(s, index, PLACE_X);
     let mut at = auxiliaries.from;
@@ -141,7 +142,8 @@ fn complete(s: &[u8], index: &[u16; RULE_INDEX], table: &mut [[u8; STRUCTURES]; 
 pub fn kind_table(s: &[u8], index: &[u16; RULE_INDEX], table: &mut [[u8; STRUCTURES]; STRUCTURES])
     requires { ⌜ Ready (now s) (now index) ⌝ }
     requires { ⌜ Tabled (now table) [] ⌝ }
-    ensures { λ r. ⌜ Tabled (now (table .exit)) (completed (ruleAt (now (s .entry)) .maps) (ruleAt (now (s .entry)) .kinds) (ruleAt (now (s .entry)) .auxiliaries)) ⌝ }
+    ensures { λ r. ⌜ Tabled (now (table .exit))
+        (completed (ruleAt (now (s .entry)) .maps) (ruleAt (now (s .entry)) .kinds) (ruleAt (now (s .entry)) .auxiliaries)) ⌝ }
 {
     stored(s, index, table);
     complete(s, index, table);

@@ -5,16 +5,15 @@ use Prim.Native.Nat.{ℕ}
 use Rattle.definition.specs.Base.{Outcome, refused, onAccepted}
 use Rattle.definition.specs.Signature.{Signature, readSignature}
 use Rattle.signature.specs.Index.{signatureAt}
-use Rattle.signature.specs.Answers.{signatureReading, Usable}
+use Rattle.signature.specs.Answers.{signatureReading, Usable, refusalNumber}
 use Rattle.signature.specs.declared.ids.Counts.{Counts}
 use Rattle.signature.specs.declared.reader.Reading.{Reading}
 use Rattle.signature.specs.declared.reader.Reading.the-variants.{Sound, Refused}
-use Rattle.reading.specs.Verdicts.{numberOf}
 use Rattle.reading.specs.Answers.{Held}
 
 module _ (s index : List ℕ) {r : Reading} (read : signatureReading s index r ≡ readSignature s) where
   -- The signature was refused: that is the answer.
-  pub first-refused : {A : Type 0} (f : Signature → Outcome A) {n : ℕ} → r ≡ Refused n → refused (numberOf r) ≡ onAccepted (readSignature s) f
+  pub first-refused : {A : Type 0} (f : Signature → Outcome A) {n : ℕ} → r ≡ Refused n → refused (refusalNumber r) ≡ onAccepted (readSignature s) f
   first-refused f e = rw (← read, e)
 
   module _ {counts : Counts} (e : r ≡ Sound counts) where

@@ -16,7 +16,7 @@ use Rattle.reading.specs.declared.RuleReading.the-variants as ruleReadin
 use Rattle.reading.specs.declared.GroupReading.{GroupReading}
 use Rattle.reading.specs.declared.GroupReading.the-variants as groupReading
 
--- Refused with document 01's number, or accepted with what the record's fields say.
+-- Refused with document 01's number, or accepted with what the record's fields say. `RuleUsable` and `GroupUsable` tie the counts to them.
 abbrev pub ruleAnswer : List ℕ → RuleReading → Outcome Rule
 ruleAnswer s (ruleReading.Refused n) = refused n
 ruleAnswer s (ruleReading.Sound counts n) = accepted (ruleOf (rulePart s .fields))

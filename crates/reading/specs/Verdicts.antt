@@ -6,8 +6,6 @@ use Rattle.definition.specs.Base.{Outcome, refused, accepted, onAccepted}
 use Rattle.definition.specs.Signature.{Signature, readSignature}
 use Rattle.definition.specs.Rule.{Rule, readRule}
 use Rattle.definition.specs.Group.{Group, readGroup}
-use Rattle.signature.specs.declared.reader.Reading.{Reading}
-use Rattle.signature.specs.declared.reader.Reading.the-variants as signature
 use Rattle.reading.specs.declared.Verdict.{Verdict}
 use Rattle.reading.specs.declared.Verdict.the-variants.{Sound, Refused}
 
@@ -20,10 +18,6 @@ verdictOf (Refused n) = some n
 abbrev pub refusalOf : {A : Type 0} → Outcome A → Option ℕ
 refusalOf (refused n) = some n
 refusalOf (accepted a) = none
-
-abbrev pub numberOf : Reading → ℕ
-numberOf (signature.Sound counts) = 0
-numberOf (signature.Refused n) = n
 
 -- A signature and a rule read: 'all of the signature's refusals, then all of the rule's'.
 abbrev pub ruleRead : List ℕ → List ℕ → Outcome Rule

@@ -4,7 +4,7 @@ ghost use mathlib.Core.Path.{_≡_};
 ghost use lib.ListN.{length};
 ghost use Rattle.rule.specs.Layout.{ruleIndex};
 ghost use Rattle.group.specs.Index.{indexSize};
-ghost use Rattle.reading.specs.Verdicts.{numberOf, verdictOf, refusalOf, ruleRead, groupRead};
+ghost use Rattle.reading.specs.Verdicts.{verdictOf, refusalOf, ruleRead, groupRead};
 ghost use Rattle.reading.specs.Answers.{ruleAnswer, groupAnswer, RuleUsable, GroupUsable};
 use group::ids::GROUP_INDEX;
 use rule::ids::RULE_INDEX;
@@ -12,6 +12,7 @@ use signature::ids::Counts;
 use signature::ids::INDEX;
 use signature::reader::Reading;
 use signature::reader::read_signature;
+use signature::reader::refusal;
 
 pub enum RuleReading {
     Sound { counts: Counts, structures: usize },
@@ -32,17 +33,8 @@ pub enum Verdict {
     Refused(u8),
 }
 
-// The number of a refused signature.
-fn number(r: Reading) -> u8
-    ensures { λ n. ⌜ n ≡ numberOf r ⌝ }
-{
-    match r {
-        Reading::Sound(_) => 0,
-        Reading::Refused(n) => n,
-    }
-}
-
-// A signature and a rule; where both are accepted, the indexes hold where their fields stand.
+// A signature and a rule; where both are accepted, the indexes hold where their fields stand; else the entries of both are left free:
+// any may have been written, and only their number holds.
 // The index has the entries that its type says; a proof cannot tell that of a lent array, so the lender does.
 pub fn read_rule_into(
     sig: &[u8],
@@ -53,10 +45,11 @@ pub fn read_rule_into(
     requires { ⌜ length (now index) ≡ ruleIndex ⌝ }
     ensures { λ r. ⌜ ruleAnswer (now (s .entry)) r ≡ ruleRead (now (sig .entry)) (now (s .entry)) ⌝ }
     ensures { λ r. ⌜ RuleUsable (now (sig .entry)) (now (symbols .exit)) (now (s .entry)) (now (index .exit)) r ⌝ }
+    ensures { λ r. ⌜ (length (now (symbols .exit)) ≡ length (now (symbols .entry))) × (length (now (index .exit)) ≡ length (now (index .entry))) ⌝ }
 {
     let q = read_signature(sig, symbols);
     let Reading::Sound(counts) = q else {
-        return RuleReading::Refused(number(q));
+        return RuleReading::Refused(refusal(q));
     };
     match rule::reader::read_rule(sig, symbols, counts, s, index) {
         rule::reader::Reading::Sound { structures } => RuleReading::Sound { counts, structures },
@@ -74,10 +67,11 @@ pub fn read_group_into(
     requires { ⌜ length (now index) ≡ indexSize ⌝ }
     ensures { λ r. ⌜ groupAnswer (now (s .entry)) r ≡ groupRead (now (sig .entry)) (now (s .entry)) ⌝ }
     ensures { λ r. ⌜ GroupUsable (now (sig .entry)) (now (symbols .exit)) (now (s .entry)) (now (index .exit)) r ⌝ }
+    ensures { λ r. ⌜ (length (now (symbols .exit)) ≡ length (now (symbols .entry))) × (length (now (index .exit)) ≡ length (now (index .entry))) ⌝ }
 {
     let q = read_signature(sig, symbols);
     let Reading::Sound(counts) = q else {
-        return GroupReading::Refused(number(q));
+        return GroupReading::Refused(refusal(q));
     };
     match group::reader::read_group(sig, symbols, counts, s, index) {
         group::reader::Reading::Sound { variables, rules } => GroupReading::Sound {

@@ -1,6 +1,6 @@
 -- Loops along one or two stretches: what is left at an index, and a turn of each.
 use Prim.Native.Nat.{ℕ, suc, _+_, _≤_, _<_}
-use mathlib.Core.Bool.{Bool, true, false, _&&_}
+use mathlib.Core.Bool.{Bool, true, false, and-false}
 use mathlib.Core.List.{List, [], _∷_}
 use mathlib.Core.Path.{_≡_, refl, _∙_, ap}
 use lib.Dec.{eqb, ltb}
@@ -96,10 +96,6 @@ same-length [] [] h = absurd (h refl)
 same-length [] (y ∷ ys) h = refl
 same-length (x ∷ xs) [] h = refl
 same-length (x ∷ xs) (y ∷ ys) h = rw (same-length xs ys (λ e. h (ap suc e))) (and-false (eqb x y))
-  where
-    and-false : (b : Bool) → (b && false) ≡ false
-    and-false true = refl
-    and-false false = refl
 
 pub same-sizes : (s : List ℕ) (a m b n : ℕ) → (a + m ≤ length s) × (b + n ≤ length s) → (m ≡ n → ⊥) → sameList (stretch s a m) (stretch s b n) ≡ false
 same-sizes s a m b n h q = same-length (stretch s a m) (stretch s b n) (rw (length-stretch s a m (h .0), length-stretch s b n (h .1)) q)

@@ -23,7 +23,8 @@ pub one : {out₀ out s : List ℕ} {at start i : ℕ} → Copying out₀ out s 
     → Copying out₀ (set out (at + i) (getD s (start + i) 0)) s at start (i + 1)
 one {out₀} {out} {s} {at} {start} {i} h a b =
     let d : i < length (drop start s) = rw length-drop (omega arith) in
-    let e : set (paste out₀ at (drop start s) i) (at + i) (getD (drop start s) i 0) ≡ paste out₀ at (drop start s) (i + 1) = rw add-one (paste-suc out₀ at (drop start s) i 0 b d) in
+    let e : set (paste out₀ at (drop start s) i) (at + i) (getD (drop start s) i 0) ≡ paste out₀ at (drop start s) (i + 1) =
+        rw add-one (paste-suc out₀ at (drop start s) i 0 b d) in
     record { long = rw (length-set, h .long); same = cc (h .same, getD-drop start s i 0, e) }
 
 -- A stretch,

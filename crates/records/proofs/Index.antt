@@ -40,7 +40,8 @@ held-same s index index′ from (suc count) h =
 held-snoc : (s index : List ℕ) (from count : ℕ) → heldAt s index from (suc count) ≡ heldAt s index from count ++ (fieldIn s (getD index (from + count) 0) ∷ [])
 unfolding heldAt
 held-snoc s index from zero = rw (add-zero from)
-held-snoc s index from (suc count) = let e : from + suc count ≡ from + 1 + count = omega arith in rw e (ap (λ (fs : List Field). fieldIn s (getD index from 0) ∷ fs) (held-snoc s index (from + 1) count))
+held-snoc s index from (suc count) = let e : from + suc count ≡ from + 1 + count = omega arith in
+    rw e (ap (λ (fs : List Field). fieldIn s (getD index from 0) ∷ fs) (held-snoc s index (from + 1) count))
 
 -- One more position behind the others.
 pub held-store : (s index : List ℕ) (from count p : ℕ) → from + count < length index

@@ -49,7 +49,8 @@ module _ (s : List ℕ) (at : ℕ) where
   bad-is e = rw e at seen
 
 -- A field whose letter was tested.
-pub got-letter : (s : List ℕ) (at : ℕ) {l letter start len next : ℕ} → fieldAt s at ≡ Got l start len next → l ≡ letter → fieldAt s at ≡ Got letter start len next
+pub got-letter : (s : List ℕ) (at : ℕ) {l letter start len next : ℕ} → fieldAt s at ≡ Got l start len next → l ≡ letter
+    → fieldAt s at ≡ Got letter start len next
 got-letter s at e q = e ∙ rw q
 
 -- A byte at a position, and the rest; three bytes.
@@ -105,14 +106,16 @@ module _ (s : List ℕ) (at : ℕ) where
       let f : at + 3 ≤ length s = omega arith in
       let h : twoAt s (at + 1) ≤ length (drop (at + 3) s) = omega (arith, length-drop (at + 3) s) in
       let d : start + len ≡ next = g .next-is in
-      turn ∙ cc (three s at f, fit (length s) (getD s at 0) (getD s (at + 1) 0) (getD s (at + 1 + 1) 0) (drop (at + 3) s) h, drop-drop len start s, g .letter-is, g .start-is, g .len-is)
+      turn ∙ cc (three s at f, fit (length s) (getD s at 0) (getD s (at + 1) 0) (getD s (at + 1 + 1) 0) (drop (at + 3) s) h, drop-drop len start s,
+          g .letter-is, g .start-is, g .len-is)
 
   pub fields-end : length s ≤ at → fieldsAt s at ≡ end
   unfolding fieldsAt cut
   fields-end le = go (length s) (drop at s) (omega (arith, left))
     where
       go : (k : ℕ) (t : List ℕ) → length t ≤ 0 → cut k t ≡ end
-      go zero t z = refl
+      go zero [] z = refl
+      go zero (x ∷ t) z = absurd (omega arith)
       go (suc k) [] z = refl
       go (suc k) (x ∷ t) z = absurd (omega arith)
 

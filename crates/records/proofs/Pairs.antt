@@ -24,18 +24,24 @@ module _ (x w y z : ℕ) (hw : w < 256) (hz : z < 256) where
   less-two rest = go (ltb x y) (ltb y x) (ltb w z) (ltb z w) refl refl refl refl
     where
       go : (a b c d : Bool) → ltb x y ≡ a → ltb y x ≡ b → ltb w z ≡ c → ltb z w ≡ d
-          → pick (ltb (x * 256 + w) (y * 256 + z)) true (pick (ltb (y * 256 + z) (x * 256 + w)) false rest) ≡ pick a true (pick b false (pick c true (pick d false rest)))
+          → pick (ltb (x * 256 + w) (y * 256 + z)) true (pick (ltb (y * 256 + z) (x * 256 + w)) false rest)
+              ≡ pick a true (pick b false (pick c true (pick d false rest)))
       go true b c d p q r t = rw (lt-ltb (x * 256 + w) (y * 256 + z) (omega (arith, ltb-true)))
-      go false true c d p q r t = rw (le-ltb (x * 256 + w) (y * 256 + z) (omega (arith, ltb-true)), lt-ltb (y * 256 + z) (x * 256 + w) (omega (arith, ltb-true)))
+      go false true c d p q r t =
+          rw (le-ltb (x * 256 + w) (y * 256 + z) (omega (arith, ltb-true)), lt-ltb (y * 256 + z) (x * 256 + w) (omega (arith, ltb-true)))
       go false false true d p q r t = rw (lt-ltb (x * 256 + w) (y * 256 + z) (omega (arith, ltb-true, ltb-false)))
-      go false false false true p q r t = rw (le-ltb (x * 256 + w) (y * 256 + z) (omega (arith, ltb-true, ltb-false)), lt-ltb (y * 256 + z) (x * 256 + w) (omega (arith, ltb-true, ltb-false)))
-      go false false false false p q r t = rw (le-ltb (x * 256 + w) (y * 256 + z) (omega (arith, ltb-false)), le-ltb (y * 256 + z) (x * 256 + w) (omega (arith, ltb-false)))
+      go false false false true p q r t =
+          rw (le-ltb (x * 256 + w) (y * 256 + z) (omega (arith, ltb-true, ltb-false)),
+          lt-ltb (y * 256 + z) (x * 256 + w) (omega (arith, ltb-true, ltb-false)))
+      go false false false false p q r t =
+          rw (le-ltb (x * 256 + w) (y * 256 + z) (omega (arith, ltb-false)), le-ltb (y * 256 + z) (x * 256 + w) (omega (arith, ltb-false)))
 
 -- A test of two lists that goes member by member, and treats a number as its two bytes.
 module _ (test : List ℕ → List ℕ → Bool)
     (none-left : (a b : ℕ) (cs bs : List ℕ) → test [] (a ∷ cs) ≡ test [] (b ∷ bs))
     (none-right : (a b : ℕ) (cs bs : List ℕ) → test (a ∷ cs) [] ≡ test (b ∷ bs) [])
-    (two : (x w y z : ℕ) (xs ys ns ms : List ℕ) → w < 256 → z < 256 → test ns ms ≡ test xs ys → test ((x * 256 + w) ∷ ns) ((y * 256 + z) ∷ ms) ≡ test (x ∷ w ∷ xs) (y ∷ z ∷ ys)) where
+    (two : (x w y z : ℕ) (xs ys ns ms : List ℕ) → w < 256 → z < 256 → test ns ms ≡ test xs ys
+        → test ((x * 256 + w) ∷ ns) ((y * 256 + z) ∷ ms) ≡ test (x ∷ w ∷ xs) (y ∷ z ∷ ys)) where
   pairs : (xs ys : List ℕ) → Bytes xs → Bytes ys → length xs % 2 ≡ 0 → length ys % 2 ≡ 0 → test (numbers xs) (numbers ys) ≡ test xs ys
   unfolding numbers
   pairs [] [] p q e f = refl
@@ -57,7 +63,8 @@ module _ (s : List ℕ) (start len : ℕ) (h : start + len ≤ length s) where
   even =
       let l : length (numbers (stretch s start len)) ≤ len / 2 = omega (arith, length-numbers-in s start len h) in
       let d : 2 * (len / 2) ≡ len / 2 * 2 = omega arith in
-      sym (take-all (len / 2) (numbers (stretch s start len)) l) ∙ take-numbers (len / 2) (stretch s start len) ∙ rw (d, take-stretch s start len (len / 2 * 2) (omega arith))
+      sym (take-all (len / 2) (numbers (stretch s start len)) l) ∙ take-numbers (len / 2) (stretch s start len)
+          ∙ rw (d, take-stretch s start len (len / 2 * 2) (omega arith))
 
   even-length : length (stretch s start (len / 2 * 2)) % 2 ≡ 0
   even-length = let e : length (stretch s start (len / 2 * 2)) ≡ len / 2 * 2 = length-stretch s start (len / 2 * 2) (omega arith) in omega arith
@@ -73,10 +80,12 @@ stretch-bytes s start len h b i = go (ltb i len) refl
 
 module _ (s : List ℕ) (a m b n : ℕ) (h : (a + m ≤ length s) × (b + n ≤ length s)) (bytes : Bytes s) where
   -- A test of bytes that goes by pairs is one of numbers.
-  by-pairs : (test : List ℕ → List ℕ → Bool) → ((xs ys : List ℕ) → Bytes xs → Bytes ys → length xs % 2 ≡ 0 → length ys % 2 ≡ 0 → test (numbers xs) (numbers ys) ≡ test xs ys)
+  by-pairs : (test : List ℕ → List ℕ → Bool)
+      → ((xs ys : List ℕ) → Bytes xs → Bytes ys → length xs % 2 ≡ 0 → length ys % 2 ≡ 0 → test (numbers xs) (numbers ys) ≡ test xs ys)
       → test (stretch s a (m / 2 * 2)) (stretch s b (n / 2 * 2)) ≡ test (numbers (stretch s a m)) (numbers (stretch s b n))
   by-pairs test k = sym (rw (even s a m (h .0), even s b n (h .1))
-      (k (stretch s a (m / 2 * 2)) (stretch s b (n / 2 * 2)) (stretch-bytes s a (m / 2 * 2) (omega (arith, h .0)) bytes) (stretch-bytes s b (n / 2 * 2) (omega (arith, h .1)) bytes)
+      (k (stretch s a (m / 2 * 2)) (stretch s b (n / 2 * 2)) (stretch-bytes s a (m / 2 * 2) (omega (arith, h .0)) bytes)
+          (stretch-bytes s b (n / 2 * 2) (omega (arith, h .1)) bytes)
       (even-length s a m (h .0)) (even-length s b n (h .1))))
 
   pub less-numbers : less (stretch s a (m / 2 * 2)) (stretch s b (n / 2 * 2)) ≡ less (numbers (stretch s a m)) (numbers (stretch s b n))

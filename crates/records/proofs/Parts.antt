@@ -28,7 +28,8 @@ drop-mem (suc i) (y ∷ xs) e = List·Memᴰ·tail (drop-mem i xs e)
 -- A member stands at some place.
 pub mem-place : {A : Type 0} (xs : List A) (d : A) {x : A} → x ∈ xs → (i : ℕ) × (i < length xs) × (getD xs i d ≡ x)
 mem-place [] d m = absurd (List·Memᴰ·not-nil m)
-mem-place (y ∷ xs) d m = ⊎-elim (λ q. (0, omega arith, sym q)) (λ t. let r = mem-place xs d t in (suc (r .0), omega (arith, r .1), r .2)) (List·Memᴰ·cases-cons m)
+mem-place (y ∷ xs) d m =
+    ⊎-elim (λ q. (0, omega arith, sym q)) (λ t. let r = mem-place xs d t in (suc (r .0), omega (arith, r .1), r .2)) (List·Memᴰ·cases-cons m)
 
 -- Of a list no more is kept than it has.
 pub cons-few : {A : Type 0} (b : Bool) (x : A) (ys xs : List A) → length ys ≤ length xs → length (consIf b x ys) ≤ length (x ∷ xs)
@@ -47,7 +48,8 @@ pub record Apart {A : Type 0} (xs : List A) (i : ℕ) (x : A) (rest : List A) : 
   pub left : drop (i + 1) xs ≡ rest
 
 module _ {A : Type 0} where
-  apart-suc : (xs : List A) (i : ℕ) {x : A} {rest : List A} → drop i xs ≡ x ∷ rest → (i < length xs) × (take (suc i) xs ≡ take i xs ++ (x ∷ [])) × (drop (suc i) xs ≡ rest)
+  apart-suc : (xs : List A) (i : ℕ) {x : A} {rest : List A} → drop i xs ≡ x ∷ rest
+      → (i < length xs) × (take (suc i) xs ≡ take i xs ++ (x ∷ [])) × (drop (suc i) xs ≡ rest)
   apart-suc [] zero e = let z : _≡_ {A = ℕ} 0 1 = cc in absurd (omega arith)
   apart-suc [] (suc i) e = let z : _≡_ {A = ℕ} 0 1 = cc in absurd (omega arith)
   apart-suc (y ∷ xs) zero e = (omega arith, cc, cc)
@@ -100,16 +102,8 @@ module _ (xs ys es : List ℕ) (at : ℕ) (h : at ≤ length ys) (e : take (at +
 
   pub put-stretch : stretch xs at (length es) ≡ es
   unfolding stretch
-  put-stretch = within xs (at + length es) at (length es) (omega arith) ∙ rw (e, drop-at (take at ys) es at (length-take-le at ys h)) (take-all (length es) es (omega arith))
-
--- A test and one that is known.
-pub and-false : (b : Bool) → (b && false) ≡ false
-and-false true = refl
-and-false false = refl
-
-pub and-one : (b : Bool) → (b && true) ≡ b
-and-one true = refl
-and-one false = refl
+  put-stretch = within xs (at + length es) at (length es) (omega arith)
+      ∙ rw (e, drop-at (take at ys) es at (length-take-le at ys h)) (take-all (length es) es (omega arith))
 
 -- Two lists of one length, from a place on.
 module _ (xs ys : List ℕ) {n j : ℕ} (a : length xs ≡ n) (b : length ys ≡ n) where

@@ -21,10 +21,12 @@ counted out e at s h = record { size = s; long = refl; same = λ a b. absurd (om
 
 -- Bytes stored one behind the other.
 pub stored : (out e : List ℕ) (at : ℕ) {r : ℕ} → r ≡ capped (at + length e) → at + length e ≤ length out → Put out (sets out at e) e at r
-stored out e at s h = record { size = s; long = length-sets out at e; same = λ a b. sets-eq e out at h ∙ append-assoc (take at out) e (drop (at + length e) out) }
+stored out e at s h =
+    record { size = s; long = length-sets out at e; same = λ a b. sets-eq e out at h ∙ append-assoc (take at out) e (drop (at + length e) out) }
 
 -- The rest from `at` on was lent, or nothing where there is none.
-pub lent : {out ys e : List ℕ} {at lo k r : ℕ} → lo ≡ min at (length out) → Put (take (length out - lo) (drop lo out)) ys e 0 k → r ≡ capped (at + k) → at ≤ countLimit
+pub lent : {out ys e : List ℕ} {at lo k r : ℕ} → lo ≡ min at (length out) → Put (take (length out - lo) (drop lo out)) ys e 0 k → r ≡ capped (at + k)
+    → at ≤ countLimit
     → Put out (putMid lo (length out - lo) out ys) e at r
 lent {out} {ys} {e} {at} {lo} {k} {r} m p s b =
     let l : length (drop lo out) ≤ length out - lo = rw length-drop (omega arith) in
@@ -57,7 +59,8 @@ module _ {out₀ out₁ out₂ p q : List ℕ} {at r t : ℕ} (a : Put out₀ ou
       b .same (omega arith) (omega arith) ∙ rw (g, d, append-assoc, append-assoc)
 
   pub then : Put out₀ out₂ (p ++ q) at t
-  then = record { size = let k : length (p ++ q) ≡ length p + length q = length-append p q in omega (arith, a .size, b .size); long = b .long ∙ a .long; same = then-same }
+  then = record { size = let k : length (p ++ q) ≡ length p + length q = length-append p q in
+      omega (arith, a .size, b .size); long = b .long ∙ a .long; same = then-same }
 
 -- A writer under way: of `all`, `rest` is left.
 pub record Writing (out₀ out : List ℕ) (at₀ at : ℕ) (all rest : List ℕ) : Type 0 where

@@ -3,7 +3,8 @@
 // A case is a letter and parts, each part a four-byte length (high byte first) and its bytes. R: signature, rule. G: signature,
 // group. F: signature, rule, then four bytes of room. S: signature, group, then four bytes of position.
 // A part keeps its first 65,536 bytes; the others are read and dropped. A room above that is taken as 65,536. Input that ends
-// inside a case, or an unknown letter, ends the run with the line `bad case`.
+// inside a case, or an unknown letter, ends the run with the line `bad case`. A read that fails is answered like input that ends inside a
+// case, and told on standard error; a write that fails ends the run and is told there.
 ghost use Prim.Native.Nat.{_≤_, _<_};
 ghost use lib.ListN.{length};
 ghost use Rattle.replay.specs.Parts.{Within};
@@ -15,8 +16,12 @@ use reading::check_rule;
 use scope::answers::Scope;
 use scope::infer::owners;
 use scope::infer::scope;
+use streams::Input;
 
 const PART: usize = 65536;
+
+// How much is dropped at a time.
+const BLOCK: usize = 4096;
 
 // More cases than any input has: a loop ends by a number that falls.
 const CASES: u64 = 1_000_000_000_000;
@@ -33,45 +38,54 @@ fn wide(x: u8) -> usize
     x as usize
 }
 
+// Whether standard input filled a buffer.
+fn filled(buf: &mut [u8]) -> bool {
+    let size = buf.len();
+    let r = streams::read_full(buf, b"replay: standard input");
+    match r {
+        Input::Read(n) => n == size,
+        Input::Failed => false,
+    }
+}
+
 // A four-byte number.
 fn read_four() -> Four {
     let mut b = [0u8; 4];
-    let n = io::read_full(0, &mut b);
-    if n < 4 {
+    if !filled(&mut b) {
         return Four::Short;
     }
     Four::Number(((wide(b[0]) * 256 + wide(b[1])) * 256 + wide(b[2])) * 256 + wide(b[3]))
 }
 
-enum Dropped {
-    All,
-    Short,
-}
-
 enum Byte {
     Got(u8),
     End,
+    Failed,
 }
 
 fn read_byte() -> Byte {
     let mut b = [0u8; 1];
-    if io::read_full(0, &mut b) < 1 {
+    let r = streams::read_full(&mut b, b"replay: standard input");
+    let Input::Read(n) = r else {
+        return Byte::Failed;
+    };
+    if n == 0 {
         return Byte::End;
     }
     Byte::Got(b[0])
 }
 
-// Reads and drops so many bytes.
-fn drop_bytes(count: usize) -> Dropped {
+// Reads and drops so many bytes, a block at a time; whether they were there.
+fn drop_bytes(count: usize) -> bool {
+    let mut block = [0u8; BLOCK];
     let mut left = count;
-    while 0 < left {
-        let b = read_byte();
-        let Byte::Got(_) = b else {
-            return Dropped::Short;
-        };
-        left -= 1;
+    while BLOCK < left {
+        if !filled(&mut block) {
+            return false;
+        }
+        left -= BLOCK;
     }
-    Dropped::All
+    filled(&mut block[..left])
 }
 
 // A part that fills a buffer, and the rest of it dropped.
@@ -80,14 +94,13 @@ fn read_long(buf: &mut [u8], size: usize) -> Four
     ensures { λ r. ⌜ Within r (length (now (buf .exit))) ⌝ }
 {
     let kept = buf.len();
-    if io::read_full(0, buf) < kept {
+    if !filled(buf) {
         return Four::Short;
     }
-    let rest = drop_bytes(size - kept);
-    match rest {
-        Dropped::All => Four::Number(kept),
-        Dropped::Short => Four::Short,
+    if !drop_bytes(size - kept) {
+        return Four::Short;
     }
+    Four::Number(kept)
 }
 
 // A part into a buffer; its length, as far as it is kept.
@@ -102,27 +115,34 @@ fn read_part(buf: &mut [u8]) -> Four
         return read_long(buf, size);
     }
     let part = &mut buf[..size];
-    if io::read_full(0, part) < size {
+    if !filled(part) {
         return Four::Short;
     }
     Four::Number(size)
 }
 
-fn print_number(n: u8) {
-    io::write_all(1, b"refused ");
-    io::print_decimal(1, n as u64);
+// Each `print_..` answers whether all of it was written, and stops where it can't be.
+fn print(text: &[u8]) -> bool {
+    streams::write_all(text, b"replay: standard output")
 }
 
-fn print_refused(n: u8) {
-    print_number(n);
-    io::write_all(1, b"\n");
+fn print_decimal(n: u64) -> bool {
+    let mut text = [0u8; 20];
+    let k = io::decimal(n, &mut text);
+    print(&text[..k])
 }
 
-fn print_verdict(v: Verdict) {
+fn print_number(n: u8) -> bool {
+    print(b"refused ") && print_decimal(n as u64)
+}
+
+fn print_refused(n: u8) -> bool {
+    print_number(n) && print(b"\n")
+}
+
+fn print_verdict(v: Verdict) -> bool {
     match v {
-        Verdict::Sound => {
-            io::write_all(1, b"ok\n");
-        }
+        Verdict::Sound => print(b"ok\n"),
         Verdict::Refused(n) => print_refused(n),
     }
 }
@@ -136,32 +156,31 @@ fn digit(x: u8) -> u8 {
     b'a' - 10 + d
 }
 
-fn print_hex(s: &[u8]) {
+fn print_hex(s: &[u8]) -> bool {
     let mut i: usize = 0;
     while i < s.len() {
         let pair = [digit(s[i] / 16), digit(s[i])];
-        io::write_all(1, &pair);
+        if !print(&pair) {
+            return false;
+        }
         i += 1;
     }
+    true
 }
 
-fn print_scope(sig: &[u8], group: &[u8], position: usize) {
+fn print_model(model: u64, owners: &[u8]) -> bool {
+    print(b"model ") && print_decimal(model) && print(b" owners ") && print_hex(owners) && print(b"\n")
+}
+
+fn print_scope(sig: &[u8], group: &[u8], position: usize) -> bool {
     let r = scope(sig, group, position);
     match r {
-        Scope::Global => {
-            io::write_all(1, b"global\n");
-        }
+        Scope::Global => print(b"global\n"),
         Scope::Model {
             model,
             start: _,
             count: _,
-        } => {
-            io::write_all(1, b"model ");
-            io::print_decimal(1, model.0 as u64);
-            io::write_all(1, b" owners ");
-            print_hex(owners(sig, group, position));
-            io::write_all(1, b"\n");
-        }
+        } => print_model(model.0 as u64, owners(sig, group, position)),
         Scope::Refused(n) => print_refused(n),
     }
 }
@@ -191,64 +210,59 @@ fn kept(out: &[u8], from: usize) -> bool {
     true
 }
 
-fn print_kept(out: &[u8], from: usize) {
+fn print_kept(out: &[u8], from: usize) -> bool {
     if kept(out, from) {
-        io::write_all(1, b" kept\n");
-        return;
+        return print(b" kept\n");
     }
-    io::write_all(1, b" changed\n");
+    print(b" changed\n")
 }
 
-fn print_group(sig: &[u8], rule: &[u8], out: &mut [u8]) {
+fn print_group(sig: &[u8], rule: &[u8], out: &mut [u8]) -> bool {
     fill(out);
     let r = flatten(sig, rule, out);
     match r {
-        Flattened::Written(n) => {
-            io::write_all(1, b"ok ");
-            print_hex(&out[..n]);
-            print_kept(out, n);
-        }
-        Flattened::Refused(n) => {
-            print_number(n);
-            print_kept(out, 0);
-        }
+        Flattened::Written(n) => print(b"ok ") && print_hex(&out[..n]) && print_kept(out, n),
+        Flattened::Refused(n) => print_number(n) && print_kept(out, 0),
     }
 }
 
 // The front of a buffer, as much as is asked for and there.
-fn print_flattened(sig: &[u8], rule: &[u8], out: &mut [u8], room: usize) {
+fn print_flattened(sig: &[u8], rule: &[u8], out: &mut [u8], room: usize) -> bool {
     if out.len() <= room {
-        print_group(sig, rule, out);
-        return;
+        return print_group(sig, rule, out);
     }
-    print_group(sig, rule, &mut out[..room]);
+    print_group(sig, rule, &mut out[..room])
 }
 
 enum Case {
     Answered,
     Bad,
+    Unwritten,
+}
+
+fn answered(written: bool) -> Case {
+    if written {
+        return Case::Answered;
+    }
+    Case::Unwritten
 }
 
 // What is asked of a signature and a record, by the case's letter.
 fn respond(letter: u8, sig: &[u8], s: &[u8], out: &mut [u8]) -> Case {
     if letter == b'R' {
-        print_verdict(check_rule(sig, s));
-        return Case::Answered;
+        return answered(print_verdict(check_rule(sig, s)));
     }
     if letter == b'G' {
-        print_verdict(check_group(sig, s));
-        return Case::Answered;
+        return answered(print_verdict(check_group(sig, s)));
     }
     let f = read_four();
     let Four::Number(number) = f else {
         return Case::Bad;
     };
     if letter == b'F' {
-        print_flattened(sig, s, out, number);
-        return Case::Answered;
+        return answered(print_flattened(sig, s, out, number));
     }
-    print_scope(sig, s, number);
-    Case::Answered
+    answered(print_scope(sig, s, number))
 }
 
 fn known(letter: u8) -> bool {
@@ -274,6 +288,20 @@ fn answer(letter: u8, first: &mut [u8], second: &mut [u8], out: &mut [u8]) -> Ca
     respond(letter, &first[..m], &second[..n], out)
 }
 
+fn end_case(c: Case) {
+    let Case::Bad = c else {
+        return;
+    };
+    print(b"bad case\n");
+}
+
+fn end_run(b: Byte) {
+    let Byte::Failed = b else {
+        return;
+    };
+    print(b"bad case\n");
+}
+
 fn main() {
     let mut first = [0u8; PART];
     let mut second = [0u8; PART];
@@ -283,11 +311,12 @@ fn main() {
         left -= 1;
         let b = read_byte();
         let Byte::Got(letter) = b else {
+            end_run(b);
             return;
         };
         let c = answer(letter, &mut first, &mut second, &mut out);
         let Case::Answered = c else {
-            io::write_all(1, b"bad case\n");
+            end_case(c);
             return;
         };
     }

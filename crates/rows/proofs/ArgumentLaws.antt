@@ -2,7 +2,7 @@
 use Prim.Native.Nat.{ℕ, zero, suc, _+_, _≤_, _<_}
 use native.Mathlib.Omega.{arith}
 use native.Mathlib.Decide.{ℕ-discrete}
-use mathlib.Core.Bool.{Bool, true, false, _||_}
+use mathlib.Core.Bool.{Bool, true, false, _||_, or-true, or-false}
 use mathlib.Core.List.{List, [], _∷_, _++_, append-nil, append-assoc}
 use mathlib.Core.Logic.{⊎-elim}
 use mathlib.Core.Path.{_≡_, refl, sym, _∙_}
@@ -42,14 +42,6 @@ has-more x seen e = any-append (λ (m : ℕ). eqb m x) seen (e ∷ []) ∙ go (e
     go true = refl
     go false = refl
 
-or-true : (b : Bool) → (b || true) ≡ true
-or-true true = refl
-or-true false = refl
-
-pub or-none : (b : Bool) → (b || false) ≡ b
-or-none true = refl
-or-none false = refl
-
 has-get : (xs : List ℕ) (j : ℕ) → j < length xs → has (getD xs j 0) xs ≡ true
 unfolding has any
 has-get [] j l = absurd (omega arith)
@@ -63,7 +55,7 @@ has-get (x ∷ xs) (suc j) l = go (eqb x (getD xs j 0)) (has-get xs j (omega ari
 -- Marks with one more seen: no element, or that at a place.
 module _ {flags : List Bool} {els seen : List ℕ} (m : Marks flags els seen) {e : ℕ} where
   unmarked : (j : ℕ) → j < length els → (e ≡ getD els j 0 → ⊥) → getD flags j false ≡ has (getD els j 0) (seen ++ (e ∷ []))
-  unmarked j l d = m .at j l ∙ sym (has-more (getD els j 0) seen e ∙ rw (ne-eqb e (getD els j 0) d) (or-none (has (getD els j 0) seen)))
+  unmarked j l d = m .at j l ∙ sym (has-more (getD els j 0) seen e ∙ rw (ne-eqb e (getD els j 0) d) (or-false (has (getD els j 0) seen)))
 
   pub mark-none : Finds Nothing e els → Marks flags els (seen ++ (e ∷ []))
   mark-none f = record { at = λ j l. unmarked j l (λ q. never (rw (← q) at (has-get els j l)) (f .is)) }
@@ -120,12 +112,14 @@ pub record Marking (sig : Signature) (kind : ℕ) (s els : List ℕ) (end : ℕ)
   pub passed : Passed s end fs at i
   pub marks : Marks flags els (seen ++ joined (arguments sig) (each (rowOf kind) (take i fs)))
 
-pub marking-start : {sig : Signature} {kind : ℕ} {s els : List ℕ} {from end : ℕ} {seen : List ℕ} {fs : List Field} {flags : List Bool} → Run s from end fs → Marks flags els seen
+pub marking-start : {sig : Signature} {kind : ℕ} {s els : List ℕ} {from end : ℕ} {seen : List ℕ} {fs : List Field} {flags : List Bool} → Run s from end fs
+    → Marks flags els seen
     → Marking sig kind s els end seen fs flags from
 unfolding joined each
 marking-start r m = record { i = 0; passed = passed-start r; marks = rw append-nil m }
 
-module _ {sig : Signature} {kind : ℕ} {s els : List ℕ} {end : ℕ} {seen : List ℕ} {fs : List Field} {flags : List Bool} {at : ℕ} (m : Marking sig kind s els end seen fs flags at) where
+module _ {sig : Signature} {kind : ℕ} {s els : List ℕ} {end : ℕ} {seen : List ℕ} {fs : List Field} {flags : List Bool} {at : ℕ}
+    (m : Marking sig kind s els end seen fs flags at) where
   pub marking-next : (l : Els) {r : read.Row} {p : ℕ} {flags′ : List Bool} → at < end → RowRead s at r → p ≡ length (rowSymbol sig kind (r .symbol) .parents)
       → elsIn s l ≡ drop p (elsIn s (r .els)) → ((seen : List ℕ) → Marks flags els seen → Marks flags′ els (seen ++ elsIn s l))
       → Marking sig kind s els end seen fs flags′ (r .next)

@@ -36,7 +36,8 @@ unfolding imagesAscend fiber keep each
 fiber-one x [] a = omega arith
 fiber-one x (p ∷ ps) a = go (eqb (p .image) x) refl (fiber-one x ps (above-ascend (p .image) ps a))
   where
-    go : (b : Bool) → eqb (p .image) x ≡ b → length (fiber ps x) ≤ 1 → length (each (λ (q : Pair). q .key) (consIf b p (keep (λ (q : Pair). eqb (q .image) x) ps))) ≤ 1
+    go : (b : Bool) → eqb (p .image) x ≡ b → length (fiber ps x) ≤ 1
+        → length (each (λ (q : Pair). q .key) (consIf b p (keep (λ (q : Pair). eqb (q .image) x) ps))) ≤ 1
     go true e r =
         let q : p .image ≡ x = eqb-true _ _ e in
         let n : length (fiber ps x) ≡ 0 = ap length (fiber-none x (p .image) ps (omega arith) a) in

@@ -61,7 +61,8 @@ unfolding any keep each fiber pairsAmong anyTwo
 among t e [] = refl
 among t e (p ∷ ps) = go (eqb (p .image) e) (among t e ps)
   where
-    later : any t (each (λ (l : ℕ). record { key = p .key; image = l }) (fiber ps e)) ≡ any (λ (b : Pair). eqb (b .image) e && t (record { key = p .key; image = b .key })) ps
+    later : any t (each (λ (l : ℕ). record { key = p .key; image = l }) (fiber ps e))
+        ≡ any (λ (b : Pair). eqb (b .image) e && t (record { key = p .key; image = b .key })) ps
     later =
         any-each t (λ (l : ℕ). record { key = p .key; image = l }) (fiber ps e)
         ∙ any-each (λ (l : ℕ). t (record { key = p .key; image = l })) (λ (b : Pair). b .key) (keep (λ (b : Pair). eqb (b .image) e) ps)
@@ -130,7 +131,9 @@ module _ (t : Pair → Bool) (target : Structure) (pairs : List Pair) (named : I
       let w = two together pairs h in
       let x = eqb-true (w .a .image) (w .b .image) (and-left _ _ (w .holds)) in
       any-mem (λ (e : ℕ). anyTwo (inFiber t e) pairs) (numbersOf target) (named .named (w .a) (w .first))
-      (w .for (inFiber t (w .a .image)) (and-true _ _ (eq-eqb (w .a .image) (w .a .image) refl) (and-true _ _ (eq-eqb (w .b .image) (w .a .image) (sym x)) (and-right (eqb (w .a .image) (w .b .image)) _ (w .holds))))))
+      (w .for (inFiber t (w .a .image))
+          (and-true _ _ (eq-eqb (w .a .image) (w .a .image) refl)
+          (and-true _ _ (eq-eqb (w .b .image) (w .a .image) (sym x)) (and-right (eqb (w .a .image) (w .b .image)) _ (w .holds))))))
 
 -- 25 over the pairs.
 module _ (sig : Signature) (table : List Variable) (source target : Side) (pairs : List Pair) (named : ImagesIn (target .structure) pairs) where
@@ -140,7 +143,7 @@ module _ (sig : Signature) (table : List Variable) (source target : Side) (pairs
   abbrev differ : Pair → Bool
   differ p = not (eqb (typeIn table (variableIn source (p .key))) (typeIn table (variableIn source (p .image))))
 
-  pub kernel-is : kernelClashes sig table source target pairs ≡ anyTwo (clash type) pairs
+  pub kernel-is : kernelClashes table source target pairs ≡ anyTwo (clash type) pairs
   unfolding kernelClashes kernelVariables
   kernel-is = any-each _ _ (kernelPairs pairs (target .structure)) ∙ any-kernel differ (target .structure) pairs named
 
@@ -194,14 +197,16 @@ unfolding laterFrom
 later-all type s m p = refl
 
 -- The type of a key's variable.
-pub type-at : {s : List ℕ} {m : Map} {vars types : List ℕ} {type : Pair → ℕ} → KeyTypes s m vars types type → (i : ℕ) → i < m .pairs → {v : ℕ} → v ≡ getD vars i 0
+pub type-at : {s : List ℕ} {m : Map} {vars types : List ℕ} {type : Pair → ℕ} → KeyTypes s m vars types type → (i : ℕ) → i < m .pairs → {v : ℕ}
+    → v ≡ getD vars i 0
     → getD types v 0 ≡ type (pairAt s m i)
 type-at f i l e = rw e (f .same i l)
 
 abbrev pub typeOf : List Variable → Side → Pair → ℕ
 typeOf table source p = typeIn table (variableIn source (p .key))
 
-pub types-of : {s : List ℕ} {m : Map} → MapIn s m → {vars types : List ℕ} {table : List Variable} {source : Side} → KeyVars source (pairsIn s m) vars → TypesOf table types
+pub types-of : {s : List ℕ} {m : Map} → MapIn s m → {vars types : List ℕ} {table : List Variable} {source : Side} → KeyVars source (pairsIn s m) vars
+    → TypesOf table types
     → Typed m vars (length types) → KeyTypes s m vars types (typeOf table source)
 unfolding pairAt
 types-of {s} {m} h {vars} {types} {table} {source} v t typed = record { same = same }
@@ -210,11 +215,12 @@ types-of {s} {m} h {vars} {types} {table} {source} v t typed = record { same = s
     same i l =
         let n = pairs-many h in
         let e : getD vars i 0 ≡ variableIn source (getD (pairsIn s m) i noPair .key) =
-        sym (getD-take (length (pairsIn s m)) vars i 0 (omega arith)) ∙ rw (v .same) (getD-each (λ (p : Pair). variableIn source (p .key)) (pairsIn s m) i noPair 0 (omega arith)) in
+        sym (getD-take (length (pairsIn s m)) vars i 0 (omega arith))
+            ∙ rw (v .same) (getD-each (λ (p : Pair). variableIn source (p .key)) (pairsIn s m) i noPair 0 (omega arith)) in
         t .same (getD vars i 0) (typed .below i l) ∙ ap (typeIn table) e
 
 pub clash-is : (s : List ℕ) (m : Map) (sig : Signature) (table : List Variable) (source target : Side) → ImagesIn (target .structure) (pairsIn s m)
-    → kernelClashes sig table source target (pairsIn s m) ≡ keysFrom (typeOf table source) s m 0
+    → kernelClashes table source target (pairsIn s m) ≡ keysFrom (typeOf table source) s m 0
 unfolding keysFrom
 clash-is s m sig table source target named = kernel-is sig table source target (pairsIn s m) named
 
@@ -227,12 +233,14 @@ unfolding each
 keys-start source pairs vars = record { same = refl }
 
 -- A key is found.
-pub key-found : {s : List ℕ} {m : Map} → MapIn s m → {els : List ℕ} → KeysIn els (pairsIn s m) → (p : ℕ) → p < m .pairs → {e : ℕ} → e ≡ pairAt s m p .key → Finds Nothing e els → ⊥
+pub key-found : {s : List ℕ} {m : Map} → MapIn s m → {els : List ℕ} → KeysIn els (pairsIn s m) → (p : ℕ) → p < m .pairs → {e : ℕ} → e ≡ pairAt s m p .key
+    → Finds Nothing e els → ⊥
 unfolding pairAt
 key-found {s} {m} h {els} k p l e f =
     let n = pairs-many h in never (mem-has _ els (k .named _ (mem-at (pairsIn s m) p noPair (omega arith)))) (rw e at (f .is))
 
-pub keys-next : {s : List ℕ} {m : Map} → MapIn s m → {source : Side} {vars els row : List ℕ} {p e i : ℕ} → KeysDone source (pairsIn s m) vars p → SideAt els row source → p < m .pairs
+pub keys-next : {s : List ℕ} {m : Map} → MapIn s m → {source : Side} {vars els row : List ℕ} {p e i : ℕ} → KeysDone source (pairsIn s m) vars p
+    → SideAt els row source → p < m .pairs
     → p < length vars → e ≡ pairAt s m p .key → Finds (At i) e els → KeysDone source (pairsIn s m) (set vars p (getD row i 0)) (p + 1)
 unfolding pairAt each variableAt
 keys-next {s} {m} h {source} {vars} {els} {row} {p} {e} {i} d t l b q f =
@@ -240,7 +248,8 @@ keys-next {s} {m} h {source} {vars} {els} {row} {p} {e} {i} d t l b q f =
     let v : getD row i 0 ≡ variableIn source (getD (pairsIn s m) p noPair .key) = t .variables i (f .is .1) ∙ rw (← q, t .numbers, ← (f .is .0)) in
     record { same = rw (store-more vars p (getD row i 0) b, d .same, take-more (pairsIn s m) p noPair (omega arith), each-append, v) }
 
-pub keys-all : {s : List ℕ} {m : Map} → MapIn s m → {source : Side} {vars : List ℕ} {p : ℕ} → KeysDone source (pairsIn s m) vars p → m .pairs ≤ p → p ≤ m .pairs → KeyVars source (pairsIn s m) vars
+pub keys-all : {s : List ℕ} {m : Map} → MapIn s m → {source : Side} {vars : List ℕ} {p : ℕ} → KeysDone source (pairsIn s m) vars p → m .pairs ≤ p
+    → p ≤ m .pairs → KeyVars source (pairsIn s m) vars
 keys-all {s} {m} h {source} {vars} {p} d a b =
     let n = pairs-many h in
     let e : length (pairsIn s m) ≡ p = omega arith in

@@ -2,7 +2,7 @@
 use Prim.Native.Nat.{ℕ, _+_, _-_, _*_, _≤_, _<_}
 use native.Mathlib.Omega.{arith}
 use native.Mathlib.Numerals.{add-one}
-use mathlib.Core.Bool.{Bool, true, false, not, _&&_}
+use mathlib.Core.Bool.{Bool, true, false, not, _&&_, and-true, and-false}
 use mathlib.Core.List.{List, [], _∷_, _++_, append-nil, append-assoc}
 use mathlib.Core.Option.{none, some}
 use mathlib.Core.Path.{_≡_, refl, sym, _∙_}
@@ -27,7 +27,7 @@ use Rattle.rows.specs.Members.{newMember}
 use Rattle.rows.specs.Table.{lacksImage, rowLacks, imageIn, isNew, Maps, Imaged}
 use Rattle.rows.specs.declared.table.Mapped.the-variants as mapped
 use Rattle.rows.specs.declared.table.Images.the-variants as images
-use Rattle.records.proofs.Parts.{store-more, any-append, none-kept, any-each, drop-mem, and-false, and-one}
+use Rattle.records.proofs.Parts.{store-more, any-append, none-kept, any-each, drop-mem}
 use Rattle.rows.proofs.TableLaws.{Filled, filled-none, filled-more}
 use Rattle.rule.proofs.ElementLaws.{parents-many, elements-many, elements-more, elements-on}
 
@@ -54,7 +54,7 @@ module _ {pairs : List Pair} {es els₀ els : List ℕ} {at : ℕ} (e : ℕ) whe
 -- Lists of one length with one member more.
 same-snoc : (xs ys : List ℕ) (x y : ℕ) → length xs ≡ length ys → sameList (xs ++ (x ∷ [])) (ys ++ (y ∷ [])) ≡ (sameList xs ys && eqb x y)
 unfolding sameList
-same-snoc [] [] x y h = and-one (eqb x y)
+same-snoc [] [] x y h = and-true (eqb x y)
 same-snoc [] (b ∷ ys) x y h = absurd (omega arith)
 same-snoc (a ∷ xs) [] x y h = absurd (omega arith)
 same-snoc (a ∷ xs) (b ∷ ys) x y h = rw (same-snoc xs ys x y (omega arith)) (go (eqb a b))
@@ -80,7 +80,8 @@ module _ {s : List ℕ} {e : read.Element} (w : Within s e) (els : List ℕ) (at
       rw (stretch-more els at (e .parents) h)
       (same-snoc (elementFrom s e .parents) (stretch els at (e .parents)) (e .number .0) (getD els (at + e .parents) 0) (a ∙ sym b))
 
-  pub last-differs : (getD els (at + e .parents) 0 ≡ e .number .0 → ⊥) → sameList (memberRow (elementFrom s e) .elements) (stretch els at (e .parents + 1)) ≡ false
+  pub last-differs : (getD els (at + e .parents) 0 ≡ e .number .0 → ⊥)
+      → sameList (memberRow (elementFrom s e) .elements) (stretch els at (e .parents + 1)) ≡ false
   last-differs d = last-apart
       ∙ rw (ne-eqb (e .number .0) (getD els (at + e .parents) 0) (λ q. d (sym q)))
       (and-false (sameList (elementFrom s e .parents) (stretch els at (e .parents))))
@@ -88,7 +89,7 @@ module _ {s : List ℕ} {e : read.Element} (w : Within s e) (els : List ℕ) (at
   pub last-same : getD els (at + e .parents) 0 ≡ e .number .0
       → sameList (memberRow (elementFrom s e) .elements) (stretch els at (e .parents + 1)) ≡ sameList (elementFrom s e .parents) (stretch els at (e .parents))
   last-same q = last-apart
-      ∙ rw (eq-eqb (e .number .0) (getD els (at + e .parents) 0) (sym q)) (and-one (sameList (elementFrom s e .parents) (stretch els at (e .parents))))
+      ∙ rw (eq-eqb (e .number .0) (getD els (at + e .parents) 0) (sym q)) (and-true (sameList (elementFrom s e .parents) (stretch els at (e .parents))))
 
 -- The member row of an element that was read.
 module _ {s : List ℕ} {e : read.Element} (w : Within s e) where
@@ -112,7 +113,8 @@ module _ {s : List ℕ} {e : read.Element} (w : Within s e) where
 
   -- It is the one at a place of a structure.
   module _ (index : List ℕ) (k i : ℕ) (q : elementFrom s e ≡ elementIn s index k i) (l : i < countAt index k) where
-    one-more-row : memberRows (take (i + 1) (elementsIn s index k)) ≡ memberRows (take i (elementsIn s index k)) ++ each memberRow (consIf (hasParents (elementFrom s e)) (elementFrom s e) [])
+    one-more-row : memberRows (take (i + 1) (elementsIn s index k))
+        ≡ memberRows (take i (elementsIn s index k)) ++ each memberRow (consIf (hasParents (elementFrom s e)) (elementFrom s e) [])
     unfolding memberRows keep each
     one-more-row = rw (elements-more s index k i l, ← q, keep-append, each-append)
 
@@ -120,7 +122,8 @@ module _ {s : List ℕ} {e : read.Element} (w : Within s e) where
     unfolding each
     member-skip z = one-more-row ∙ rw (without-parents z, append-nil)
 
-    pub member-next : (e .parents ≡ 0 → ⊥) → memberRows (take (i + 1) (elementsIn s index k)) ≡ memberRows (take i (elementsIn s index k)) ++ (memberRow (elementFrom s e) ∷ [])
+    pub member-next : (e .parents ≡ 0 → ⊥)
+        → memberRows (take (i + 1) (elementsIn s index k)) ≡ memberRows (take i (elementsIn s index k)) ++ (memberRow (elementFrom s e) ∷ [])
     unfolding each
     member-next z = one-more-row ∙ rw (with-parents z)
 
@@ -175,19 +178,23 @@ module _ {pairs : List Pair} {s index : List ℕ} {k i n : ℕ} {symbols els : L
 
   module _ {e : read.Element} (w : Within s e) (q : elementFrom s e ≡ elementIn s index k i) (l : i < countAt index k) where
     pub filling-skip : e .parents ≡ 0 → Filling pairs s index k (i + 1) n symbols els
-    filling-skip z = record { filled = rw (member-skip w index k i q l z) (f .filled); count = rw (member-skip w index k i q l z) (f .count); few = omega (arith, f .few) }
+    filling-skip z = record
+        { filled = rw (member-skip w index k i q l z) (f .filled); count = rw (member-skip w index k i q l z) (f .count); few = omega (arith, f .few) }
 
     module _ (z : e .parents ≡ 0 → ⊥) where
-      pub filling-next : {els′ : List ℕ} → n < length symbols → columnLimit * n ≤ length els → Maps mapped.All pairs (memberRow (elementFrom s e) .elements) els els′ (columnLimit * n)
+      pub filling-next : {els′ : List ℕ} → n < length symbols → columnLimit * n ≤ length els
+          → Maps mapped.All pairs (memberRow (elementFrom s e) .elements) els els′ (columnLimit * n)
           → Filling pairs s index k (i + 1) (n + 1) (set symbols n (e .ty .0)) els′
       unfolding memberRow
       filling-next a b m = record {
-        filled = rw (member-next w index k i q l z) (filled-more (f .filled) (memberRow (elementFrom s e)) n (f .count) a b (omega (arith, member-columns w, w .few)) m);
+        filled = rw (member-next w index k i q l z)
+            (filled-more (f .filled) (memberRow (elementFrom s e)) n (f .count) a b (omega (arith, member-columns w, w .few)) m);
         count = rw (member-next w index k i q l z, length-append) (omega (arith, f .count));
         few = omega (arith, f .few);
       }
 
-      pub filling-stop : {els′ : List ℕ} → Maps mapped.Unmapped pairs (memberRow (elementFrom s e) .elements) els els′ (columnLimit * n) → any (rowLacks pairs) (memberRows (elementsIn s index k)) ≡ true
+      pub filling-stop : {els′ : List ℕ} → Maps mapped.Unmapped pairs (memberRow (elementFrom s e) .elements) els els′ (columnLimit * n)
+          → any (rowLacks pairs) (memberRows (elementsIn s index k)) ≡ true
       filling-stop m = any-mem (rowLacks pairs) (memberRows (elementsIn s index k)) (member-mem w index k i q l z) (m .is)
 
 -- Whether a member row is new.
@@ -209,13 +216,16 @@ module _ {s : List ℕ} {e : read.Element} (w : Within s e) (pairs : List Pair) 
   new-flag index k i q l flags {r} f h d = rw (store-more flags i r h, f, elements-more s index k i l, each-append, d, q)
 
 -- The columns of a member row, where rows of one type are of one length.
-pub member-alike : {s : List ℕ} {e : read.Element} (columns : ℕ → ℕ) (index : List ℕ) (k i : ℕ) → Within s e → elementFrom s e ≡ elementIn s index k i → i < countAt index k
+pub member-alike : {s : List ℕ} {e : read.Element} (columns : ℕ → ℕ) (index : List ℕ) (k i : ℕ) → Within s e → elementFrom s e ≡ elementIn s index k i
+    → i < countAt index k
     → Alike member columns (memberRows (elementsIn s index k)) → (e .parents ≡ 0 → ⊥) → e .parents + 1 ≡ columns (e .ty .0)
 unfolding memberRow
 member-alike columns index k i w q l a z = sym (member-columns w) ∙ a .same _ (member-mem w index k i q l z) .1
 
-pub flags-all : (s index : List ℕ) (k i : ℕ) {size : ℕ} (pairs : List Pair) (sources : List Row) (flags : List Bool) → size ≡ countAt index k → size ≤ i → i ≤ size
-    → take i flags ≡ each (newMember pairs sources) (take i (elementsIn s index k)) → take (countAt index k) flags ≡ each (newMember pairs sources) (elementsIn s index k)
+pub flags-all : (s index : List ℕ) (k i : ℕ) {size : ℕ} (pairs : List Pair) (sources : List Row) (flags : List Bool) → size ≡ countAt index k → size ≤ i
+    → i ≤ size
+    → take i flags ≡ each (newMember pairs sources) (take i (elementsIn s index k))
+        → take (countAt index k) flags ≡ each (newMember pairs sources) (elementsIn s index k)
 flags-all s index k i pairs sources flags c h g f =
     let m = elements-many s index k in
     let e : countAt index k ≡ i = omega arith in

@@ -71,7 +71,8 @@ pub record Several (s : List ℕ) (m : Map) (els : List ℕ) (seen merged : List
   pub marks : Marks seen els (imagesTo s m p)
   pub several : (j : ℕ) → j < length els → getD merged j false ≡ severalAt els (take p (pairsIn s m)) j
 
-pub several-start : {s index : List ℕ} {k : ℕ} {m : Map} → Elements s index k → Several s m (elementNumbers s index k) (replicate places false) (replicate places false) 0
+pub several-start : {s index : List ℕ} {k : ℕ} {m : Map} → Elements s index k
+    → Several s m (elementNumbers s index k) (replicate places false) (replicate places false) 0
 unfolding each fiber keep
 several-start {s} {index} {k} w = let n = numbers-length s index k in let few = w .few in record {
   marks = marks-none w;
@@ -108,9 +109,12 @@ module _ {s : List ℕ} {m : Map} (h : MapIn s m) {els : List ℕ} {seen merged 
       pub several-next : Several s m els (set seen i true) (set merged i (getD seen i false)) (p + 1)
       several-next = record { marks = rw more (mark-at (w .marks) up f a); several = λ j l. rw on (go j l (ℕ-discrete j i)) }
         where
-          go : (j : ℕ) → j < length els → Dec (j ≡ i) → getD (set merged i (getD seen i false)) j false ≡ severalAt els (take p (pairsIn s m) ++ (pairAt s m p ∷ [])) j
-          go j l (yes z) = rw (z, getD-set-same merged i (getD seen i false) false b, here, more-same (take p (pairsIn s m)) (pairAt s m p) e (sym q)) (seen-here ∙ one-more (length (fiber (take p (pairsIn s m)) e)))
-          go j l (no z) = getD-set-other merged i j (getD seen i false) false z ∙ w .several j l ∙ sym (ap (ltb 1) (more-other (take p (pairsIn s m)) (pairAt s m p) (getD els j 0) (λ y. ⊎-elim
+          go : (j : ℕ) → j < length els → Dec (j ≡ i)
+              → getD (set merged i (getD seen i false)) j false ≡ severalAt els (take p (pairsIn s m) ++ (pairAt s m p ∷ [])) j
+          go j l (yes z) = rw (z, getD-set-same merged i (getD seen i false) false b, here, more-same (take p (pairsIn s m)) (pairAt s m p) e (sym q))
+              (seen-here ∙ one-more (length (fiber (take p (pairsIn s m)) e)))
+          go j l (no z) = getD-set-other merged i j (getD seen i false) false z ∙ w .several j l
+              ∙ sym (ap (ltb 1) (more-other (take p (pairsIn s m)) (pairAt s m p) (getD els j 0) (λ y. ⊎-elim
               (λ (c : j < i). let x = up j i c (f .is .1) in omega (arith, here))
               (⊎-elim (λ (c : j ≡ i). z c) (λ (c : i < j). let x = up i j c l in omega (arith, here))) (trichotomy j i))))
 
@@ -165,6 +169,6 @@ none-merged {mask} {target} {pairs} w e = joined-none (λ (e : ℕ). pairsAmong 
 
 -- and none of them clash.
 pub no-clash : (sig : Signature) (table : List Variable) (source target : Side) (pairs : List Pair) → kernelPairs pairs (target .structure) ≡ []
-    → kernelClashes sig table source target pairs ≡ false
+    → kernelClashes table source target pairs ≡ false
 unfolding kernelClashes kernelVariables each any
 no-clash sig table source target pairs e = rw e

@@ -2,7 +2,7 @@
 use Prim.Native.Nat.{ℕ, _+_, _*_, _≤_, _<_}
 use native.Mathlib.Omega.{arith}
 use native.Mathlib.Nat.{add-zero}
-use mathlib.Core.Bool.{Bool, true, false, _||_}
+use mathlib.Core.Bool.{Bool, true, false, _||_, and-false}
 use mathlib.Core.List.{List, [], _∷_, _++_, append-nil, append-assoc, List·Memᴰ·head, List·Memᴰ·tail}
 use mathlib.Core.Option.{none, some}
 use mathlib.Core.Path.{_≡_, refl, sym, _∙_, ap}
@@ -22,7 +22,7 @@ use Rattle.rows.specs.Table as table
 use Rattle.rows.specs.Table.{lacksImage, rowLacks, imageIn, Held, more, Maps}
 use Rattle.rows.specs.declared.table.Mapped.{Mapped}
 use Rattle.rows.specs.declared.table.Mapped.the-variants as mapped
-use Rattle.records.proofs.Parts.{take-more, store-more, kept-get, kept-stretch, put-kept, put-stretch, any-append, and-false}
+use Rattle.records.proofs.Parts.{take-more, store-more, kept-get, kept-stretch, put-kept, put-stretch, any-append}
 
 -- The first j elements of a row are mapped.
 pub record Mapping (pairs : List Pair) (es els₀ els : List ℕ) (at j : ℕ) : Type 0 where
@@ -35,7 +35,8 @@ unfolding each
 mapping-start pairs es els at = record { long = refl; left = refl; put = rw (add-zero, append-nil) }
 
 module _ {pairs : List Pair} {es els₀ els : List ℕ} {at j : ℕ} (m : Mapping pairs es els₀ els at j) where
-  pub mapping-next : {e v : ℕ} → j < length es → at + j < length els → getD es j 0 ≡ e → imageOf pairs e ≡ some v → Mapping pairs es els₀ (set els (at + j) v) at (j + 1)
+  pub mapping-next : {e v : ℕ} → j < length es → at + j < length els → getD es j 0 ≡ e → imageOf pairs e ≡ some v
+      → Mapping pairs es els₀ (set els (at + j) v) at (j + 1)
   unfolding any each
   mapping-next {e} {v} h k g q = record {
     long = length-set els (at + j) v ∙ m .long;
@@ -100,8 +101,10 @@ module _ {pairs : List Pair} {rows : List Row} {symbols els els′ : List ℕ} (
   filled-more h k w m =
       let many : length (each (imageRow pairs) rows) ≡ length rows = length-each (imageRow pairs) rows in
       let same : length (each (imageIn pairs) (r .elements)) ≡ length (r .elements) = length-each (imageIn pairs) (r .elements) in
-      let put : take (columnLimit * n + length (each (imageIn pairs) (r .elements))) els′ ≡ take (columnLimit * n) els ++ each (imageIn pairs) (r .elements) = rw same (m .is .1) in
-      let kept = held-keep (set symbols n (r .symbol)) els′ n (take-set-le n symbols n (r .symbol) (omega arith)) (put-kept els′ els (each (imageIn pairs) (r .elements)) (columnLimit * n) k put) (f .held) (omega arith) in
+      let put : take (columnLimit * n + length (each (imageIn pairs) (r .elements))) els′
+          ≡ take (columnLimit * n) els ++ each (imageIn pairs) (r .elements) = rw same (m .is .1) in
+      let kept = held-keep (set symbols n (r .symbol)) els′ n (take-set-le n symbols n (r .symbol) (omega arith))
+          (put-kept els′ els (each (imageIn pairs) (r .elements)) (columnLimit * n) k put) (f .held) (omega arith) in
       record {
         fine = any-append (rowLacks pairs) rows (r ∷ []) ∙ rw (f .fine, m .is .0);
         held = rw each-append (held-snoc kept (imageRow pairs r) n (omega arith) (getD-set-same symbols n (r .symbol) 0 h)
@@ -116,7 +119,8 @@ pub record Searching (columns : ℕ → ℕ) (row : Row) (qs : List Row) (symbol
   pub alike : Alike (row .kind) columns rest
   pub same : any (sameRow row) qs ≡ any (sameRow row) rest
 
-pub search-start : {columns : ℕ → ℕ} {row : Row} {qs : List Row} {symbols els : List ℕ} {n : ℕ} → Held symbols els 0 qs → n ≡ length qs → Alike (row .kind) columns qs
+pub search-start : {columns : ℕ → ℕ} {row : Row} {qs : List Row} {symbols els : List ℕ} {n : ℕ} → Held symbols els 0 qs → n ≡ length qs
+    → Alike (row .kind) columns qs
     → Searching columns row qs symbols els 0 n
 search-start {qs = qs} h e a = record { rest = qs; held = h; left = omega arith; alike = a; same = refl }
 
@@ -137,7 +141,8 @@ tried : {columns : ℕ → ℕ} {row : Row} {qs : List Row} {symbols els : List 
 unfolding any
 tried {columns} {row} {qs} {symbols} {els} {i} {n} t l = go (t .rest) (t .held) (t .left) (t .alike) (t .same)
   where
-    go : (rest : List Row) → Held symbols els i rest → n ≡ i + length rest → Alike (row .kind) columns rest → any (sameRow row) qs ≡ any (sameRow row) rest → Tried columns row qs symbols els i n
+    go : (rest : List Row) → Held symbols els i rest → n ≡ i + length rest → Alike (row .kind) columns rest → any (sameRow row) qs ≡ any (sameRow row) rest
+        → Tried columns row qs symbols els i n
     go [] h e a d = absurd (omega arith)
     go (q ∷ rest) (more x y w r) e a d =
         let b = a .same q (List·Memᴰ·head refl) in
@@ -173,8 +178,10 @@ module _ {columns : ℕ → ℕ} {row : Row} {qs : List Row} {symbols els : List
     compared : sameRow row (here .q) ≡ r
     compared =
         let z : here .q .symbol ≡ row .symbol = sym (here .symbol) ∙ e in
-        let es : stretch els (columnLimit * i) (columns (row .symbol)) ≡ here .q .elements = ap (λ (k : ℕ). stretch els (columnLimit * i) (columns k)) (sym z) ∙ here .elements in
-        same-row row (here .q) (here .kind-is) z ∙ ap (sameList (row .elements)) (sym es) ∙ ap (λ (k : ℕ). sameList (row .elements) (stretch els (columnLimit * i) k)) (sym many) ∙ sym f
+        let es : stretch els (columnLimit * i) (columns (row .symbol)) ≡ here .q .elements =
+            ap (λ (k : ℕ). stretch els (columnLimit * i) (columns k)) (sym z) ∙ here .elements in
+        same-row row (here .q) (here .kind-is) z ∙ ap (sameList (row .elements)) (sym es)
+            ∙ ap (λ (k : ℕ). sameList (row .elements) (stretch els (columnLimit * i) k)) (sym many) ∙ sym f
 
     pub search-differs : r ≡ false → Searching columns row qs symbols els (i + 1) n
     search-differs d = behind (compared ∙ d)

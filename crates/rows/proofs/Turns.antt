@@ -65,11 +65,13 @@ rows-end {fs = fs} {pairs} {symbols} {els} p h kind f =
     let g : Filled pairs (each (rowOf kind) fs) symbols els = rw (e .0) at f in
     record { is = (g .fine, e .1 ∙ sym (length-each (rowOf kind) fs), g .held) }
 
-pub flags-end : {s : List ℕ} {end at i : ℕ} {mask : Mask} {row : List Bool} {fs : List Field} → Passed s end fs at i → end ≤ at → Packed mask row i → Packed mask row (length fs)
+pub flags-end : {s : List ℕ} {end at i : ℕ} {mask : Mask} {row : List Bool} {fs : List Field} → Passed s end fs at i → end ≤ at → Packed mask row i
+    → Packed mask row (length fs)
 flags-end p h f = rw (← (all-passed p h .1)) f
 
 -- The images of rows that are alike are alike.
-pub alike-images : {kind : ℕ} {columns : ℕ → ℕ} {rows : List Row} (pairs : List Pair) → Alike kind columns rows → Alike kind columns (each (imageRow pairs) rows)
+pub alike-images : {kind : ℕ} {columns : ℕ → ℕ} {rows : List Row} (pairs : List Pair) → Alike kind columns rows
+    → Alike kind columns (each (imageRow pairs) rows)
 unfolding imageRow
 alike-images {kind} {columns} {rows} pairs a = record {
   same = λ r m. let q = mem-each (imageRow pairs) rows m in let b = a .same (q .0) (q .1) in

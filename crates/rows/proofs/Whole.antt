@@ -1,7 +1,7 @@
 -- The three sorts of rows put together: what a map adds, and what it asks, of whole structures.
 use Prim.Native.Nat.{ℕ}
 use native.Mathlib.Omega.{arith}
-use mathlib.Core.Bool.{Bool, true, false, not, _&&_, _||_}
+use mathlib.Core.Bool.{Bool, true, false, not, _&&_, _||_, or-false}
 use mathlib.Core.List.{List, [], _∷_, _++_, List·Memᴰ·head, List·Memᴰ·tail}
 use mathlib.Core.Path.{_≡_, refl, sym, _∙_, ap}
 use borrow.Author.Tests.{ne-eqb, eq-eqb}
@@ -20,7 +20,6 @@ use Rattle.laws.specs.Sound.{SoundStructure}
 use Rattle.rows.specs.Table.{rowLacks, isNew}
 use Rattle.records.proofs.Parts.{any-append}
 use Rattle.rows.proofs.KernelLaws.{both-ways}
-use Rattle.rows.proofs.ArgumentLaws.{or-none}
 
 -- Rows of different kinds are never the same, nor is one the image of the other.
 pub other-kind : (r q : Row) → (r .kind ≡ q .kind → ⊥) → sameRow r q ≡ false
@@ -54,8 +53,9 @@ any-members t st = any-sort t (each memberRow (keep hasParents (st .elements)))
 
 -- 26 asks the three sorts.
 module _ (sig : Signature) (table : List Variable) (source target : Side) (pairs : List Pair) where
-  pub unmapped-parts : rowUnmapped sig table source target pairs
-      ≡ (any (rowLacks pairs) (source .structure .predRows) || any (rowLacks pairs) (source .structure .funcRows) || any (rowLacks pairs) (memberRows (source .structure .elements)))
+  pub unmapped-parts : rowUnmapped source pairs
+      ≡ (any (rowLacks pairs) (source .structure .predRows) || any (rowLacks pairs) (source .structure .funcRows) || any (rowLacks pairs)
+          (memberRows (source .structure .elements)))
   unfolding rowUnmapped rowsOf
   unmapped-parts =
       any-append (rowLacks pairs) (source .structure .predRows ++ source .structure .funcRows) (members (source .structure))
@@ -101,22 +101,26 @@ module _ (pairs : List Pair) (st : Structure) (w : KindsOf st) where
   pub new-pred : (r : Row) → r .kind ≡ predicate → isNew pairs (rowsOf st) r ≡ isNew pairs (st .predRows) r
   unfolding isNew
   new-pred r e =
-      let h : hits r (rowsOf st) ≡ hits r (st .predRows) = all-hits r ∙ rw (no-image (st .funcRows) (w .funcs) r (λ q. omega arith), no-member r (λ q. omega arith))
-      (or-none (hits r (st .predRows) || false) ∙ or-none (hits r (st .predRows))) in ap not h
+      let h : hits r (rowsOf st) ≡ hits r (st .predRows) =
+          all-hits r ∙ rw (no-image (st .funcRows) (w .funcs) r (λ q. omega arith), no-member r (λ q. omega arith))
+      (or-false (hits r (st .predRows) || false) ∙ or-false (hits r (st .predRows))) in ap not h
 
   pub new-func : (r : Row) → r .kind ≡ function → isNew pairs (rowsOf st) r ≡ isNew pairs (st .funcRows) r
   unfolding isNew
   new-func r e =
-      let h : hits r (rowsOf st) ≡ hits r (st .funcRows) = all-hits r ∙ rw (no-image (st .predRows) (w .preds) r (λ q. omega arith), no-member r (λ q. omega arith))
-      (or-none (hits r (st .funcRows))) in ap not h
+      let h : hits r (rowsOf st) ≡ hits r (st .funcRows) =
+          all-hits r ∙ rw (no-image (st .predRows) (w .preds) r (λ q. omega arith), no-member r (λ q. omega arith))
+      (or-false (hits r (st .funcRows))) in ap not h
 
   pub new-member : (r : Row) → r .kind ≡ member → isNew pairs (rowsOf st) r ≡ isNew pairs (memberRows (st .elements)) r
   unfolding isNew
   new-member r e =
-      let h : hits r (rowsOf st) ≡ hits r (memberRows (st .elements)) = all-hits r ∙ rw (no-image (st .predRows) (w .preds) r (λ q. omega arith), no-image (st .funcRows) (w .funcs) r (λ q. omega arith)) in ap not h
+      let h : hits r (rowsOf st) ≡ hits r (memberRows (st .elements)) =
+          all-hits r ∙ rw (no-image (st .predRows) (w .preds) r (λ q. omega arith), no-image (st .funcRows) (w .funcs) r (λ q. omega arith)) in ap not h
 
 -- The rows that a map adds: those of each sort, one behind the other.
-module _ (sig : Signature) (table : List Variable) (source target : Side) (pairs : List Pair) (v : KindsOf (source .structure)) (w : KindsOf (target .structure)) where
+module _ (sig : Signature) (table : List Variable) (source target : Side) (pairs : List Pair) (v : KindsOf (source .structure))
+    (w : KindsOf (target .structure)) where
   abbrev from : Structure
   from = source .structure
 
@@ -132,7 +136,7 @@ module _ (sig : Signature) (table : List Variable) (source target : Side) (pairs
   abbrev pub addedMembers : List Row
   addedMembers = keep (isNew pairs (memberRows (from .elements))) (members to)
 
-  pub added-parts : addedRows sig table source target pairs ≡ addedPreds ++ addedFuncs ++ addedMembers
+  pub added-parts : addedRows source target pairs ≡ addedPreds ++ addedFuncs ++ addedMembers
   unfolding addedRows newRows rowsOf isNew
   added-parts =
       keep-append (isNew pairs (rowsOf from)) (to .predRows ++ to .funcRows) (members to)
@@ -145,7 +149,7 @@ module _ (sig : Signature) (table : List Variable) (source target : Side) (pairs
 
   -- Without the members whose element is constrained.
   abbrev pub isFree : Row → Bool
-  isFree r = not (constrainedMember sig table source target pairs r)
+  isFree r = not (constrainedMember sig target r)
 
   other-free : (r : Row) → (r .kind ≡ member → ⊥) → isFree r ≡ true
   unfolding constrainedMember
@@ -155,7 +159,8 @@ module _ (sig : Signature) (table : List Variable) (source target : Side) (pairs
   unfolding constrainedMember
   member-free r e = rw (eq-eqb (r .kind) member e)
 
-  pub free-parts : keep isFree (addedRows sig table source target pairs) ≡ addedPreds ++ addedFuncs ++ keep (λ (r : Row). not (constrained sig to (lastElement r))) addedMembers
+  pub free-parts : keep isFree (addedRows source target pairs)
+      ≡ addedPreds ++ addedFuncs ++ keep (λ (r : Row). not (constrained sig to (lastElement r))) addedMembers
   free-parts =
       ap (keep isFree) added-parts ∙ keep-append isFree (addedPreds ++ addedFuncs) addedMembers
       ∙ rw (

@@ -4,10 +4,10 @@ use mathlib.Core.Bool.{Bool, true, false, not}
 use mathlib.Core.List.{List, [], _∷_, _++_}
 use mathlib.Core.Path.{_≡_}
 use lib.ListN.{length, getD, take}
-use Rattle.definition.specs.Base.{orDefault, each, any}
+use Rattle.definition.specs.Base.{orDefault, each, any, given}
 use Rattle.definition.specs.Limits.{fieldLimit, columnLimit}
 use Rattle.definition.specs.Rule.{Row, Pair}
-use Rattle.definition.specs.Rows.{imageOf, given, imageRow, sameRow}
+use Rattle.definition.specs.Rows.{imageOf, imageRow, sameRow}
 use Rattle.records.specs.Places.{stretch}
 use Rattle.rows.specs.declared.table.Mapped.{Mapped}
 use Rattle.rows.specs.declared.table.Mapped.the-variants as mapped

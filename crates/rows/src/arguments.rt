@@ -11,13 +11,15 @@ ghost use Rattle.definition.specs.Records as definition;
 ghost use Rattle.definition.specs.Rule.{Structure, rowOf};
 ghost use Rattle.definition.specs.Rows as definition_rows;
 ghost use Rattle.definition.specs.Rows.{constrained};
+ghost use Rattle.definition.specs.Signature.{Signature};
 ghost use Rattle.records.specs.Places.{Run};
 ghost use Rattle.signature.specs.Index.{signatureAt, Indexed};
+ghost use Rattle.signature.specs.declared.ids.Counts.{Counts};
 ghost use Rattle.rule.specs.Elements.{countAt, elementNumbers, Elements};
 ghost use Rattle.flags.specs.Flags.{places};
 ghost use Rattle.rule.specs.Lists.{elsIn, ElsInside};
 ghost use Rattle.rule.specs.Rows.{rowSymbol, RowsKnown};
-ghost use Rattle.rows.specs.Arguments.{symbolsOf, Marks};
+ghost use Rattle.rows.specs.Arguments.{symbolsOf, parentsOf, Declared, Marks};
 ghost use Rattle.rule.specs.Layout.{placeR, placeA, sectionFrom, sectionTo};
 use flags::PLACES;
 use rule::elements::Found;
@@ -39,16 +41,33 @@ use signature::ids::PredId;
 use signature::lookup::func_parents;
 use signature::lookup::pred_parents;
 
-// How many parents a row of a kind lists before its arguments.
-fn row_parents(sig: &[u8], symbols: &[u16; INDEX], counts: Counts, kind: u8, symbol: u16) -> usize
-    requires { ⌜ Indexed (now sig) (now symbols) counts ⌝ }
-    requires { ⌜ symbol < symbolsOf counts kind ⌝ }
-    ensures { λ r. ⌜ r ≡ length (rowSymbol (signatureAt (now (sig .entry)) (now (symbols .entry)) counts) kind symbol .parents) ⌝ }
+// The symbol of an R or A row.
+enum RowSymbol {
+    Pred(PredId),
+    Func(FuncId),
+}
+
+// By the rows' kind a number is a predicate's or a function's.
+fn symbol_of(kind: u8, number: u16) -> RowSymbol
+    ensures { λ r. ⌜ ((sig : Signature) → parentsOf sig r ≡ rowSymbol sig kind number .parents) ⌝ }
+    ensures { λ r. ⌜ ((counts : Counts) → number < symbolsOf counts kind → Declared counts r) ⌝ }
 {
     if kind == PREDICATE {
-        return pred_parents(sig, symbols, counts, PredId(symbol));
+        return RowSymbol::Pred(PredId(number));
     }
-    func_parents(sig, symbols, counts, FuncId(symbol))
+    RowSymbol::Func(FuncId(number))
+}
+
+// How many parents a row lists before its arguments.
+fn row_parents(sig: &[u8], symbols: &[u16; INDEX], counts: Counts, symbol: RowSymbol) -> usize
+    requires { ⌜ Indexed (now sig) (now symbols) counts ⌝ }
+    requires { ⌜ Declared counts symbol ⌝ }
+    ensures { λ r. ⌜ r ≡ length (parentsOf (signatureAt (now (sig .entry)) (now (symbols .entry)) counts) symbol) ⌝ }
+{
+    match symbol {
+        RowSymbol::Pred(p) => pred_parents(sig, symbols, counts, p),
+        RowSymbol::Func(f) => func_parents(sig, symbols, counts, f),
+    }
 }
 
 // The elements of a list are marked, by their places.
@@ -82,7 +101,8 @@ fn mark_rows(
     requires { ⌜ (k < structureLimit) × (length (now flags) ≡ places) ⌝ }
     requires { ⌜ Elements (now s) (now index) k ⌝ }
     requires { ⌜ RowsKnown (signatureAt (now sig) (now symbols) counts) (symbolsOf counts kind) kind (now s) from end ⌝ }
-    ensures { λ r. ⌜ ((seen : List ℕ) (fs : List definition.Field) → Run (now (s .entry)) from end fs → Marks (now (flags .entry)) (elementNumbers (now (s .entry)) (now (index .entry)) k) seen
+    ensures { λ r. ⌜ ((seen : List ℕ) (fs : List definition.Field) → Run (now (s .entry)) from end fs
+        → Marks (now (flags .entry)) (elementNumbers (now (s .entry)) (now (index .entry)) k) seen
         → Marks (now (flags .exit)) (elementNumbers (now (s .entry)) (now (index .entry)) k)
         (seen ++ joined (definition_rows.arguments (signatureAt (now (sig .entry)) (now (symbols .entry)) counts)) (each (rowOf kind) fs))) ⌝ }
     ensures { λ r. ⌜ length (now (flags .exit)) ≡ places ⌝ }
@@ -90,7 +110,7 @@ fn mark_rows(
     let mut at = from;
     while at < end {
         let row = read_row(s, at);
-        let parents = row_parents(sig, symbols, counts, kind, row.symbol);
+        let parents = row_parents(sig, symbols, counts, symbol_of(kind, row.symbol));
         mark(s, index, k, behind(s, row.els, parents), flags);
         at = row.next;
     }
@@ -108,12 +128,15 @@ pub fn constrained_els(
     requires { ⌜ Indexed (now sig) (now symbols) counts ⌝ }
     requires { ⌜ k < structureLimit ⌝ }
     requires { ⌜ Elements (now s) (now index) k ⌝ }
-    requires { ⌜ RowsKnown (signatureAt (now sig) (now symbols) counts) (counts .preds) predicate (now s) (sectionFrom (now index) k placeR) (sectionTo (now index) k placeR) ⌝ }
-    requires { ⌜ RowsKnown (signatureAt (now sig) (now symbols) counts) (counts .funcs) function (now s) (sectionFrom (now index) k placeA) (sectionTo (now index) k placeA) ⌝ }
+    requires { ⌜ RowsKnown (signatureAt (now sig) (now symbols) counts) (counts .preds) predicate (now s) (sectionFrom (now index) k placeR)
+        (sectionTo (now index) k placeR) ⌝ }
+    requires { ⌜ RowsKnown (signatureAt (now sig) (now symbols) counts) (counts .funcs) function (now s) (sectionFrom (now index) k placeA)
+        (sectionTo (now index) k placeA) ⌝ }
     ensures { λ r. ⌜ ((st : Structure) (fs gs : List definition.Field) 
         → Run (now (s .entry)) (sectionFrom (now (index .entry)) k placeR) (sectionTo (now (index .entry)) k placeR) fs
         → Run (now (s .entry)) (sectionFrom (now (index .entry)) k placeA) (sectionTo (now (index .entry)) k placeA) gs
-        → numbersOf st ≡ elementNumbers (now (s .entry)) (now (index .entry)) k → st .predRows ≡ each (rowOf predicate) fs → st .funcRows ≡ each (rowOf function) gs
+        → numbersOf st ≡ elementNumbers (now (s .entry)) (now (index .entry)) k → st .predRows ≡ each (rowOf predicate) fs
+            → st .funcRows ≡ each (rowOf function) gs
         → take (countAt (now (index .entry)) k) r ≡ each (constrained (signatureAt (now (sig .entry)) (now (symbols .entry)) counts) st) (numbersOf st)) ⌝ }
 {
     let preds = section_of(index, k, PLACE_R);

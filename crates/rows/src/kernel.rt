@@ -17,6 +17,7 @@ use flags::Mask;
 use flags::NO_FLAGS;
 use flags::PLACES;
 use flags::packed_less;
+use records::fields::place;
 use rule::elements::Found;
 use rule::elements::element_count;
 use rule::elements::find_element;
@@ -25,13 +26,6 @@ use rule::ids::RULE_INDEX;
 use rule::maps::Map;
 use rule::maps::pair_image;
 use rule::maps::pair_key;
-
-// A variable's number as a place.
-fn variable(v: u16) -> usize
-    ensures { λ r. ⌜ (r ≡ v) × (r < 65536) ⌝ }
-{
-    v as usize
-}
 
 // The variables of a map's keys, in the keys' order; `row` has those of the source's elements, by their places.
 pub fn key_vars(
@@ -45,7 +39,8 @@ pub fn key_vars(
     requires { ⌜ k < structureLimit ⌝ }
     requires { ⌜ Elements (now s) (now index) k ⌝ }
     requires { ⌜ KeysIn (elementNumbers (now s) (now index) k) (pairsIn (now s) m) ⌝ }
-    ensures { λ r. ⌜ ((source : Side) → SideAt (elementNumbers (now (s .entry)) (now (index .entry)) k) (now (row .entry)) source → KeyVars source (pairsIn (now (s .entry)) m) r) ⌝ }
+    ensures { λ r. ⌜ ((source : Side) → SideAt (elementNumbers (now (s .entry)) (now (index .entry)) k) (now (row .entry)) source
+        → KeyVars source (pairsIn (now (s .entry)) m) r) ⌝ }
 {
     let mut vars = [0u16; FIELDS];
     let mut p: usize = 0;
@@ -87,7 +82,8 @@ pub fn merged_els(s: &[u8], index: &[u16; RULE_INDEX], tgt: usize, m: Map) -> Ma
     requires { ⌜ MapIn (now s) m ⌝ }
     requires { ⌜ tgt < structureLimit ⌝ }
     requires { ⌜ Elements (now s) (now index) tgt ⌝ }
-    ensures { λ r. ⌜ ((target : Structure) → numbersOf target ≡ elementNumbers (now (s .entry)) (now (index .entry)) tgt → ImagesIn target (pairsIn (now (s .entry)) m)
+    ensures { λ r. ⌜ ((target : Structure) → numbersOf target ≡ elementNumbers (now (s .entry)) (now (index .entry)) tgt
+        → ImagesIn target (pairsIn (now (s .entry)) m)
         → Merged r target (pairsIn (now (s .entry)) m)) ⌝ }
 {
     if images_ascend(s, m) {
@@ -117,12 +113,12 @@ fn clashes_later(s: &[u8], m: Map, vars: &[u16; FIELDS], types: &[u8], p: usize)
         → r ≡ any (clash type (pairAt (now (s .entry)) m p)) (drop (p + 1) (pairsIn (now (s .entry)) m))) ⌝ }
 {
     let image = pair_image(s, m, p);
-    let ty = types[variable(vars[p])];
+    let ty = types[place(vars[p])];
     let mut q = p + 1;
     while q < m.pairs {
         let other = pair_image(s, m, q);
         if image.0 == other.0 {
-            if ty != types[variable(vars[q])] {
+            if ty != types[place(vars[q])] {
                 return true;
             }
         }
@@ -136,7 +132,8 @@ pub fn kernel_clash(s: &[u8], m: Map, vars: &[u16; FIELDS], types: &[u8]) -> boo
     requires { ⌜ MapIn (now s) m ⌝ }
     requires { ⌜ Typed m (now vars) (length (now types)) ⌝ }
     ensures { λ r. ⌜ ((sig : Signature) (table : List Variable) (source target : Side) → KeyVars source (pairsIn (now (s .entry)) m) (now (vars .entry))
-        → TypesOf table (now (types .entry)) → ImagesIn (target .structure) (pairsIn (now (s .entry)) m) → r ≡ kernelClashes sig table source target (pairsIn (now (s .entry)) m)) ⌝ }
+        → TypesOf table (now (types .entry)) → ImagesIn (target .structure) (pairsIn (now (s .entry)) m)
+            → r ≡ kernelClashes table source target (pairsIn (now (s .entry)) m)) ⌝ }
 {
     let mut p: usize = 0;
     while p < m.pairs {

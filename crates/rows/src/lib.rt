@@ -2,5 +2,6 @@
 pub mod arguments;
 pub mod kernel;
 pub mod members;
+pub mod morphism;
 pub mod order;
 pub mod table;

@@ -82,7 +82,8 @@ pub fn mapped_members(
     requires { ⌜ k < structureLimit ⌝ }
     requires { ⌜ ElementsAt (now s) (now index) k ⌝ }
     requires { ⌜ (length (now symbols) ≡ fieldLimit) × (length (now els) ≡ tableSize) ⌝ }
-    ensures { λ r. ⌜ Imaged r (pairsIn (now (s .entry)) m) (memberRows (elementsIn (now (s .entry)) (now (index .entry)) k)) (now (symbols .exit)) (now (els .exit)) ⌝ }
+    ensures { λ r. ⌜ Imaged r (pairsIn (now (s .entry)) m) (memberRows (elementsIn (now (s .entry)) (now (index .entry)) k)) (now (symbols .exit))
+        (now (els .exit)) ⌝ }
     ensures { λ r. ⌜ (length (now (symbols .exit)) ≡ fieldLimit) × (length (now (els .exit)) ≡ tableSize) ⌝ }
 {
     let count = element_count(index, k);
@@ -153,7 +154,8 @@ fn is_new_member(
 ) -> bool
     requires { ⌜ Within (now s) e ⌝ }
     requires { ⌜ (images ≤ fieldLimit) × (length (now els) ≡ tableSize) ⌝ }
-    ensures { λ r. ⌜ ((columns : ℕ → ℕ) (pairs : List Pair) (sources : List Row) → Holds member columns pairs sources (now (symbols .entry)) (now (els .entry)) images
+    ensures { λ r. ⌜ ((columns : ℕ → ℕ) (pairs : List Pair) (sources : List Row)
+        → Holds member columns pairs sources (now (symbols .entry)) (now (els .entry)) images
         → ((e .parents ≡ 0 → ⊥) → e .parents + 1 ≡ columns (e .ty .0)) → r ≡ newMember pairs sources (elementFrom (now (s .entry)) e)) ⌝ }
 {
     if e.parents == 0 {
@@ -174,7 +176,8 @@ pub fn new_members(
     requires { ⌜ k < structureLimit ⌝ }
     requires { ⌜ ElementsAt (now s) (now index) k ⌝ }
     requires { ⌜ (images ≤ fieldLimit) × (length (now els) ≡ tableSize) ⌝ }
-    ensures { λ r. ⌜ ((columns : ℕ → ℕ) (pairs : List Pair) (sources : List Row) → Holds member columns pairs sources (now (symbols .entry)) (now (els .entry)) images
+    ensures { λ r. ⌜ ((columns : ℕ → ℕ) (pairs : List Pair) (sources : List Row)
+        → Holds member columns pairs sources (now (symbols .entry)) (now (els .entry)) images
         → Alike member columns (memberRows (elementsIn (now (s .entry)) (now (index .entry)) k))
         → take (countAt (now (index .entry)) k) r ≡ each (newMember pairs sources) (elementsIn (now (s .entry)) (now (index .entry)) k)) ⌝ }
 {

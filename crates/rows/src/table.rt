@@ -77,7 +77,8 @@ pub fn mapped_rel_apps(
     requires { ⌜ MapIn (now s) m ⌝ }
     requires { ⌜ RowsFrom (now s) from end ⌝ }
     requires { ⌜ (length (now symbols) ≡ fieldLimit) × (length (now els) ≡ tableSize) ⌝ }
-    ensures { λ r. ⌜ ((kind : ℕ) (fs : List definition.Field) → Run (now (s .entry)) from end fs → Imaged r (pairsIn (now (s .entry)) m) (each (rowOf kind) fs) (now (symbols .exit)) (now (els .exit))) ⌝ }
+    ensures { λ r. ⌜ ((kind : ℕ) (fs : List definition.Field) → Run (now (s .entry)) from end fs
+        → Imaged r (pairsIn (now (s .entry)) m) (each (rowOf kind) fs) (now (symbols .exit)) (now (els .exit))) ⌝ }
     ensures { λ r. ⌜ (length (now (symbols .exit)) ≡ fieldLimit) × (length (now (els .exit)) ≡ tableSize) ⌝ }
 {
     let mut at = from;
@@ -151,7 +152,8 @@ pub fn new_rows(
     requires { ⌜ RowsFrom (now s) from end ⌝ }
     requires { ⌜ (images ≤ fieldLimit) × (length (now els) ≡ tableSize) ⌝ }
     ensures { λ r. ⌜ ((kind : ℕ) (columns : ℕ → ℕ) (pairs : List Pair) (sources : List definition_rule.Row) (fs : List definition.Field)
-        → Holds kind columns pairs sources (now (symbols .entry)) (now (els .entry)) images → Run (now (s .entry)) from end fs → Alike kind columns (each (rowOf kind) fs)
+        → Holds kind columns pairs sources (now (symbols .entry)) (now (els .entry)) images → Run (now (s .entry)) from end fs
+            → Alike kind columns (each (rowOf kind) fs)
         → Packed r (each (isNew pairs sources) (each (rowOf kind) fs)) (length fs)) ⌝ }
 {
     let mut mask = NO_FLAGS;

@@ -7,15 +7,16 @@ use mathlib.Core.Option.{Option, none}
 use mathlib.Core.Path.{_≡_, refl, sym, _∙_, ap}
 use lib.Dec.{ltb, leb}
 use lib.ListN.{length, getD, drop, length-take, length-drop, length-append}
-use borrow.Author.Tests.{ltb-true, ltb-false, leb-false, eqb-true, eqb-false}
+use borrow.Author.Tests.{ltb-true, ltb-false, leb-false, eqb-true, eqb-false, not-false}
 use Rattle.definition.specs.Base.{accepted, orElse, keep, each, _∈_}
 use Rattle.definition.specs.Letters.{letterT, letterP, letterF, letterS, letterE, letterR, letterA, start, predicate, function, member}
 use Rattle.definition.specs.Limits.{signatureBytes, symbolLimit, fieldLimit, columnLimit, parentLimit}
 use Rattle.definition.specs.Records.{Field, numbers, numberAt, odd, notNumbers, withLetter, faultAmong, blocks}
 use Rattle.definition.specs.Rule.{elementOf, rowOf, structureOf, elementFault, rowFault, bodyFault, namedElements, rulePart}
 use Rattle.definition.specs.Rows.{memberRow}
-use Rattle.definition.specs.Signature.{Signature, Symbol, noSymbol, symbolOf, columnsOf, parentCount, columnCount, predOf, funcOf, typeParents, typeFault, symbolFault, signatureFault, signatureOf, signaturePart, readSignature}
-use Rattle.laws.proofs.Lists.{or-left, or-right, or-else-none, not-false, lowest-none, mem-keep, mem-each, length-each, getD-each, mem-at}
+use Rattle.definition.specs.Signature.{Signature, Symbol, noSymbol, symbolOf, columnsOf, parentCount, columnCount, predOf, funcOf, typeParents}
+use Rattle.definition.specs.Signature.{typeFault, symbolFault, signatureFault, signatureOf, signaturePart, readSignature}
+use Rattle.laws.proofs.Lists.{or-left, or-right, or-else-none, lowest-none, mem-keep, mem-each, length-each, getD-each, mem-at}
 use Rattle.laws.proofs.Sound.{read-part, read-within, among-mem, among-few}
 use Rattle.laws.proofs.SoundRule.{body-parts, structure-bodies, rule-parts}
 use Rattle.records.specs.Places.{Run}
@@ -40,7 +41,8 @@ abbrev noField : Field
 noField = record { letter = start; content = [] }
 
 -- What holds of each field of a letter holds of the value at each place.
-each-field : {A : Type 0} (f : Field → A) (P : A → Type 0) (fs : List Field) (d : A) → ((g : Field) → g ∈ fs → P (f g)) → (i : ℕ) → i < length (each f fs) → P (getD (each f fs) i d)
+each-field : {A : Type 0} (f : Field → A) (P : A → Type 0) (fs : List Field) (d : A) → ((g : Field) → g ∈ fs → P (f g)) → (i : ℕ) → i < length (each f fs)
+    → P (getD (each f fs) i d)
 each-field f P fs d h i l =
     let k : i < length fs = rw length-each at l in
     rw (getD-each f fs i noField d k) (h (getD fs i noField) (mem-at fs i noField k))
@@ -60,7 +62,8 @@ fields-small : (fs : List Field) → signatureFault fs ≡ none → SmallArities
 unfolding signatureFault signatureOf
 fields-small fs e =
     let count : ℕ = length (withLetter letterT fs) in
-    let t = or-else-none (faultAmong letterT (typeFault count) fs) (orElse (faultAmong letterP (symbolFault 0 count) fs) (faultAmong letterF (symbolFault 1 count) fs)) e in
+    let t = or-else-none (faultAmong letterT (typeFault count) fs)
+        (orElse (faultAmong letterP (symbolFault 0 count) fs) (faultAmong letterF (symbolFault 1 count) fs)) e in
     let p = or-else-none (faultAmong letterP (symbolFault 0 count) fs) (faultAmong letterF (symbolFault 1 count) fs) (t .1) in
     record {
       types = each-field (λ (f : Field). numbers (f .content)) (λ (ns : List ℕ). length ns ≤ parentLimit) (withLetter letterT fs) []
@@ -73,7 +76,8 @@ fields-small fs e =
 
 pub small-arities : (bytes : List ℕ) {sig : Signature} → readSignature bytes ≡ accepted sig → SmallArities sig
 unfolding readSignature
-small-arities bytes e = let r = read-part (signaturePart bytes) _ _ (read-within (ltb signatureBytes (length bytes)) _ e .1) in rw (← (r .2)) (fields-small (signaturePart bytes .fields) (r .0))
+small-arities bytes e = let r = read-part (signaturePart bytes) _ _ (read-within (ltb signatureBytes (length bytes)) _ e .1) in
+    rw (← (r .2)) (fields-small (signaturePart bytes .fields) (r .0))
 
 -- Rows of a letter without a fault.
 even-length : (least : ℕ) (content : List ℕ) → notNumbers least content ≡ false → (length content % 2 ≡ 0) × (2 * least ≤ length content)
@@ -117,7 +121,8 @@ module _ (results symbols : ℕ) (columns : ℕ → ℕ) (els : List ℕ) where
       passed : (f : Field) → f ∈ withLetter letter body → Passed f
       passed f m = let r = among-mem letter _ body e m in row-passed (r .0) (r .1) f (r .2) .1
 
-      pub section-known : (sig : Signature) (kind : ℕ) → ((p : ℕ) → length (rowSymbol sig kind p .parents) ≤ columns p) → {s : List ℕ} {from end : ℕ} → Run s from end (withLetter letter body)
+      pub section-known : (sig : Signature) (kind : ℕ) → ((p : ℕ) → length (rowSymbol sig kind p .parents) ≤ columns p) → {s : List ℕ} {from end : ℕ}
+          → Run s from end (withLetter letter body)
           → RowsKnown sig symbols kind s from end
       unfolding rowOf
       section-known sig kind enough r = record {
@@ -156,10 +161,12 @@ module _ {sig : Signature} {s index : List ℕ} {n : ℕ} (w : Indexed sig s ind
   funcs-run = w .body k h .run placeA (omega arith) (omega arith)
 
   pub preds-known : RowsKnown sig (length (sig .preds)) predicate s (sectionFrom index k placeR) (sectionTo index k placeR)
-  preds-known = section-known 0 _ _ _ (small .preds) letterR body (body-parts sig (namedElements body) body body-passed .1) sig predicate (λ p. omega arith) preds-run
+  preds-known = section-known 0 _ _ _ (small .preds) letterR body (body-parts sig (namedElements body) body body-passed .1) sig predicate
+      (λ p. omega arith) preds-run
 
   pub funcs-known : RowsKnown sig (length (sig .funcs)) function s (sectionFrom index k placeA) (sectionTo index k placeA)
-  funcs-known = section-known 1 _ _ _ (small .funcs) letterA body (body-parts sig (namedElements body) body body-passed .2) sig function (λ p. omega arith) funcs-run
+  funcs-known = section-known 1 _ _ _ (small .funcs) letterA body (body-parts sig (namedElements body) body body-passed .2) sig function
+      (λ p. omega arith) funcs-run
 
   pub preds-alike : Alike predicate (λ (p : ℕ). columnCount (predOf sig p)) (each (rowOf predicate) (withLetter letterR body))
   preds-alike = section-alike 0 _ _ _ (small .preds) letterR body (body-parts sig (namedElements body) body body-passed .1) predicate
@@ -176,16 +183,19 @@ module _ {sig : Signature} {s index : List ℕ} {n : ℕ} (w : Indexed sig s ind
   known : (f : Field) → f ∈ elementFields s index k → Known f
   unfolding elementFault
   known f m =
-      let p = among-mem letterE (elementFault sig (namedElements body)) body (body-parts sig (namedElements body) body body-passed .0) (rw (w .holds k h) at m) in
+      let p = among-mem letterE (elementFault sig (namedElements body)) body (body-parts sig (namedElements body) body body-passed .0)
+          (rw (w .holds k h) at m) in
       let t3 = lowest-none 3 _ _ (p .2) in let t4 = lowest-none 4 _ _ (t3 .1) in let t5 = lowest-none 5 _ _ (t4 .1) in
       let t6 = lowest-none 6 _ _ (t5 .1) in let t7 = lowest-none 7 _ _ (t6 .1) in
-      record { even = even-length 2 (f .content) (t3 .0) .0; typed = ltb-true _ _ (not-false _ (or-left _ _ (t5 .0))); many = eqb-true _ _ (not-false _ (t7 .0)) }
+      record { even = even-length 2 (f .content) (t3 .0) .0; typed = ltb-true _ _ (not-false _ (or-left _ _ (t5 .0))); many =
+          eqb-true _ _ (not-false _ (t7 .0)) }
 
   known-at : (i : ℕ) → i < countAt index k → Known (fieldIn s (positionAt index k i))
   unfolding elementFields
   known-at i l =
       let c : length (elementFields s index k) ≡ countAt index k = length-held s index (elementsFrom + fieldLimit * k) (countAt index k) in
-      let g : getD (elementFields s index k) i noField ≡ fieldIn s (positionAt index k i) = held-get s index (elementsFrom + fieldLimit * k) (countAt index k) i noField l in
+      let g : getD (elementFields s index k) i noField ≡ fieldIn s (positionAt index k i) =
+          held-get s index (elementsFrom + fieldLimit * k) (countAt index k) i noField l in
       rw (← g) (known _ (mem-at (elementFields s index k) i noField (omega arith)))
 
   pub elements-at : ElementsAt s index k

@@ -95,12 +95,15 @@ module _ (letter : ℕ) (f : Field) where
         go false bs = refl
 
 -- The head of a block has the letter, and its body has none of it.
-pub head-letter : (letter : ℕ) (fs : List Field) (k : ℕ) (d : Block) → k < length (blocks letter fs) → eqb (getD (blocks letter fs) k d .head .letter) letter ≡ true
+pub head-letter : (letter : ℕ) (fs : List Field) (k : ℕ) (d : Block) → k < length (blocks letter fs)
+    → eqb (getD (blocks letter fs) k d .head .letter) letter ≡ true
 unfolding blocks
 head-letter letter [] k d h = absurd (omega arith)
 head-letter letter (x ∷ xs) k d h = go (eqb (x .letter) letter) refl (head-letter letter xs) k h
   where
-    go : (b : Bool) → eqb (x .letter) letter ≡ b → ((k : ℕ) (d : Block) → k < length (blocks letter xs) → eqb (getD (blocks letter xs) k d .head .letter) letter ≡ true) → (k : ℕ) → k < length (pick b (record { head = x; body = upTo letter xs } ∷ blocks letter xs) (blocks letter xs))
+    go : (b : Bool) → eqb (x .letter) letter ≡ b
+        → ((k : ℕ) (d : Block) → k < length (blocks letter xs) → eqb (getD (blocks letter xs) k d .head .letter) letter ≡ true) → (k : ℕ)
+        → k < length (pick b (record { head = x; body = upTo letter xs } ∷ blocks letter xs) (blocks letter xs))
         → eqb (getD (pick b (record { head = x; body = upTo letter xs } ∷ blocks letter xs) (blocks letter xs)) k d .head .letter) letter ≡ true
     go true e i zero h = e
     go true e i (suc k) h = i k d (omega arith)

@@ -23,7 +23,7 @@ use Rattle.signature.specs.Faults.{faultOf}
 use Rattle.signature.specs.declared.faults.Fault.{Fault}
 use Rattle.signature.specs.declared.faults.Fault.the-variants.{Sound, Draws}
 use Rattle.rule.specs.Layout.{letterAt, placeN, placeE, placeR, placeA, placeV, placeI, letters}
-use Rattle.rule.specs.Layout.{elementsFrom, sections, sectionFrom, sectionTo, numberOf, within}
+use Rattle.rule.specs.Layout.{elementsFrom, sectionFrom, sectionTo, numberOf, within}
 use Rattle.rule.specs.Elements.{countAt, positionAt, elementFields, elementNumbers, numbersIn, Elements, Known}
 use Rattle.rule.specs.Faults.{nameKey, rowSymbols, rowColumns, checkOf, restFault}
 use Rattle.rule.specs.Answers.{Bodied, Kept, Stored}
@@ -84,7 +84,8 @@ pub named-is : {s index : List ℕ} {k : ℕ} (body : List Field) → Elements s
     → elementNumbers s index k ≡ namedElements body
 unfolding elementNumbers namedElements
 named-is {s} {index} {k} body w e =
-    rw (← e) (ap (each (λ (f : Field). numberAt 0 (f .content))) (sym (keep-all (λ (f : Field). leb 2 (length (f .content))) (elementFields s index k) noField (field-long w))))
+    rw (← e) (ap (each (λ (f : Field). numberAt 0 (f .content)))
+        (sym (keep-all (λ (f : Field). leb 2 (length (f .content))) (elementFields s index k) noField (field-long w))))
 
 -- The sections of a structure, by numbers that the code computes.
 module _ {s index : List ℕ} {k : ℕ} {body : List Field} (b : Bodied s index k body) where
@@ -124,7 +125,8 @@ module _ {s index : List ℕ} {k : ℕ} {body : List Field} (b : Bodied s index 
       let x = run-le (rw av at a) in let y = run-le (rw vi at v) in let z = run-le (rw ie at i) in
       (run-end a (rw av (omega arith)), run-end v (rw vi (omega arith)), run-end i (rw ie (omega arith)))
 
-pub bodied-kept : {s index₀ index : List ℕ} {k m : ℕ} {body : List Field} → k < structureLimit → Kept index₀ index m → Bodied s index₀ k body → Bodied s index k body
+pub bodied-kept : {s index₀ index : List ℕ} {k m : ℕ} {body : List Field} → k < structureLimit → Kept index₀ index m → Bodied s index₀ k body
+    → Bodied s index k body
 unfolding sectionFrom sectionTo
 bodied-kept {k = k} h kept b = record {
     run = λ q lo hi. rw (kept .before (numberOf (within k q)) (omega arith), kept .before (numberOf (within k q) + 1) (omega arith)) (b .run q lo hi);
@@ -188,7 +190,8 @@ module _ (sig : Signature) (body : List Field) where
   unfolding bodyFault
   body-e h d = sym (rw (← h, d))
 
-  pub body-rest : {r : Fault} (t : Fault) → OfE r → r ≡ Sound → faultOf t ≡ restFault sig (namedElements body) body → faultOf t ≡ bodyFault sig (namedElements body) body
+  pub body-rest : {r : Fault} (t : Fault) → OfE r → r ≡ Sound → faultOf t ≡ restFault sig (namedElements body) body
+      → faultOf t ≡ bodyFault sig (namedElements body) body
   unfolding bodyFault restFault rowColumns nameKey
   body-rest t h d k = k ∙ sym (rw (← h, d))
 

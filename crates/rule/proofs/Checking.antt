@@ -37,7 +37,8 @@ unfolding all
 letter-tail letter f fs o = and-right (eqb (f .letter) letter) _ o
 
 -- What is left at a position, behind so many fields of which the last is known.
-pub record Checking (s : List ℕ) (letter : ℕ) (check : ℕ → Option Field → Field → Option ℕ) (to : ℕ) (fs : List Field) (at count : ℕ) (last : Option Field) : Type 0 where
+pub record Checking (s : List ℕ) (letter : ℕ) (check : ℕ → Option Field → Field → Option ℕ) (to : ℕ) (fs : List Field) (at count : ℕ)
+    (last : Option Field) : Type 0 where
   pub rest : List Field
   pub run : Run s at to rest
   pub letters : OfLetter letter rest

@@ -11,11 +11,12 @@ use lib.Dec.{eqb, ltb, leb}
 use lib.ListN.{length, getD, take, drop}
 use borrow.Author.Tests.{le-ltb, lt-ltb, eq-eqb, ne-eqb, ltb-true, ltb-false, not-false}
 use Rattle.definition.specs.Base.{pick, less, all, has, lowest, empty, span}
-use Rattle.definition.specs.Letters.{letterR, letterA, letterV, letterI}
+use Rattle.definition.specs.Letters.{letterR, letterA, letterV, letterI, predicate, function}
 use Rattle.definition.specs.Limits.{structureLimit, fieldLimit, mapLimit, nameBytes}
 use Rattle.definition.specs.Records.{Field, numbers, numberAt, notAbove, badName, odd}
-use Rattle.definition.specs.Signature.{Signature, typeParents}
-use Rattle.definition.specs.Rule.{Pair, elementOf, rowOf, nameOf, pairsOf, mapOf, auxiliaryOf, rowKey, keysAscend, elementsAt, classFalls, headFault, structureFault, elementFault, rowFault, nameFault, mapFault, kindFault, auxiliaryFault}
+use Rattle.definition.specs.Signature.{Signature, typeParents, predOf, funcOf, columnCount, arity, symbolCount}
+use Rattle.definition.specs.Rule.{Pair, elementOf, rowOf, nameOf, pairsOf, mapOf, auxiliaryOf, rowKey, keysAscend, elementsAt, classFalls, headFault}
+use Rattle.definition.specs.Rule.{structureFault, elementFault, rowFault, nameFault, mapFault, kindFault, auxiliaryFault}
 use Rattle.laws.proofs.Lists.{length-each, getD-each, or-right, never}
 use Rattle.records.specs.Places.{twoAt, stretch, fieldOf}
 use Rattle.records.proofs.Lists.{all-get}
@@ -23,9 +24,12 @@ use Rattle.records.proofs.Numbers.{length-stretch, stretch-at, drop-stretch, ta
 use Rattle.records.specs.Held.{heldAt}
 use Rattle.records.proofs.Index.{length-held}
 use Rattle.signature.specs.Index.{signatureAt, typesFrom, predsFrom, funcsFrom}
+use Rattle.signature.specs.Relations.{kindOf, countOf}
 use Rattle.signature.specs.declared.ids.Counts.{Counts}
+use Rattle.signature.specs.declared.ids.Relation.{Relation}
+use Rattle.signature.proofs.ByKind.{counted}
 use Rattle.laws.proofs.Numbers.{drop-numbers, take-numbers}
-use Rattle.rule.specs.Faults.{nameKey, pairNamed, lastField, LastIn, AboveLast, Fits, rowCheck, lastNamed, checkOf}
+use Rattle.rule.specs.Faults.{nameKey, pairNamed, lastField, LastIn, AboveLast, Fits, rowSymbols, rowColumns, rowCheck, lastNamed, checkOf}
 use Rattle.rule.specs.declared.order.Last.{Last}
 use Rattle.rule.specs.declared.order.Last.the-variants.{Content, Nothing}
 use Rattle.signature.specs.declared.faults.Fault.the-variants.{Sound, Draws}
@@ -37,11 +41,13 @@ abbrev pub first : List (ℕ × Bool) → Option ℕ
 first [] = none
 first (c ∷ cs) = pick (c .1) (some (c .0)) (first cs)
 
-pub structure-tests : (before len : ℕ) (f : Field) → length (f .content) ≡ len → structureFault before f ≡ first ((3, not (eqb len 0)) ∷ (4, leb structureLimit before) ∷ [])
+pub structure-tests : (before len : ℕ) (f : Field) → length (f .content) ≡ len
+    → structureFault before f ≡ first ((3, not (eqb len 0)) ∷ (4, leb structureLimit before) ∷ [])
 unfolding structureFault lowest
 structure-tests before len f e = rw (← e) (go (f .content))
   where
-    go : (xs : List ℕ) → first ((3, not (empty xs)) ∷ (4, leb structureLimit before) ∷ []) ≡ first ((3, not (eqb (length xs) 0)) ∷ (4, leb structureLimit before) ∷ [])
+    go : (xs : List ℕ) → first ((3, not (empty xs)) ∷ (4, leb structureLimit before) ∷ [])
+        ≡ first ((3, not (eqb (length xs) 0)) ∷ (4, leb structureLimit before) ∷ [])
     go [] = refl
     go (x ∷ xs) = rw (ne-eqb (length (x ∷ xs)) 0 (λ q. omega arith))
 
@@ -83,7 +89,8 @@ module _ (s : List ℕ) (start len : ℕ) (h : start + len ≤ length s) (letter
     unfolding rowFault lowest
     row-short e = rw (size, e)
 
-    pub row-tests : (odd len || ltb len (2 * (1 + results))) ≡ false → 2 ≤ len → rowFault results symbols columns els before last (fieldOf s letter start len) ≡ first (
+    pub row-tests : (odd len || ltb len (2 * (1 + results))) ≡ false → 2 ≤ len
+        → rowFault results symbols columns els before last (fieldOf s letter start len) ≡ first (
         (4, leb fieldLimit before)
         ∷ (5, not (ltb (twoAt s start) symbols) || not (all (λ (e : ℕ). has e els) (numbers (stretch s (start + 2) (len - 2)))))
         ∷ (6, notAbove (rowKey results) last (fieldOf s letter start len))
@@ -176,7 +183,8 @@ named-length s index n = length-each (elementNumbers s index) (span n 0) ∙ len
 
 pub named-at : (s index : List ℕ) (n k : ℕ) → k < n → elementsAt (numbersIn s index n) k ≡ elementNumbers s index k
 unfolding numbersIn
-named-at s index n k h = getD-each (elementNumbers s index) (span n 0) k 0 [] (rw (length-span n 0) h) ∙ ap (elementNumbers s index) (getD-span n 0 k 0 h ∙ omega arith)
+named-at s index n k h =
+    getD-each (elementNumbers s index) (span n 0) k 0 [] (rw (length-span n 0) h) ∙ ap (elementNumbers s index) (getD-span n 0 k 0 h ∙ omega arith)
 
 -- A class against the last one, which may be missing.
 pub class-none : (s : List ℕ) (start len a letter : ℕ) → false ≡ classFalls (some (fieldOf s letter a 0)) (fieldOf s letter start len)
@@ -196,12 +204,14 @@ pub three : (len : ℕ) → len ≡ 3 → 1 ≤ len
 three len e = omega arith
 
 -- A V is ordered by its name, an I by its term number.
-pub key-name : (count : ℕ) → count ≡ 1 → (last : Option Field) (f : Field) → notAbove (λ (g : Field). drop 2 (g .content)) last f ≡ notAbove (nameKey count) last f
+pub key-name : (count : ℕ) → count ≡ 1 → (last : Option Field) (f : Field)
+    → notAbove (λ (g : Field). drop 2 (g .content)) last f ≡ notAbove (nameKey count) last f
 unfolding nameKey
 key-name count e none f = refl
 key-name count e (some g) f = rw (eq-eqb _ _ e)
 
-pub key-term : (count : ℕ) → (count ≡ 1 → ⊥) → (last : Option Field) (f : Field) → notAbove (λ (g : Field). take 1 (numbers (g .content))) last f ≡ notAbove (nameKey count) last f
+pub key-term : (count : ℕ) → (count ≡ 1 → ⊥) → (last : Option Field) (f : Field)
+    → notAbove (λ (g : Field). take 1 (numbers (g .content))) last f ≡ notAbove (nameKey count) last f
 unfolding nameKey
 key-term count e none f = refl
 key-term count e (some g) f = rw (ne-eqb _ _ e)
@@ -220,6 +230,24 @@ module _ (s index : List ℕ) (counts : Counts) where
   unfolding signatureAt
   funcs-length = length-each _ (heldAt s index funcsFrom (counts .funcs)) ∙ length-held s index funcsFrom (counts .funcs)
 
+-- What a row is about: how many of its kind there are, and its columns.
+module _ (rel : Relation) (results : ℕ) (e : kindOf rel ≡ pick (eqb results 0) predicate function) where
+  pub row-count : (s index : List ℕ) (counts : Counts) → rowSymbols (signatureAt s index counts) results ≡ countOf counts rel
+  unfolding symbolCount
+  row-count s index counts = go (eqb results 0) (signatureAt s index counts) ∙ rw (← e) (counted s index counts rel)
+    where
+      go : (b : Bool) (sig : Signature) → pick b (length (sig .preds)) (length (sig .funcs)) ≡ symbolCount sig (pick b predicate function)
+      go true sig = refl
+      go false sig = refl
+
+  pub row-arity : (sig : Signature) (n : ℕ) → rowColumns sig results n ≡ arity sig (kindOf rel) n
+  unfolding rowColumns arity
+  row-arity sig n = rw e (go (eqb results 0))
+    where
+      go : (b : Bool) → pick b (columnCount (predOf sig n)) (columnCount (funcOf sig n)) ≡ arity sig (pick b predicate function) n
+      go true = refl
+      go false = refl
+
 -- A content of numbers is as long as the least asks.
 pub numbers-long : (len least : ℕ) → (odd len || ltb len (2 * least)) ≡ false → 2 * least ≤ len
 numbers-long len least e = ltb-false len (2 * least) (or-right (odd len) (ltb len (2 * least)) e)
@@ -230,7 +258,8 @@ pub ends-below : (s : List ℕ) (start n : ℕ) → start + 4 ≤ length s → a
 ends-below s start n h e = (rw (add-zero start) at (below 0 (omega arith)), below 1 (omega arith))
   where
     below : (i : ℕ) → i < 2 → twoAt s (start + 2 * i) < n
-    below i l = ltb-true _ n (rw (numbers-in s start 4 h i l) at (all-get (λ (k : ℕ). ltb k n) (numbers (stretch s start 4)) i 0 e (rw (length-numbers-in s start 4 h) l)))
+    below i l = ltb-true _ n
+        (rw (numbers-in s start 4 h i l) at (all-get (λ (k : ℕ). ltb k n) (numbers (stretch s start 4)) i 0 e (rw (length-numbers-in s start 4 h) l)))
 
 pub row-long : (len results : ℕ) → (odd len || ltb len (2 * (1 + results))) ≡ false → 2 ≤ len
 row-long len results e = omega (arith, numbers-long len (1 + results) e)
@@ -241,7 +270,8 @@ last-named s index n h = rw (named-length s index n) (named-at s index n (n - 1)
 
 -- R and A share a check, and so do V and I: they differ in a number.
 module _ (letter : ℕ) {results : ℕ} (e : results ≡ pick (eqb letter letterA) 1 0) where
-  pub row-check : (sig : Signature) (named : List (List ℕ)) → letter ≡ letterA ⊎ letter ≡ letterR → checkOf sig named letter ≡ rowCheck sig results (lastNamed sig named)
+  pub row-check : (sig : Signature) (named : List (List ℕ)) → letter ≡ letterA ⊎ letter ≡ letterR
+      → checkOf sig named letter ≡ rowCheck sig results (lastNamed sig named)
   unfolding checkOf
   row-check sig named = ⊎-elim (λ a. rw (e, a)) (λ r. rw (e, r))
 
@@ -253,7 +283,8 @@ module _ (letter : ℕ) {results : ℕ} (e : results ≡ pick (eqb letter letter
       go false q = omega arith
 
 module _ (letter : ℕ) {count : ℕ} (e : count ≡ pick (eqb letter letterI) 2 1) where
-  pub name-check : (sig : Signature) (named : List (List ℕ)) → letter ≡ letterI ⊎ letter ≡ letterV → checkOf sig named letter ≡ nameFault count (nameKey count) (lastNamed sig named)
+  pub name-check : (sig : Signature) (named : List (List ℕ)) → letter ≡ letterI ⊎ letter ≡ letterV
+      → checkOf sig named letter ≡ nameFault count (nameKey count) (lastNamed sig named)
   unfolding checkOf
   name-check sig named = ⊎-elim (λ i. rw (e, i)) (λ v. rw (e, v))
 
@@ -290,7 +321,9 @@ above-last : (s : List ℕ) (start len : ℕ) (last : Last) → start + len ≤ 
     → notAbove (λ (g : Field). take 1 (numbers (g .content))) (lastField s 0 last) (fieldOf s 0 start len) ≡ false → AboveLast last s (twoAt s start)
 above-last s start len Nothing h w l e = tt
 above-last s start len (Content a m) h w l e = λ k.
-    less-one (twoAt s a) (twoAt s start) (rw (one-number s a m (w .is) k, one-number s start len h (omega arith)) at (not-false (less (take 1 (numbers (stretch s a m))) (take 1 (numbers (stretch s start len)))) e))
+    less-one (twoAt s a) (twoAt s start)
+        (rw (one-number s a m (w .is) k, one-number s start len h (omega arith)) at
+        (not-false (less (take 1 (numbers (stretch s a m))) (take 1 (numbers (stretch s start len)))) e))
 
 pub fits-sound : (s : List ℕ) (start len before : ℕ) (last : Last) → start + len ≤ length s → LastIn last (length s) → 4 ≤ len → before < fieldLimit
     → notAbove (λ (g : Field). take 1 (numbers (g .content))) (lastField s 0 last) (fieldOf s 0 start len) ≡ false → Fits Sound s start len before last

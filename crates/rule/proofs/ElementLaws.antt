@@ -60,7 +60,8 @@ module _ {s index : List ℕ} {k : ℕ} (h : ElementsAt s index k) (i : ℕ) (l 
       let n : length (numbers (stretch s (at + 7) (2 * (size / 2 - 2)))) ≡ size / 2 - 2 = count-in s (at + 7) (size / 2 - 2) (omega arith) in
       (w .0, w .1, w .2, rw n at (rw parents-are at (h .few i l)))
 
-  pub element-is : record { number = twoAt s (at + 3); type = twoAt s (at + 5); parents = numbers (stretch s (at + 7) (2 * (size / 2 - 2))) } ≡ elementIn s index k i
+  pub element-is : record { number = twoAt s (at + 3); type = twoAt s (at + 5); parents = numbers (stretch s (at + 7) (2 * (size / 2 - 2))) }
+      ≡ elementIn s index k i
   element-is = rw (← number-is, ← type-is, ← parents-are)
 
 -- An element that was read has as many parents as it says.

@@ -16,7 +16,8 @@ pub record Filling (index₀ index : List ℕ) (section at i : ℕ) : Type 0 whe
 pub fill-start : (index : List ℕ) (section at : ℕ) → length index ≡ ruleIndex → Filling index index section at section
 fill-start index section at l = record { long = l; same = λ t. refl }
 
-pub fill-next : {index₀ index : List ℕ} {section at i : ℕ} → Filling index₀ index section at i → i + 1 ≤ sections → Filling index₀ (set index (i + 1) at) section at (i + 1)
+pub fill-next : {index₀ index : List ℕ} {section at i : ℕ} → Filling index₀ index section at i → i + 1 ≤ sections
+    → Filling index₀ (set index (i + 1) at) section at (i + 1)
 fill-next {index₀} {index} {section} {at} {i} w h = record {
   long = length-set index (i + 1) at ∙ w .long;
   same = λ t. go t (decLt i t) (ℕ-discrete t (i + 1)) ∙ w .same t;

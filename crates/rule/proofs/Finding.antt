@@ -12,7 +12,7 @@ use borrow.Author.Tests.{eq-eqb, ne-eqb, le-leb, lt-leb}
 use Rattle.definition.specs.Base.{keep, each, any, has, placeFrom}
 use Rattle.definition.specs.Letters.{letterE, start}
 use Rattle.definition.specs.Limits.{fieldLimit}
-use Rattle.definition.specs.Records.{Field, numbers, numberAt, withLetter}
+use Rattle.definition.specs.Records.{Field, numberAt, withLetter}
 use Rattle.definition.specs.Rule.{namedElements}
 use Rattle.laws.proofs.Lists.{length-each, getD-each}
 use Rattle.records.specs.Places.{twoAt, stretch, fieldAt, fieldOf, Run}
@@ -65,7 +65,8 @@ place-at : (a : ℕ) (xs : List ℕ) (i e : ℕ) → i < length xs → getD xs i
 unfolding placeFrom
 place-at a [] i e h g d = absurd (omega arith)
 place-at a (x ∷ xs) zero e h g d = rw (eq-eqb x e g, add-zero a)
-place-at a (x ∷ xs) (suc i) e h g d = rw (ne-eqb x e (λ q. d 0 (omega arith) q)) (place-at (a + 1) xs i e (omega arith) g (λ j l q. d (suc j) (omega arith) q) ∙ omega arith)
+place-at a (x ∷ xs) (suc i) e h g d =
+    rw (ne-eqb x e (λ q. d 0 (omega arith) q)) (place-at (a + 1) xs i e (omega arith) g (λ j l q. d (suc j) (omega arith) q) ∙ omega arith)
 
 -- The search in a structure: what is below low is below e, what is from high on is above it.
 pub record Searching (s index : List ℕ) (k e low high : ℕ) : Type 0 where
@@ -158,7 +159,8 @@ module _ {s : List ℕ} {to e at : ℕ} {body : List Field} (w : Scanning s to e
       unfolding has any
       scan-hit h p q = let b = run-got (w .run) lt g in w .left ∙ rw (b .same, names-long (b .rest) h, eq-eqb (twoAt s start) e (sym p ∙ q))
 
-      missed : (rest : List Field) → w .rest ≡ fieldOf s letter start len ∷ rest → 2 ≤ len → (twoAt s start ≡ e → ⊥) → has e (namesOf (w .rest)) ≡ has e (namesOf rest)
+      missed : (rest : List Field) → w .rest ≡ fieldOf s letter start len ∷ rest → 2 ≤ len → (twoAt s start ≡ e → ⊥)
+          → has e (namesOf (w .rest)) ≡ has e (namesOf rest)
       unfolding has any
       missed rest r h q = rw (r, names-long rest h, ne-eqb (twoAt s start) e q)
 

@@ -156,21 +156,28 @@ module _ (fs : List Field) (f : Field) (n q : ℕ) (e : placeOf (f .letter) ≡ 
       unmoved a b = rw (a, ne-eqb mine here b, append-nil)
 
       new-other : (h : q ≡ placeS) → (k ≡ n → ⊥) → Grows (within k r)
-      new-other h d = unmoved (ap (λ (bs : List Block). getD bs k noBlock) (blocks-new letterS f (is-s h) fs) ∙ go (decLt k n)) (λ x. d (omega (arith, at-new h)))
+      new-other h d = unmoved (ap (λ (bs : List Block). getD bs k noBlock) (blocks-new letterS f (is-s h) fs) ∙ go (decLt k n))
+          (λ x. d (omega (arith, at-new h)))
         where
           go : Dec (k < n) → getD (blocks letterS fs ++ (record { head = f; body = [] } ∷ [])) k noBlock ≡ blockAt fs k
           go (yes a) = get-old (blocks letterS fs) _ k noBlock (omega (arith, cn))
-          go (no a) = List·getD-eq-default (blocks letterS fs ++ (record { head = f; body = [] } ∷ [])) noBlock (rw length-append (more-than n k (length (blocks letterS fs)) cn d (omega arith))) ∙ sym (List·getD-eq-default (blocks letterS fs) noBlock (omega (arith, cn)))
+          go (no a) = List·getD-eq-default (blocks letterS fs ++ (record { head = f; body = [] } ∷ [])) noBlock
+              (rw length-append (more-than n k (length (blocks letterS fs)) cn d (omega arith)))
+              ∙ sym (List·getD-eq-default (blocks letterS fs) noBlock (omega (arith, cn)))
 
       new-here : (h : q ≡ placeS) → k ≡ n → Grows (within k r)
       unfolding fieldsIn withLetter keep
       new-here h d =
-          let b : blockAt (fs ++ (f ∷ [])) k ≡ record { head = f; body = [] } = ap (λ (bs : List Block). getD bs k noBlock) (blocks-new letterS f (is-s h) fs) ∙ get-new (blocks letterS fs) _ k noBlock (omega (arith, cn)) in
+          let b : blockAt (fs ++ (f ∷ [])) k ≡ record { head = f; body = [] } =
+              ap (λ (bs : List Block). getD bs k noBlock) (blocks-new letterS f (is-s h) fs)
+              ∙ get-new (blocks letterS fs) _ k noBlock (omega (arith, cn)) in
           let z : fieldsIn (within k r) fs ≡ [] = none-within fs k r (omega (arith, cn)) (omega arith) (omega arith) in
           rw (b, z) (rw (of-letter r mine (omega arith) (λ x. omega (arith, at-new h)) (λ x. omega (arith, at-new h))))
 
       add-there : (h : q ≡ placeS → ⊥) → (k + 1 ≡ n → ⊥) → Grows (within k r)
-      add-there h d = unmoved (ap (λ (bs : List Block). getD bs k noBlock) (blocks-add letterS f (not-s h) fs) ∙ add-other f (blocks letterS fs) k noBlock (λ x. d (omega (arith, cn)))) (λ x. go x (kind-of q lo))
+      add-there h d = unmoved
+          (ap (λ (bs : List Block). getD bs k noBlock) (blocks-add letterS f (not-s h) fs)
+          ∙ add-other f (blocks letterS fs) k noBlock (λ x. d (omega (arith, cn)))) (λ x. go x (kind-of q lo))
         where
           go : mine ≡ here → Kind q → ⊥
           go x (of-n a) = omega (arith, at-first a)
@@ -183,7 +190,8 @@ module _ (fs : List Field) (f : Field) (n q : ℕ) (e : placeOf (f .letter) ≡ 
       add-this h d =
           let b : blockAt (fs ++ (f ∷ [])) k ≡ record { head = blockAt fs k .head; body = blockAt fs k .body ++ (f ∷ []) }
           = ap (λ (bs : List Block). getD bs k noBlock) (blocks-add letterS f (not-s h) fs) ∙ add-here f (blocks letterS fs) k noBlock (omega (arith, cn)) in
-          rw b (with-snoc (letterAt r) f (wholeBlock (blockAt fs k)) ∙ rw (of-letter r mine (omega arith) (λ x. to x (kind-of q lo)) (λ x. from x (kind-of q lo))))
+          rw b (with-snoc (letterAt r) f (wholeBlock (blockAt fs k))
+              ∙ rw (of-letter r mine (omega arith) (λ x. to x (kind-of q lo)) (λ x. from x (kind-of q lo))))
         where
           to : q ≡ r → Kind q → mine ≡ here
           to x (of-n a) = absurd (omega arith)

@@ -47,7 +47,8 @@ unfolding placeFrom has any
 place-none i n [] h = refl
 place-none i n (m ∷ ms) h = go (eqb m n) (place-none (i + 1) n ms) h
   where
-    go : (b : Bool) → (i + 1 + length ms ≤ placeFrom (i + 1) n ms → has n ms ≡ false) → i + length (m ∷ ms) ≤ pick b i (placeFrom (i + 1) n ms) → (b || has n ms) ≡ false
+    go : (b : Bool) → (i + 1 + length ms ≤ placeFrom (i + 1) n ms → has n ms ≡ false) → i + length (m ∷ ms) ≤ pick b i (placeFrom (i + 1) n ms)
+        → (b || has n ms) ≡ false
     go true r h = absurd (omega arith)
     go false r h = r (omega arith)
 

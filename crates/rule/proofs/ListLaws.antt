@@ -4,13 +4,12 @@ use native.Mathlib.Omega.{arith}
 use mathlib.Core.List.{List, [], _∷_, _++_}
 use mathlib.Core.Option.{some}
 use mathlib.Core.Path.{_≡_, sym, _∙_, ap}
-use lib.ListN.{length, getD, take, drop, drop-of-length-le}
+use lib.ListN.{length, getD, take, drop}
 use lib.Seq.{take-all}
 use Rattle.definition.specs.Base.{lastOf, butLast, _∈_}
 use Rattle.definition.specs.Records.{numbers}
 use Rattle.laws.proofs.Lists.{mem-at}
 use Rattle.records.specs.Places.{twoAt, stretch}
-use Rattle.records.proofs.Link.{one-more}
 use Rattle.records.proofs.Lists.{last-some}
 use Rattle.records.proofs.Numbers.{drop-stretch, take-stretch}
 use Rattle.records.proofs.Parts.{take-more, but-last-take, count-in, element-in}
@@ -31,18 +30,12 @@ module _ {s : List ℕ} {l : Els} (w : ElsInside s l) where
     pub els-more : take (j + 1) (elsIn s l) ≡ take j (elsIn s l) ++ (e ∷ [])
     els-more = let n = els-many in rw is (take-more (elsIn s l) j 0 (omega arith))
 
-    pub els-on : drop j (elsIn s l) ≡ e ∷ drop (j + 1) (elsIn s l)
-    els-on = let n = els-many in rw is (one-more (elsIn s l) j (omega arith))
-
     pub el-mem : e ∈ elsIn s l
     el-mem = let n = els-many in rw is (mem-at (elsIn s l) j 0 (omega arith))
 
   -- All were taken: nothing is left.
   pub els-all : (j : ℕ) → l .count ≤ j → take j (elsIn s l) ≡ elsIn s l
   els-all j h = let n = els-many in take-all j (elsIn s l) (omega arith)
-
-  pub els-end : (j : ℕ) → l .count ≤ j → drop j (elsIn s l) ≡ []
-  els-end j h = let n = els-many in let k : length (elsIn s l) ≤ j = omega arith in drop-of-length-le (elsIn s l) k
 
   -- The last, and all but it.
   pub els-last : 1 ≤ l .count → lastOf (elsIn s l) ≡ some (getD (elsIn s l) (l .count - 1) 0)

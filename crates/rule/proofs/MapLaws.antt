@@ -108,7 +108,8 @@ module _ {s : List ℕ} {m : Map} (h : MapIn s m) {e low high : ℕ} (b : Betwee
   between-down mid l q = record {
     within = omega (arith, b .within);
     smaller = b .smaller;
-    larger = λ i k n. ⊎-elim (λ z. absurd (omega arith)) (⊎-elim (λ (z : i ≡ mid). rw z q) (λ (z : mid < i). let r = keys-rise mid i z n in omega arith)) (trichotomy i mid);
+    larger = λ i k n. ⊎-elim (λ z. absurd (omega arith)) (⊎-elim (λ (z : i ≡ mid). rw z q) (λ (z : mid < i). let r = keys-rise mid i z n in omega arith))
+        (trichotomy i mid);
   }
 
   pub not-found : high ≤ low → none ≡ imageOf (pairsIn s m) e
@@ -133,8 +134,10 @@ few-keys ps els h up named = go (length ps) (omega arith)
 
     rise : (i j : ℕ) → i < j → j < length ps → place i < place j
     rise i j l k = ⊎-elim (λ (z : place i < place j). z)
-        (⊎-elim (λ (z : place i ≡ place j). let a = ascend-at ps h i j l k in let b = here i (omega arith) .1 in let c = here j k .1 in let d : getD els (place i) 0 ≡ getD els (place j) 0 = rw z in absurd (omega arith))
-        (λ (z : place j < place i). let a = ascend-at ps h i j l k in let b = here i (omega arith) .1 in let c = here j k .1 in let d = up (place j) (place i) z (here i (omega arith) .0) in absurd (omega arith)))
+        (⊎-elim (λ (z : place i ≡ place j). let a = ascend-at ps h i j l k in let b = here i (omega arith) .1 in let c = here j k .1 in
+            let d : getD els (place i) 0 ≡ getD els (place j) 0 = rw z in absurd (omega arith))
+        (λ (z : place j < place i). let a = ascend-at ps h i j l k in let b = here i (omega arith) .1 in let c = here j k .1 in
+            let d = up (place j) (place i) z (here i (omega arith) .0) in absurd (omega arith)))
         (trichotomy (place i) (place j))
 
     above : (i : ℕ) → i < length ps → i ≤ place i

@@ -6,11 +6,11 @@ use mathlib.Core.List.{List, [], _∷_}
 use mathlib.Core.Option.{Option, none, some}
 use mathlib.Core.Path.{_≡_, refl, sym, _∙_, ap}
 use lib.ListN.{length, take}
-use Rattle.definition.specs.Base.{orDefault}
+use Rattle.definition.specs.Base.{orDefault, given}
 use Rattle.definition.specs.Letters.{letterM}
 use Rattle.definition.specs.Records.{numbers}
 use Rattle.definition.specs.Rule.{Pair, mapOf, pairsOf, keysAscend}
-use Rattle.definition.specs.Walk.{pairsBetween, found}
+use Rattle.definition.specs.Walk.{pairsBetween}
 use Rattle.records.specs.Places.{stretch, fieldOf}
 use Rattle.records.proofs.Numbers.{length-stretch, take-stretch, drop-stretch}
 use Rattle.laws.proofs.Numbers.{drop-numbers}
@@ -91,10 +91,11 @@ pub record Read (s : List ℕ) (u t : ℕ) (m : Map) : Type 0 where
   pub joins : Joins s u t m
 
 module _ {s index : List ℕ} (w : Ready s index) (u t : ℕ) {r : MapFound} (f : FindsMap r s (pairsBetween (ruleAt s .maps) u t)) where
-  pub never-missed : {A : Type 0} → found (pairsBetween (ruleAt s .maps) u t) ≡ true → r ≡ map.Nothing → A
+  pub never-missed : {A : Type 0} → given (pairsBetween (ruleAt s .maps) u t) ≡ true → r ≡ map.Nothing → A
   never-missed h e = let q = found-none (rw e at f) in let z : _≡_ {A = Bool} false true = rw q at h in let y : _≡_ {A = ℕ} 0 1 = cc in absurd (omega arith)
 
-  pub map-read : {start len n : ℕ} → r ≡ map.At start len → n ≡ length (mapOf (fieldOf s letterM start len) .pairs) → Read s u t (record { at = start + 4; pairs = n })
+  pub map-read : {start len n : ℕ} → r ≡ map.At start len → n ≡ length (mapOf (fieldOf s letterM start len) .pairs)
+      → Read s u t (record { at = start + 4; pairs = n })
   map-read {start} {len} e c =
       let q = found-at (rw e at f) in
       rw (c ∙ sym (pairs-are s start len (q .1) letterM)) record {

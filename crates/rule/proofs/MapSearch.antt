@@ -29,7 +29,8 @@ pub record Seeking (s : List ℕ) (source target to at : ℕ) : Type 0 where
   pub long : AllLong 4 rest
   pub left : pairsBetween (ruleAt s .maps) source target ≡ firstOf (mapOfPair source target) (each mapOf rest)
 
-pub seek-start : {s index : List ℕ} → Ready s index → (source target : ℕ) → Seeking s source target (getD index (numberOf (back placeK)) 0) (getD index (numberOf (back placeM)) 0)
+pub seek-start : {s index : List ℕ} → Ready s index → (source target : ℕ)
+    → Seeking s source target (getD index (numberOf (back placeK)) 0) (getD index (numberOf (back placeM)) 0)
 unfolding ruleAt ruleOf pairsBetween
 seek-start {s} {index} w source target = record {
   rest = withLetter letterM (rulePart s .fields);

@@ -14,7 +14,8 @@ use Rattle.definition.specs.Limits.{structureLimit, ruleBytes, nameBytes}
 use Rattle.definition.specs.Letters.{start, letterN, letterS, letterE, letterV, letterI}
 use Rattle.definition.specs.Records.{Field, Fields, end, bad, _▸_, Block, follows, inFront, placed, numberAt, withLetter, blocks, fieldsOf, faultAmong}
 use Rattle.definition.specs.Signature.{Signature}
-use Rattle.definition.specs.Rule.{ruleGrammar, Rule, Structure, Name, Map, nameOf, namedElements, headFault, nameFault, bodyFault, structureOf, headField, ruleOf, rulePart, ruleFault, readRule}
+use Rattle.definition.specs.Rule.{ruleGrammar, Rule, Structure, Name, Map, nameOf, namedElements, headFault, nameFault, bodyFault, structureOf}
+use Rattle.definition.specs.Rule.{headField, ruleOf, rulePart, ruleFault, readRule}
 use Rattle.definition.specs.Walk.{noStructure}
 use Rattle.records.specs.Places.{twoAt, stretch, fieldAt, fieldOf, Run}
 use Rattle.records.specs.declared.fields.Field as read-field
@@ -65,7 +66,8 @@ list-at body count letter key r n f =
 
 module _ (sig : Signature) (s index : List ℕ) (k : ℕ) (inside : k < length (blocks letterS (rulePart s .fields)))
     (sound : bodyFault sig (namedElements (blockAt (rulePart s .fields) k .body)) (blockAt (rulePart s .fields) k .body) ≡ none)
-    (run : (q : ℕ) → placeE ≤ q → q ≤ placeI → Run s (sectionFrom index k q) (sectionTo index k q) (withLetter (letterAt q) (blockAt (rulePart s .fields) k .body))) where
+    (run : (q : ℕ) → placeE ≤ q → q ≤ placeI
+        → Run s (sectionFrom index k q) (sectionTo index k q) (withLetter (letterAt q) (blockAt (rulePart s .fields) k .body))) where
   abbrev Parted : Type 0
   Parted = NamesAt s (sectionFrom index k placeV) (sectionTo index k placeV) 1 (structureIn s k .variableNames)
       × NamesAt s (sectionFrom index k placeI) (sectionTo index k placeI) 2 (structureIn s k .identifierNames)
@@ -76,7 +78,8 @@ module _ (sig : Signature) (s index : List ℕ) (k : ℕ) (inside : k < length (
       let b : Block = blockAt (rulePart s .fields) k in
       let t = body-parts sig (namedElements (b .body)) (b .body) sound in
       let e = structure-is s k inside in
-      (list-at (b .body) 1 letterV _ (run placeV (omega arith) (omega arith)) (rw e) (t .3), list-at (b .body) 2 letterI _ (run placeI (omega arith) (omega arith)) (rw e) (t .4))
+      (list-at (b .body) 1 letterV _ (run placeV (omega arith) (omega arith)) (rw e) (t .3),
+          list-at (b .body) 2 letterI _ (run placeI (omega arith) (omega arith)) (rw e) (t .4))
 
   names-at : (count : ℕ) → 1 ≤ count → count ≤ 2
       → NamesAt s (sectionFrom index k (namePlace count)) (sectionTo index k (namePlace count)) count (namesOf (structureIn s k) count)
@@ -97,14 +100,16 @@ structure-laid {sig} {s} {index} {n} w k h els =
     let c : n ≡ length (blocks letterS (rulePart s .fields)) = w .counted in
     let i : k < length (blocks letterS (rulePart s .fields)) = omega arith in
     let f = rule-parts sig (rulePart s .fields) (w .sound) .1 in
-    laid sig s index k i (structure-bodies sig (blocks letterS (rulePart s .fields)) f _ (mem-at (blocks letterS (rulePart s .fields)) k noBlock i)) (w .body k h .run)
+    laid sig s index k i (structure-bodies sig (blocks letterS (rulePart s .fields)) f _ (mem-at (blocks letterS (rulePart s .fields)) k noBlock i))
+        (w .body k h .run)
     (omega (arith, w .known .few)) els (w .holds k h)
 
 -- The N field is the one that is read first.
 no-fields : {fs : List Field} → fs ≡ [] → Begins fs → ⊥
 no-fields e b = let a = b .all in let z : _≡_ {A = ℕ} 0 1 = cc in omega arith
 
-head-first : (fs : Fields) {f : Field} {rest : Fields} → fs ≡ f ▸ rest → Begins (placed ruleGrammar start fs .fields) → headField (placed ruleGrammar start fs .fields) ≡ f
+head-first : (fs : Fields) {f : Field} {rest : Fields} → fs ≡ f ▸ rest → Begins (placed ruleGrammar start fs .fields)
+    → headField (placed ruleGrammar start fs .fields) ≡ f
 unfolding placed
 head-first fs {f} {rest} e b = rw e (go (follows (ruleGrammar .places) start (f .letter)) (rw e at b))
   where
@@ -130,7 +135,8 @@ first-read s b = go (fieldAt s 0) refl
     none-read (no l) e = let n : fieldsOf s ≡ end = fields-all s ∙ fields-end s 0 (omega arith) in no-fields (rw n) b
 
     go : (r : read-field.Field) → fieldAt s 0 ≡ r → FirstRead s
-    go (Got l from len next) e = record { letter = l; from = from; len = len; next = next; got = e; same = head-first (fieldsOf s) (fields-all s ∙ fields-got s 0 e) b }
+    go (Got l from len next) e =
+        record { letter = l; from = from; len = len; next = next; got = e; same = head-first (fieldsOf s) (fields-all s ∙ fields-got s 0 e) b }
     go Bad e = absurd (none-read (decLt 0 (length s)) e)
 
 head-sized : (n : ℕ) (l : Option Field) (f : Field) → headFault n l f ≡ none → (2 ≤ length (f .content)) × (length (f .content) ≤ 2 + nameBytes)

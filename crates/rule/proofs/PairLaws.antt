@@ -81,7 +81,8 @@ module _ (s : List ℕ) (start count : ℕ) (h : start + 4 * count ≤ length s)
       unfolding allPairs all
       pairs-no l e = rw (pair-on i l, e)
 
-      pub pairs-on : i < count → p (record { key = twoAt s (start + 4 * i); image = twoAt s (start + 4 * i + 2) }) ≡ true → allPairs s start count p i ≡ allPairs s start count p (i + 1)
+      pub pairs-on : i < count → p (record { key = twoAt s (start + 4 * i); image = twoAt s (start + 4 * i + 2) }) ≡ true
+          → allPairs s start count p i ≡ allPairs s start count p (i + 1)
       unfolding allPairs all
       pairs-on l e = rw (pair-on i l, e)
 
@@ -90,7 +91,8 @@ module _ (s : List ℕ) (start count : ℕ) (h : start + 4 * count ≤ length s)
       pairs-end l = rw (pair-end i l)
 
     two-on : i + 1 < count → drop i pairsAll
-        ≡ record { key = twoAt s (start + 4 * i); image = twoAt s (start + 4 * i + 2) } ∷ record { key = twoAt s (start + 4 * i + 4); image = twoAt s (start + 4 * i + 4 + 2) } ∷ drop (i + 1 + 1) pairsAll
+        ≡ record { key = twoAt s (start + 4 * i); image = twoAt s (start + 4 * i + 2) } ∷ record
+            { key = twoAt s (start + 4 * i + 4); image = twoAt s (start + 4 * i + 4 + 2) } ∷ drop (i + 1 + 1) pairsAll
     two-on l = let e : start + 4 * (i + 1) ≡ start + 4 * i + 4 = omega arith in pair-on i (omega arith) ∙ rw (pair-on (i + 1) l, e)
 
     pub keys-no : i + 1 < count → twoAt s (start + 4 * i + 4) ≤ twoAt s (start + 4 * i) → keysFrom s start count i ≡ false

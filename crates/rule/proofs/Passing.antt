@@ -10,7 +10,7 @@ use lib.Dec.{eqb, leb}
 use lib.ListN.{length, getD, set}
 use lib.Seq.{getD-set-same}
 use borrow.Author.Tests.{eq-eqb, ne-eqb, le-leb, lt-leb, leb-true}
-use Rattle.definition.specs.Base.{when, consIf, keep, has}
+use Rattle.definition.specs.Base.{when, consIf, keep}
 use Rattle.definition.specs.Letters.{letterN, letterS, start}
 use Rattle.definition.specs.Limits.{structureLimit, ruleBytes}
 use Rattle.definition.specs.Records.{Field, Fields, end, bad, _▸_, Part, follows, placed, withLetter, blocks, inFront}
@@ -23,7 +23,8 @@ use Rattle.records.proofs.Placed.{Placing, Placed, passing, placing-start, plac
 use Rattle.rule.specs.Layout.{letterAt, placeOf, placeN, placeS, placeE, placeI, placeM, placeX, letters, mayFollow, withOne, sectionAt}
 use Rattle.rule.specs.Layout.{Section, front, within, back, numberOf, Proper, fieldsIn, sections, ruleIndex, boundAt, Sectioned, sectionFrom}
 use Rattle.rule.specs.Answers.{Passes}
-use Rattle.rule.proofs.Letters.{letter-is, follows-is, follows-far, last-is, not-first, not-start, may-cases, may-repeat, section-first, section-inside, section-behind}
+use Rattle.rule.proofs.Letters.{letter-is, follows-is, follows-far, last-is, not-first, not-start, may-cases, may-repeat, section-first}
+use Rattle.rule.proofs.Letters.{section-inside, section-behind}
 use Rattle.rule.proofs.Laying.{none-within, blocks-count, grows}
 
 -- The pass stands at a position, behind the letter of a place, in a section, with so many structures.
@@ -63,7 +64,8 @@ no-n b h (f ▸ fs) = go (follows (ruleGrammar .places) b (f .letter)) refl (λ 
     go false e i = refl
     go true e i = rw (ne-eqb (f .letter) letterN (λ q. not-first b h (rw q at e))) (i (λ q. not-start b (rw q at e)))
 
-no-head : (b : ℕ) → (b ≡ start → ⊥) → (fs : Fields) (f : Field) → f .letter ≡ b → (b ≡ letterN → ⊥) → withLetter letterN (f ∷ placed ruleGrammar b fs .fields) ≡ []
+no-head : (b : ℕ) → (b ≡ start → ⊥) → (fs : Fields) (f : Field) → f .letter ≡ b → (b ≡ letterN → ⊥)
+    → withLetter letterN (f ∷ placed ruleGrammar b fs .fields) ≡ []
 unfolding withLetter keep
 no-head b h fs f e d = rw (e, ne-eqb b letterN d) (no-n b h fs)
 
@@ -105,13 +107,16 @@ module _ {s index : List ℕ} {at behind section n : ℕ} (p : Passing s index a
 
   -- What the place of a letter that follows tells.
   pub place-in : (q : ℕ) → mayFollow behind q ≡ true → (placeN ≤ q) × (q ≤ placeX)
-  place-in q m = ⊎-elim (λ x. (omega (arith, x .0), omega (arith, x .0))) (λ x. ⊎-elim (λ y. (omega (arith, y .0), omega (arith, y .0))) (λ y. (omega (arith, y .0), y .1)) x) (may-cases behind q m)
+  place-in q m = ⊎-elim (λ x. (omega (arith, x .0), omega (arith, x .0)))
+      (λ x. ⊎-elim (λ y. (omega (arith, y .0), omega (arith, y .0))) (λ y. (omega (arith, y .0), y .1)) x) (may-cases behind q m)
 
   first-place : (q : ℕ) → mayFollow behind q ≡ true → q ≡ placeN → n ≡ 0
-  first-place q m h = p .first (⊎-elim (λ x. omega (arith, x .1)) (λ x. ⊎-elim (λ y. absurd (omega (arith, y .0))) (λ y. absurd (omega (arith, y .0))) x) (may-cases behind q m))
+  first-place q m h = p .first
+      (⊎-elim (λ x. omega (arith, x .1)) (λ x. ⊎-elim (λ y. absurd (omega (arith, y .0))) (λ y. absurd (omega (arith, y .0))) x) (may-cases behind q m))
 
   later-place : (q : ℕ) → mayFollow behind q ≡ true → placeE ≤ q → 1 ≤ n
-  later-place q m h = p .later (⊎-elim (λ x. absurd (omega (arith, x .0))) (λ x. ⊎-elim (λ y. absurd (omega (arith, y .0))) (λ y. y .2) x) (may-cases behind q m))
+  later-place q m h = p .later
+      (⊎-elim (λ x. absurd (omega (arith, x .0))) (λ x. ⊎-elim (λ y. absurd (omega (arith, y .0))) (λ y. y .2) x) (may-cases behind q m))
 
   pub some-structure : (q : ℕ) → mayFollow behind q ≡ true → placeN < q → 1 ≤ withOne n q
   some-structure q m h = go (ℕ-discrete q placeS)
@@ -188,16 +193,20 @@ module _ {s index : List ℕ} {at behind section n : ℕ} (p : Passing s index a
     ran : (t : Section) → Proper t → Run s (boundAt index′ to next (numberOf t)) (boundAt index′ to next (numberOf t + 1)) (fieldsIn t (p .passed ++ (f ∷ [])))
     ran t v = go (decLt (numberOf t) to) (ℕ-discrete (numberOf t) to)
       where
-        go : Dec (numberOf t < to) → Dec (numberOf t ≡ to) → Run s (boundAt index′ to next (numberOf t)) (boundAt index′ to next (numberOf t + 1)) (fieldsIn t (p .passed ++ (f ∷ [])))
+        go : Dec (numberOf t < to) → Dec (numberOf t ≡ to)
+            → Run s (boundAt index′ to next (numberOf t)) (boundAt index′ to next (numberOf t + 1)) (fieldsIn t (p .passed ++ (f ∷ [])))
         go (yes a) b =
             let r = rw (bound-in index′ to at (numberOf t) (omega arith), bound-in index′ to at (numberOf t + 1) (omega arith)) at (old t v) in
-            rw (bound-in index′ to next (numberOf t) (omega arith), bound-in index′ to next (numberOf t + 1) (omega arith), grown t v, ne-eqb (numberOf t) to (λ z. omega arith), append-nil) r
+            rw (bound-in index′ to next (numberOf t) (omega arith), bound-in index′ to next (numberOf t + 1) (omega arith), grown t v,
+                ne-eqb (numberOf t) to (λ z. omega arith), append-nil) r
         go (no a) (yes b) =
             let r = rw (bound-in index′ to at (numberOf t) (omega arith), bound-out index′ to at (numberOf t + 1) (omega arith)) at (old t v) in
-            rw (bound-in index′ to next (numberOf t) (omega arith), bound-out index′ to next (numberOf t + 1) (omega arith), grown t v, eq-eqb (numberOf t) to b) (run-snoc r e)
+            rw (bound-in index′ to next (numberOf t) (omega arith), bound-out index′ to next (numberOf t + 1) (omega arith), grown t v,
+                eq-eqb (numberOf t) to b) (run-snoc r e)
         go (no a) (no b) =
             let r = rw (bound-out index′ to at (numberOf t) (omega arith), bound-out index′ to at (numberOf t + 1) (omega arith)) at (old t v) in
-            rw (bound-out index′ to next (numberOf t) (omega arith), bound-out index′ to next (numberOf t + 1) (omega arith), grown t v, ne-eqb (numberOf t) to b, run-end r (omega arith)) none
+            rw (bound-out index′ to next (numberOf t) (omega arith), bound-out index′ to next (numberOf t + 1) (omega arith), grown t v,
+                ne-eqb (numberOf t) to b, run-end r (omega arith)) none
 
     pub pass-next : Passing s index′ next q to (withOne n q)
     pass-next = let w = place-in q m in record {
@@ -225,7 +234,8 @@ module _ {s index : List ℕ} {at behind section n : ℕ} (p : Passing s index a
     laid : Sectioned s index′ (p .passed)
     laid = record {
       run = λ t v. let h = number-in t v in
-          rw (bound-in index′ sections at (numberOf t) (omega arith), bound-in index′ sections at (numberOf t + 1) h) at (rw (← same (numberOf t), ← same (numberOf t + 1)) at (p .runs t v));
+          rw (bound-in index′ sections at (numberOf t) (omega arith), bound-in index′ sections at (numberOf t + 1) h) at
+              (rw (← same (numberOf t), ← same (numberOf t + 1)) at (p .runs t v));
     }
 
     ended : {whole : Bool} → (whole ≡ true → placeS ≤ behind) → Placed s (rulePart s) at whole (p .passed) → Passes s index′ whole n
@@ -239,7 +249,8 @@ module _ {s index : List ℕ} {at behind section n : ℕ} (p : Passing s index a
     pub pass-bad : at < length s → fieldAt s at ≡ Bad → Passes s index′ false n
     pass-bad h e = ended (λ z. never z refl) (placing-bad (p .placing) h e)
 
-    pub pass-stop : (letter start len next q : ℕ) → fieldAt s at ≡ Got letter start len next → q ≡ placeOf letter → mayFollow behind q ≡ false → Passes s index′ false n
+    pub pass-stop : (letter start len next q : ℕ) → fieldAt s at ≡ Got letter start len next → q ≡ placeOf letter → mayFollow behind q ≡ false
+        → Passes s index′ false n
     pass-stop letter start len next q e place m = ended (λ z. never z refl) (placing-stop (p .placing) e (go (decLt placeX q)))
       where
         go : Dec (placeX < q) → follows (ruleGrammar .places) (letterAt behind) letter ≡ false

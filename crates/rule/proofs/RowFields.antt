@@ -1,45 +1,28 @@
 -- Going along a section of rows.
 use Prim.Native.Nat.{ℕ, _+_, _-_, _*_, _/_, _%_, _≤_, _<_}
 use native.Mathlib.Omega.{arith}
-use mathlib.Core.List.{List, [], _∷_, _++_}
+use mathlib.Core.List.{List}
 use mathlib.Core.Path.{_≡_, _∙_}
 use lib.ListN.{length, take, drop}
-use Rattle.definition.specs.Base.{_∈_}
 use Rattle.definition.specs.Limits.{fieldLimit, columnLimit}
 use Rattle.definition.specs.Records.{Field, numbers, numberAt}
 use Rattle.definition.specs.Rule.{rowOf}
-use Rattle.records.specs.Places.{twoAt, stretch, fieldAt, fieldOf, Run}
-use Rattle.records.specs.declared.fields.Field.the-variants.{Got}
-use Rattle.records.proofs.Link.{got-is}
-use Rattle.records.proofs.Runs.{run-got, run-end}
-use Rattle.records.proofs.Numbers.{length-stretch, drop-stretch, number-in}
-use Rattle.records.proofs.Parts.{apart, drop-mem, took-all, none-left}
+use Rattle.records.specs.Places.{twoAt, stretch, fieldOf, Run}
+use Rattle.records.proofs.Runs.{run-end}
+use Rattle.records.proofs.Numbers.{drop-stretch, number-in}
+use Rattle.records.proofs.Parts.{took-all, none-left}
 use Rattle.laws.proofs.Numbers.{drop-numbers}
-use Rattle.rule.specs.Rows.{rowIn, RowsFrom}
+use Rattle.rule.specs.Rows.{rowIn}
 
 -- A loop stands at a position, behind the first i fields.
 pub record Passed (s : List ℕ) (end : ℕ) (fs : List Field) (at i : ℕ) : Type 0 where
   pub run : Run s at end (drop i fs)
   pub few : i ≤ length fs
 
--- The field that is read there is the next one.
-pub record Next (s : List ℕ) (end : ℕ) (fs : List Field) (i letter start len next : ℕ) : Type 0 where
-  pub passed : Passed s end fs next (i + 1)
-  pub took : take (i + 1) fs ≡ take i fs ++ (fieldOf s letter start len ∷ [])
-  pub inside : i < length fs
-  pub is : fieldOf s letter start len ∈ fs
-
 pub passed-start : {s : List ℕ} {from end : ℕ} {fs : List Field} → Run s from end fs → Passed s end fs from 0
 passed-start r = record { run = r; few = omega arith }
 
 module _ {s : List ℕ} {end at i : ℕ} {fs : List Field} (p : Passed s end fs at i) where
-  pub next-field : {letter start len next : ℕ} → at < end → fieldAt s at ≡ Got letter start len next → Next s end fs i letter start len next
-  next-field {next = next} h e =
-      let b = run-got (p .run) h e in
-      let a = apart fs i (b .same) in
-      let r : Run s next end (drop (i + 1) fs) = rw (a .left) (b .run) in
-      record { passed = record { run = r; few = omega (arith, a .inside) }; took = a .took; inside = a .inside; is = drop-mem i fs (b .same) }
-
   pub all-passed : end ≤ at → (take i fs ≡ fs) × (i ≡ length fs)
   all-passed h = let e = run-end (p .run) h in (took-all fs i e, none-left fs i e (p .few))
 
@@ -51,16 +34,6 @@ pub record RowHere (s : List ℕ) (i start len : ℕ) : Type 0 where
   pub even : len % 2 ≡ 0
   pub within : start + len ≤ length s
 
-pub row-here : {s : List ℕ} {from end at i letter start len next : ℕ} (rows : RowsFrom s from end) → Passed s end (rows .fields) at i → at < end
-    → fieldAt s at ≡ Got letter start len next → RowHere s i start len
-row-here {s} {at = at} {letter = letter} {start} {len} rows p h e =
-    let g = got-is s at e in
-    let n = next-field p h e in
-    let w : start + len ≤ length s = omega arith in
-    let z = rows .sized _ (n .is) in
-    let l : length (stretch s start len) ≡ len = length-stretch s start len w in
-    record { few = omega (arith, n .inside, rows .few); least = rw l at (z .least); most = rw l at (z .most); even = rw l at (z .even); within = w }
-
 -- What the field says.
 module _ {s : List ℕ} {i start len : ℕ} (h : RowHere s i start len) where
   pub row-is : (kind letter : ℕ) → rowOf kind (fieldOf s letter start len) ≡ rowIn s kind (twoAt s start) (start + 2) (len / 2 - 1)
@@ -69,5 +42,6 @@ module _ {s : List ℕ} {i start len : ℕ} (h : RowHere s i start len) where
       let a : start + 2 * 0 ≡ start = omega arith in
       let b : len - 2 ≡ 2 * (len / 2 - 1) = omega arith in
       let n : numberAt 0 (stretch s start len) ≡ twoAt s start = number-in s start len (h .within) 0 (omega arith) ∙ rw a in
-      let es : drop 1 (numbers (stretch s start len)) ≡ numbers (stretch s (start + 2) (2 * (len / 2 - 1))) = drop-numbers 1 (stretch s start len) ∙ rw (drop-stretch s start len 2, b) in
+      let es : drop 1 (numbers (stretch s start len)) ≡ numbers (stretch s (start + 2) (2 * (len / 2 - 1))) =
+          drop-numbers 1 (stretch s start len) ∙ rw (drop-stretch s start len 2, b) in
       rw (n, es)

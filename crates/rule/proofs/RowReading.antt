@@ -5,11 +5,11 @@ use native.Mathlib.Omega.{arith}
 use mathlib.Core.List.{List, [], _∷_, _++_}
 use mathlib.Core.Option.{Option}
 use mathlib.Core.Path.{_≡_, sym, _∙_, ap}
-use lib.ListN.{length, getD, take, drop, length-drop}
+use lib.ListN.{length, getD, take, drop}
 use lib.Seq.{getD-drop, length-take-le}
 use Rattle.definition.specs.Base.{orDefault, each, _∈_}
 use Rattle.definition.specs.Limits.{columnLimit}
-use Rattle.definition.specs.Records.{Field, numbers}
+use Rattle.definition.specs.Records.{Field}
 use Rattle.definition.specs.Rule.{Row, rowOf}
 use Rattle.definition.specs.Rows.{lastElement}
 use Rattle.laws.proofs.Lists.{each-mem, each-append, length-each, getD-each}
@@ -17,8 +17,7 @@ use Rattle.records.specs.Places.{twoAt, stretch, fieldOf, Run, none, more}
 use Rattle.records.proofs.Link.{got-is}
 use Rattle.records.proofs.Numbers.{length-stretch}
 use Rattle.records.proofs.Parts.{apart, drop-mem}
-use Rattle.records.proofs.Runs.{StartsWith, run-starts, run-foremost}
-use Rattle.laws.proofs.Numbers.{length-numbers}
+use Rattle.records.proofs.Runs.{run-starts, run-foremost}
 use Rattle.rule.specs.Lists.{elsIn, ElsInside}
 use Rattle.rule.specs.Rows.{RowSized, RowStands, rowFrom, RowRead, RowsFrom}
 use Rattle.rule.specs.declared.rows.Row as read
@@ -26,9 +25,6 @@ use Rattle.rule.proofs.ListLaws.{els-many, els-last}
 use Rattle.rule.proofs.RowFields.{Passed, RowHere, row-is}
 
 -- A field of rows stands where a loop stands before the end.
-pub row-first : {s : List ℕ} {at end : ℕ} {fs : List Field} → Run s at end fs → at < end → ((f : Field) → f ∈ fs → RowSized f) → RowStands s at
-row-first r h sized = let b = run-foremost r h in record { field = b .field; next = b .next; run = b .run; sized = sized (b .field) (drop-mem 0 _ (b .same)) }
-
 pub row-stands : {s : List ℕ} {from end at i : ℕ} (rows : RowsFrom s from end) → Passed s end (rows .fields) at i → at < end → RowStands s at
 row-stands {i = i} rows p h =
     let b = run-foremost (p .run) h in
@@ -132,19 +128,9 @@ module _ {s : List ℕ} {end i : ℕ} {fs : List Field} {r : read.Row} (n : Next
       here : getD fs i (n .field) ≡ n .field
       here = let e : i + 0 ≡ i = omega arith in sym (getD-drop i fs 0 (n .field) ∙ rw e) ∙ rw (n .left)
 
--- The same where only what is left is told.
-pub rows-first : {s : List ℕ} {at end : ℕ} {fs : List Field} {r : read.Row} (q : RowRead s at r) (b : StartsWith s end (r .next) (q .field) fs) (kind : ℕ)
-    → each (rowOf kind) fs ≡ rowFrom s kind r ∷ each (rowOf kind) (b .rest)
-unfolding each
-rows-first q b kind = rw (b .same, q .says kind)
-
 -- Its elements: as many as its field has, so many where it has a result, and the last of them.
 pub row-many : {s : List ℕ} {at : ℕ} {r : read.Row} (q : RowRead s at r) (kind : ℕ) → length (rowOf kind (q .field) .elements) ≡ r .els .count
 row-many q kind = rw (q .says kind) (els-many (q .inside))
-
-pub long-row : (f : Field) (kind : ℕ) → 4 ≤ length (f .content) → 1 ≤ length (rowOf kind f .elements)
-unfolding rowOf
-long-row f kind h = let a = length-numbers (f .content) in let b = length-drop 1 (numbers (f .content)) in omega arith
 
 pub result-is : {s : List ℕ} (r : read.Row) → ElsInside s (r .els) → 1 ≤ r .els .count → (kind : ℕ)
     → getD (elsIn s (r .els)) (r .els .count - 1) 0 ≡ lastElement (rowFrom s kind r)

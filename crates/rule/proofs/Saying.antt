@@ -85,7 +85,8 @@ module _ {s index : List ℕ} (w : Ready s index) where
   structures-are = length-each structureOf (blocks letterS fields) ∙ sym (w .indexed .counted)
 
   -- The section of M, K or X.
-  pub tail-run-at : (q : ℕ) → placeM ≤ q → q ≤ placeX → Run s (getD index (numberOf (back q)) 0) (getD index (numberOf (back q) + 1) 0) (withLetter (letterAt q) fields)
+  pub tail-run-at : (q : ℕ) → placeM ≤ q → q ≤ placeX
+      → Run s (getD index (numberOf (back q)) 0) (getD index (numberOf (back q) + 1) 0) (withLetter (letterAt q) fields)
   unfolding behindFrom behindTo
   tail-run-at q lo hi = w .indexed .tail .run q lo hi
 

@@ -8,15 +8,16 @@ use mathlib.Core.Path.{_≡_, refl}
 use lib.Dec.{leb}
 use lib.ListN.{length}
 use borrow.Author.Tests.{le-leb, leb-true, eqb-true, not-false}
-use Rattle.definition.specs.Base.{orElse, all}
-use Rattle.definition.specs.Letters.{letterN, letterS, letterM, letterK, letterX}
-use Rattle.definition.specs.Records.{Field, withLetter, blocks, faultFrom, faultAmong}
+use Rattle.definition.specs.Base.{all}
+use Rattle.definition.specs.Letters.{letterM, letterK, letterX}
+use Rattle.definition.specs.Records.{Field, withLetter, faultFrom, faultAmong}
 use Rattle.definition.specs.Signature.{Signature}
-use Rattle.definition.specs.Rule.{headFault, mapFault, kindFault, auxiliaryFault, structuresFault, namedIn, ruleFault}
-use Rattle.laws.proofs.Lists.{lowest-none, and-left, and-right}
+use Rattle.definition.specs.Rule.{mapFault, kindFault, auxiliaryFault, namedIn, ruleFault}
+use Rattle.laws.proofs.Lists.{lowest-none, and-left, and-right, or-else-none}
 use Rattle.records.specs.Places.{stretch, fieldOf}
 use Rattle.records.proofs.Numbers.{length-stretch}
 use Rattle.laws.proofs.SoundOrder.{map-long}
+use Rattle.laws.proofs.SoundRule.{rule-parts}
 
 -- So many bytes, at least.
 abbrev pub atLeast : ℕ → Field → Bool
@@ -26,25 +27,24 @@ abbrev pub AllLong : ℕ → List Field → Type 0
 AllLong least fs = all (atLeast least) fs ≡ true
 
 -- The first of such fields, and the others.
-pub long-first : (s : List ℕ) (least letter start len : ℕ) (rest : List Field) → start + len ≤ length s → AllLong least (fieldOf s letter start len ∷ rest) → least ≤ len
+pub long-first : (s : List ℕ) (least letter start len : ℕ) (rest : List Field) → start + len ≤ length s → AllLong least (fieldOf s letter start len ∷ rest)
+    → least ≤ len
 unfolding all
-long-first s least letter start len rest h e = leb-true least len (rw (length-stretch s start len h) at (and-left (leb least (length (stretch s start len))) (all (atLeast least) rest) e))
+long-first s least letter start len rest h e =
+    leb-true least len (rw (length-stretch s start len h) at (and-left (leb least (length (stretch s start len))) (all (atLeast least) rest) e))
 
 pub long-rest : (least : ℕ) (f : Field) (rest : List Field) → AllLong least (f ∷ rest) → AllLong least rest
 unfolding all
 long-rest least f rest e = and-right (atLeast least f) (all (atLeast least) rest) e
 
-else-none : {A : Type 0} (a b : Option A) → orElse a b ≡ none → (a ≡ none) × (b ≡ none)
-else-none none b e = (refl, e)
-else-none (some x) b e = let z : _≡_ {A = ℕ} 0 1 = cc in absurd (omega arith)
-
 -- Fields that all pass a check that asks for a length.
-module _ (check : ℕ → Option Field → Field → Option ℕ) (least : ℕ) (asks : (m : ℕ) (l : Option Field) (f : Field) → check m l f ≡ none → least ≤ length (f .content)) where
+module _ (check : ℕ → Option Field → Field → Option ℕ) (least : ℕ)
+    (asks : (m : ℕ) (l : Option Field) (f : Field) → check m l f ≡ none → least ≤ length (f .content)) where
   long-from : (n : ℕ) (last : Option Field) (fs : List Field) → faultFrom check n last fs ≡ none → AllLong least fs
   unfolding faultFrom all
   long-from n last [] e = refl
   long-from n last (f ∷ fs) e =
-      let r = else-none (check n last f) (faultFrom check (n + 1) (some f) fs) e in
+      let r = or-else-none (check n last f) (faultFrom check (n + 1) (some f) fs) e in
       rw (le-leb least (length (f .content)) (asks n last f (r .0)), long-from (n + 1) (some f) fs (r .1))
 
   long-among : (letter : ℕ) (fs : List Field) → faultAmong letter check fs ≡ none → AllLong least (withLetter letter fs)
@@ -61,35 +61,11 @@ auxiliary-long named m l f e = let q : length (f .content) ≡ 3 = eqb-true _ _ 
 
 -- M, K and X of a rule without a fault.
 module _ (sig : Signature) (fs : List Field) (e : ruleFault sig fs ≡ none) where
-  abbrev ofN : Option ℕ
-  ofN = faultAmong letterN headFault fs
-
-  abbrev ofS : Option ℕ
-  ofS = structuresFault sig 0 (blocks letterS fs)
-
-  abbrev ofM : Option ℕ
-  ofM = faultAmong letterM (mapFault (namedIn fs)) fs
-
-  abbrev ofK : Option ℕ
-  ofK = faultAmong letterK (kindFault (namedIn fs)) fs
-
-  abbrev ofX : Option ℕ
-  ofX = faultAmong letterX (auxiliaryFault (namedIn fs)) fs
-
-  parts : (ofN ≡ none) × (ofS ≡ none) × (ofM ≡ none) × (ofK ≡ none) × (ofX ≡ none)
-  unfolding ruleFault
-  parts =
-      let n = else-none ofN (orElse ofS (orElse ofM (orElse ofK ofX))) e in
-      let t = else-none ofS (orElse ofM (orElse ofK ofX)) (n .1) in
-      let m = else-none ofM (orElse ofK ofX) (t .1) in
-      let k = else-none ofK ofX (m .1) in
-      (n .0, t .0, m .0, k .0, k .1)
-
   pub maps-long : AllLong 4 (withLetter letterM fs)
-  maps-long = long-among (mapFault (namedIn fs)) 4 (map-long (namedIn fs)) letterM fs (parts .2)
+  maps-long = long-among (mapFault (namedIn fs)) 4 (map-long (namedIn fs)) letterM fs (rule-parts sig fs e .2)
 
   pub kinds-long : AllLong 5 (withLetter letterK fs)
-  kinds-long = long-among (kindFault (namedIn fs)) 5 (kind-long (namedIn fs)) letterK fs (parts .3)
+  kinds-long = long-among (kindFault (namedIn fs)) 5 (kind-long (namedIn fs)) letterK fs (rule-parts sig fs e .3)
 
   pub auxiliaries-long : AllLong 3 (withLetter letterX fs)
-  auxiliaries-long = long-among (auxiliaryFault (namedIn fs)) 3 (auxiliary-long (namedIn fs)) letterX fs (parts .4)
+  auxiliaries-long = long-among (auxiliaryFault (namedIn fs)) 3 (auxiliary-long (namedIn fs)) letterX fs (rule-parts sig fs e .4)

@@ -12,7 +12,8 @@ use Rattle.definition.specs.Signature.{Signature}
 use Rattle.rule.specs.Answers.{Indexed}
 use Rattle.rule.specs.Layout.{blockAt}
 use Rattle.laws.proofs.SoundRule.{structure-sound}
-use Rattle.rule.proofs.Accepted.{SmallArities, body, body-passed, preds-run, funcs-run, preds-known, funcs-known, preds-alike, funcs-alike, members-alike, elements-at, structure-preds, structure-funcs}
+use Rattle.rule.proofs.Accepted.{SmallArities, body, body-passed, preds-run, funcs-run, preds-known, funcs-known, preds-alike, funcs-alike}
+use Rattle.rule.proofs.Accepted.{members-alike, elements-at, structure-preds, structure-funcs}
 use Rattle.rule.specs.Structures.{structureIn, SoundAt}
 use Rattle.rule.proofs.Opening.{structure-is, structure-laid}
 
@@ -20,8 +21,10 @@ pub sound-at : {sig : Signature} {s index : List ℕ} {n : ℕ} → Indexed sig 
 sound-at {sig} {s} {index} {n} w small k h =
     let c : n ≡ length (blocks letterS (rulePart s .fields)) = w .counted in
     let e : structureIn s k ≡ structureOf (blockAt (rulePart s .fields) k) = structure-is s k (omega arith) in
-    let p : structureIn s k .predRows ≡ each (rowOf predicate) (withLetter letterR (body w small k h)) = ap (λ (st : Structure). st .predRows) e ∙ structure-preds w small k h in
-    let f : structureIn s k .funcRows ≡ each (rowOf function) (withLetter letterA (body w small k h)) = ap (λ (st : Structure). st .funcRows) e ∙ structure-funcs w small k h in
+    let p : structureIn s k .predRows ≡ each (rowOf predicate) (withLetter letterR (body w small k h)) =
+        ap (λ (st : Structure). st .predRows) e ∙ structure-preds w small k h in
+    let f : structureIn s k .funcRows ≡ each (rowOf function) (withLetter letterA (body w small k h)) =
+        ap (λ (st : Structure). st .funcRows) e ∙ structure-funcs w small k h in
     let l = structure-laid w k h (elements-at w small k h) in
     record {
       laid = l;

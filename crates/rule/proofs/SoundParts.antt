@@ -17,7 +17,7 @@ use Rattle.definition.specs.Walk.{sourceInto, incomingSource, mapOfPair, pairsB
 use Rattle.laws.proofs.KindTable.{ascending-once}
 use Rattle.laws.proofs.Lists.{and-left, and-right, mem-each, first-mem, picked}
 use Rattle.laws.proofs.Sound.{among-mem}
-use Rattle.laws.proofs.SoundOrder.{ordered}
+use Rattle.laws.proofs.SoundOrder.{kinds-in-order}
 use Rattle.laws.proofs.SoundRule.{map-passed, kind-passed, auxiliary-passed, named-at, named-length, rule-parts}
 use Rattle.laws.specs.KindTable.{Once}
 use Rattle.laws.specs.Sound.{SoundMap}
@@ -37,7 +37,8 @@ unfolding pairsBetween
 between maps u t e =
     let r = first-mem (mapOfPair u t) maps e in
     let p = picked (eqb (r .0 .source) u && eqb (r .0 .target) t) (r .0 .pairs) (r .2) in
-    record { map = r .0; in-maps = r .1; source-is = eqb-true _ _ (and-left _ _ (p .0)); target-is = eqb-true _ _ (and-right (eqb (r .0 .source) u) _ (p .0)); pairs-are = p .1 }
+    record { map = r .0; in-maps = r .1; source-is = eqb-true _ _ (and-left _ _ (p .0)); target-is =
+        eqb-true _ _ (and-right (eqb (r .0 .source) u) _ (p .0)); pairs-are = p .1 }
 
 module _ {s index : List ℕ} (w : Ready s index) where
   abbrev fields : List Field
@@ -93,4 +94,4 @@ module _ {s index : List ℕ} (w : Ready s index) where
   -- A pair stands once among the kinds.
   pub kinds-once : Once (ruleAt s .kinds)
   unfolding ruleAt
-  kinds-once = ascending-once (ruleAt s .kinds) (ordered (w .sig) fields (w .indexed .sound) .kinds-ascend)
+  kinds-once = ascending-once (ruleAt s .kinds) (kinds-in-order (w .sig) fields (w .indexed .sound))

@@ -157,7 +157,8 @@ module _ {s index₀ index : List ℕ} {k count : ℕ} {last : Last} (w : Storin
   held-end body q = record { is = rw count-is (held-same s index″ index from count (λ i a b. same-entry i (omega (arith, w .few))) ∙ sym q) }
 
 -- The check of the E fields, with what is stored.
-pub record Listing (s index : List ℕ) (check : ℕ → Option Field → Field → Option ℕ) (to k : ℕ) (body : List Field) (at count : ℕ) (last : Option Field) : Type 0 where
+pub record Listing (s index : List ℕ) (check : ℕ → Option Field → Field → Option ℕ) (to k : ℕ) (body : List Field) (at count : ℕ)
+    (last : Option Field) : Type 0 where
   pub checking : Checking s letterE check to body at count last
   pub held : withLetter letterE body ≡ heldAt s index (elementsFrom + fieldLimit * k) count ++ checking .rest
 

@@ -70,7 +70,8 @@ module _ {s index₀ : List ℕ} {n : ℕ} {bs : List Block} (w : Structured s i
         onward d = rw (block-on lt, ← eh, dh, ← eb, d)
 
         -- The next structure.
-        pub go-next : {index′ : List ℕ} → b ≡ Sound → Kept index index′ k → Known s index k → Holds Sound s index′ k (getD bs k noBlock .body) → Going sig s index′ bs (k + 1)
+        pub go-next : {index′ : List ℕ} → b ≡ Sound → Kept index index′ k → Known s index k → Holds Sound s index′ k (getD bs k noBlock .body)
+            → Going sig s index′ bs (k + 1)
         go-next {index′} d kk kn hh = record { left = g .left ∙ onward d; held = λ j l. go j l (ℕ-discrete j k) }
           where
             go : (j : ℕ) → j < k + 1 → Dec (j ≡ k) → elementFields s index′ j ≡ withLetter letterE (getD bs j noBlock .body)

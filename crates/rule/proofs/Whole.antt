@@ -1,5 +1,5 @@
 -- From the pass and the checks to the rule's answer.
-use Prim.Native.Nat.{ℕ, zero, suc, _+_, _-_, _≤_, _<_}
+use Prim.Native.Nat.{ℕ, zero, suc, _+_, _≤_, _<_}
 use native.Mathlib.Omega.{arith}
 use native.Mathlib.Decide.{decLt}
 use mathlib.Core.Bool.{Bool, true, false}
@@ -15,12 +15,14 @@ use Rattle.definition.specs.Letters.{letterN, letterS, letterE, letterM, letter
 use Rattle.definition.specs.Limits.{structureLimit, ruleBytes}
 use Rattle.definition.specs.Records.{Field, Block, withLetter, upTo, blocks, faultAmong, readPart}
 use Rattle.definition.specs.Signature.{Signature}
-use Rattle.definition.specs.Rule.{headFault, namedElements, structuresFault, namedIn, ruleFault, rulePart, ruleOf, readRule, mapFault, kindFault, auxiliaryFault}
+use Rattle.definition.specs.Rule.{headFault, namedElements, structuresFault, namedIn, ruleFault, rulePart, ruleOf, readRule, mapFault, kindFault}
+use Rattle.definition.specs.Rule.{auxiliaryFault}
 use Rattle.records.specs.Places.{fieldOf, Run, none, more}
 use Rattle.signature.specs.Faults.{faultOf}
 use Rattle.signature.specs.declared.faults.Fault.{Fault}
 use Rattle.signature.specs.declared.faults.Fault.the-variants.{Sound, Draws}
-use Rattle.rule.specs.Layout.{letterAt, front, within, back, noBlock, blockAt, fieldsIn, Sectioned, sectionFrom, sectionTo, behindFrom, behindTo, numberOf}
+use Rattle.rule.specs.Layout.{letterAt, front, within, back, noBlock, blockAt, fieldsIn, Sectioned, sectionFrom, sectionTo, behindFrom}
+use Rattle.rule.specs.Layout.{behindTo, numberOf}
 use Rattle.rule.specs.Layout.{placeS, placeE, placeI, placeM, placeK, placeX}
 use Rattle.rule.specs.Elements.{elementFields, elementNumbers, numbersIn, Known}
 use Rattle.rule.specs.Faults.{checkOf, tailFault}
@@ -44,7 +46,8 @@ run-head {s} (more {at} {letter} {start} {len} {next} g r) f ys e l =
     record { start = start; len = len; next = next; got = rw m at g; same = sym q ∙ rw m }
 
 -- The sections of the structures that were passed.
-module _ {s index : List ℕ} {passed : List Field} (w : Sectioned s index passed) (k : ℕ) (h : k < length (blocks letterS passed)) (few : k < structureLimit) where
+module _ {s index : List ℕ} {passed : List Field} (w : Sectioned s index passed) (k : ℕ) (h : k < length (blocks letterS passed))
+    (few : k < structureLimit) where
   head-is : blockAt passed k .head .letter ≡ letterS
   head-is = eqb-true _ _ (head-letter letterS passed k noBlock h)
 
@@ -55,7 +58,8 @@ module _ {s index : List ℕ} {passed : List Field} (w : Sectioned s index passe
   laid-head : HeadAt s (sectionFrom index k placeS) (blockAt passed k .head)
   unfolding sectionFrom
   laid-head =
-      run-head (w .run (within k placeS) (few, omega arith, omega arith)) (blockAt passed k .head) (withLetter letterS (blockAt passed k .body)) head-first head-is
+      run-head (w .run (within k placeS) (few, omega arith, omega arith)) (blockAt passed k .head) (withLetter letterS (blockAt passed k .body)) head-first
+          head-is
 
   body-only : (q : ℕ) → placeE ≤ q → q ≤ placeI → fieldsIn (within k q) passed ≡ withLetter (letterAt q) (blockAt passed k .body)
   unfolding fieldsIn withLetter keep
@@ -93,11 +97,13 @@ module _ {s index : List ℕ} {whole : Bool} {n : ℕ} (p : Passes s index whole
         counted = inr (o .counted, omega (arith, o .counted, o .full));
         few = omega (arith, o .counted);
         head = λ k h. head k h (decLt k structureLimit);
-        body = λ k h l. rw (get-left (blocks letterS (p .passed)) (b ∷ bs) k noBlock (omega (arith, o .full))) (laid-body (p .laid) k (omega (arith, o .full)) l);
+        body = λ k h l. rw (get-left (blocks letterS (p .passed)) (b ∷ bs) k noBlock (omega (arith, o .full)))
+            (laid-body (p .laid) k (omega (arith, o .full)) l);
       }
     where
       head : (k : ℕ) → k < n → Dec (k < structureLimit) → HeadAt s (sectionFrom index k placeS) (getD (blocks letterS (p .passed) ++ (b ∷ bs)) k noBlock .head)
-      head k h (yes l) = rw (get-left (blocks letterS (p .passed)) (b ∷ bs) k noBlock (omega (arith, o .full))) (laid-head (p .laid) k (omega (arith, o .full)) l)
+      head k h (yes l) = rw (get-left (blocks letterS (p .passed)) (b ∷ bs) k noBlock (omega (arith, o .full)))
+          (laid-head (p .laid) k (omega (arith, o .full)) l)
       head k h (no l) =
           let z : k ≡ structureLimit = omega (arith, o .counted) in
           rw (get-right (blocks letterS (p .passed)) bs b k noBlock (omega (arith, o .full)), e, z) (o .head)
@@ -112,7 +118,8 @@ module _ {s index : List ℕ} {whole : Bool} {n : ℕ} (p : Passes s index whole
       over : Over s index (p .passed) n → Structured s index n (blocks letterS (rulePart s .fields))
       over o =
           let l : o .next .letter ≡ letterS = ap (λ (f : Field). f .letter) (o .head .same) in
-          let e : blocks letterS (rulePart s .fields) ≡ blocks letterS (p .passed) ++ (record { head = o .next; body = upTo letterS (o .rest) } ∷ blocks letterS (o .rest))
+          let e : blocks letterS (rulePart s .fields)
+              ≡ blocks letterS (p .passed) ++ (record { head = o .next; body = upTo letterS (o .rest) } ∷ blocks letterS (o .rest))
           = ap (blocks letterS) (o .fields) ∙ blocks-append letterS (o .next) l (p .passed) (o .rest) ∙ rw (blocks-first (o .next) (o .rest) l) in
           rw e (of-over o (blocks letterS (o .rest)) (record { head = o .next; body = upTo letterS (o .rest) }) refl)
 
@@ -133,7 +140,8 @@ module _ {s index : List ℕ} {whole : Bool} {n : ℕ} (p : Passes s index whole
   tailed h = let e = few-ended h in record { run = λ q lo hi. rw (e .fields) (p .laid .run (back q) (lo, hi)) }
 
 -- The elements that can be named are those that the index holds.
-each-span : {A B : Type 0} (f : A → B) (g : ℕ → B) (xs : List A) (d : A) (a : ℕ) → ((k : ℕ) → k < length xs → g (a + k) ≡ f (getD xs k d)) → each g (span (length xs) a) ≡ each f xs
+each-span : {A B : Type 0} (f : A → B) (g : ℕ → B) (xs : List A) (d : A) (a : ℕ) → ((k : ℕ) → k < length xs → g (a + k) ≡ f (getD xs k d))
+    → each g (span (length xs) a) ≡ each f xs
 unfolding each span
 each-span f g [] d a h = refl
 each-span f g (x ∷ xs) d a h =
@@ -197,7 +205,8 @@ unfolding letterAt
 letter-x = refl
 
 -- N.
-pub of-n : (sig : Signature) (named : List (List ℕ)) (fs : List Field) (r : Fault) → faultOf r ≡ faultAmong letterN (checkOf sig named letterN) fs → faultOf r ≡ faultAmong letterN headFault fs
+pub of-n : (sig : Signature) (named : List (List ℕ)) (fs : List Field) (r : Fault) → faultOf r ≡ faultAmong letterN (checkOf sig named letterN) fs
+    → faultOf r ≡ faultAmong letterN headFault fs
 unfolding checkOf
 of-n sig named fs r h = h
 
@@ -211,7 +220,8 @@ module _ (sig : Signature) (s : List ℕ) (short : length s ≤ ruleBytes) where
   unfolding readRule readPart
   read-fault e = rw (le-ltb _ _ short, e)
 
-  read-none : ruleFault sig (rulePart s .fields) ≡ none → {whole : Bool} → whole ≡ rulePart s .whole → pick whole (accepted (ruleOf (rulePart s .fields))) (refused 2) ≡ readRule sig s
+  read-none : ruleFault sig (rulePart s .fields) ≡ none → {whole : Bool} → whole ≡ rulePart s .whole
+      → pick whole (accepted (ruleOf (rulePart s .fields))) (refused 2) ≡ readRule sig s
   unfolding readRule readPart
   read-none e w = rw (le-ltb _ _ short, e, ← w)
 

@@ -4,7 +4,7 @@ use mathlib.Core.List.{List, [], _∷_, _++_}
 use mathlib.Core.Logic.{_⊎_}
 use mathlib.Core.Option.{none}
 use mathlib.Core.Path.{_≡_}
-use Prim.Native.Nat.{ℕ, _+_, _-_, _*_, _≤_, _<_}
+use Prim.Native.Nat.{ℕ, _+_, _*_, _≤_, _<_}
 use lib.ListN.{length, getD}
 use Rattle.definition.specs.Base.{Outcome, refused, accepted}
 use Rattle.definition.specs.Letters.{letterN, letterS, letterE}
@@ -17,13 +17,14 @@ use Rattle.records.specs.declared.fields.Field.the-variants.{Got}
 use Rattle.signature.specs.Faults.{faultOf}
 use Rattle.signature.specs.declared.faults.Fault.{Fault}
 use Rattle.signature.specs.declared.faults.Fault.the-variants.{Sound, Draws}
-use Rattle.rule.specs.Layout.{placeS, placeE, placeI, placeM, placeX, letterAt, noBlock, blockAt, sectionFrom, sectionTo, behindFrom, behindTo, Sectioned, elementsFrom}
+use Rattle.rule.specs.Layout.{placeS, placeE, placeI, placeM, placeX, letterAt, noBlock, blockAt, sectionFrom, sectionTo, behindFrom, behindTo}
+use Rattle.rule.specs.Layout.{Sectioned, elementsFrom}
 use Rattle.rule.specs.Elements.{countAt, elementFields, numbersIn, Elements, Known}
 use Rattle.rule.specs.Faults.{checkOf}
 use Rattle.rule.specs.declared.reader.Reading.{Reading}
 use Rattle.rule.specs.declared.reader.Reading.the-variants as reading
 
--- A rule read: refused with document 01's number, or accepted with what its fields say.
+-- A rule read: refused with document 01's number, or accepted with what its fields say. `Usable` ties the count to them.
 abbrev pub ruleReading : List ℕ → Reading → Outcome Rule
 ruleReading s (reading.Refused n) = refused n
 ruleReading s (reading.Sound n) = accepted (ruleOf (rulePart s .fields))

@@ -21,6 +21,7 @@ use crate::ids::RULE_INDEX;
 use crate::lists::Els;
 use records::fields::Field;
 use records::fields::num;
+use records::fields::place;
 use records::fields::read_field;
 use records::fields::two;
 use signature::ids::TypeId;
@@ -30,19 +31,12 @@ pub enum Found {
     Nothing,
 }
 
-// An entry of the index as a place or a count.
-pub fn wide_entry(x: u16) -> usize
-    ensures { λ r. ⌜ (r ≡ x) × (r < 65536) ⌝ }
-{
-    x as usize
-}
-
 // How many elements a structure has.
 pub fn element_count(index: &[u16; RULE_INDEX], k: usize) -> usize
     requires { ⌜ k < structureLimit ⌝ }
     ensures { λ r. ⌜ r ≡ countAt (now (index .entry)) k ⌝ }
 {
-    wide_entry(index[COUNTS_FROM + k])
+    place(index[COUNTS_FROM + k])
 }
 
 // Where the field of an element stands.
@@ -50,7 +44,7 @@ pub fn element_field(index: &[u16; RULE_INDEX], k: usize, i: usize) -> usize
     requires { ⌜ (k < structureLimit) × (i < fieldLimit) ⌝ }
     ensures { λ r. ⌜ (r ≡ positionAt (now (index .entry)) k i) × (r < 65536) ⌝ }
 {
-    wide_entry(index[ELEMENTS_FROM + FIELDS * k + i])
+    place(index[ELEMENTS_FROM + FIELDS * k + i])
 }
 
 // The number of an element.
@@ -70,7 +64,7 @@ pub fn find_element(s: &[u8], index: &[u16; RULE_INDEX], k: usize, e: ElId) -> F
     ensures { λ r. ⌜ Finds r (e .0) (elementNumbers (now (s .entry)) (now (index .entry)) k) ⌝ }
 {
     let n = element_count(index, k);
-    let guess = wide_entry(e.0);
+    let guess = place(e.0);
     if guess < n {
         let x = element_number(s, index, k, guess);
         if x.0 == e.0 {

@@ -8,16 +8,18 @@ ghost use Prim.Native.Nat.{ℕ, _+_, _-_, _*_, _≤_, _<_};
 ghost use lib.Dec.{eqb, ltb};
 ghost use lib.ListN.{length};
 ghost use Rattle.definition.specs.Base.{pick, has, all};
-ghost use Rattle.definition.specs.Letters.{letterE, letterR, letterA, letterV, letterI};
+ghost use Rattle.definition.specs.Letters.{letterE, letterR, letterA, letterV, letterI, predicate, function};
 ghost use Rattle.definition.specs.Limits.{structureLimit};
 ghost use Rattle.definition.specs.Records as definition;
 ghost use Rattle.definition.specs.Records.{numbers, odd, notAbove, withLetter};
-ghost use Rattle.definition.specs.Rule.{pairsOf, keysAscend, namedElements, classFalls, headFault, structureFault, elementFault, nameFault, mapFault, kindFault, auxiliaryFault};
+ghost use Rattle.definition.specs.Rule.{pairsOf, keysAscend, namedElements, classFalls, headFault, structureFault, elementFault, nameFault, mapFault,
+    kindFault, auxiliaryFault};
 ghost use Rattle.records.specs.Places.{stretch, fieldOf, Run};
 ghost use Rattle.signature.specs.Faults.{faultOf};
 ghost use Rattle.signature.specs.Index.{signatureAt, Indexed};
+ghost use Rattle.signature.specs.Relations.{kindOf, numberOf};
 ghost use Rattle.rule.specs.Elements.{elementNumbers, numbersIn, Elements, Known};
-ghost use Rattle.rule.specs.Faults.{lastField, LastIn, faultAt, Lies, Fits, Below, nameKey, pairNamed, rowColumns, rowCheck, checkOf};
+ghost use Rattle.rule.specs.Faults.{lastField, LastIn, faultAt, Lies, Fits, Below, nameKey, pairNamed, rowCheck, checkOf};
 use crate::elements::elements_named;
 use crate::elements::has_element;
 use crate::elements::parents_named;
@@ -48,9 +50,10 @@ use signature::ids::Counts;
 use signature::ids::FuncId;
 use signature::ids::INDEX;
 use signature::ids::PredId;
+use signature::ids::Relation;
 use signature::ids::TypeId;
-use signature::lookup::func_columns;
-use signature::lookup::pred_columns;
+use signature::lookup::arity;
+use signature::lookup::declared;
 use signature::lookup::type_parents;
 
 // Is a content no row of numbers, or one of fewer than the least?
@@ -133,32 +136,14 @@ pub fn element_fault(
     Fault::Sound
 }
 
-// How many predicates or functions there are.
-fn row_symbols(counts: Counts, results: usize) -> usize
-    ensures { λ r. ⌜ r ≡ pick (eqb results 0) (counts .preds) (counts .funcs) ⌝ }
+// What a row is about: a predicate, or, where it has a result, a function.
+fn row_relation(results: usize, number: u16) -> Relation
+    ensures { λ r. ⌜ (kindOf r ≡ pick (eqb results 0) predicate function) × (numberOf r ≡ number) ⌝ }
 {
     if results == 0 {
-        return counts.preds;
+        return Relation::Predicate(PredId(number));
     }
-    counts.funcs
-}
-
-// How many columns a predicate's row has, or a function's, which has a result.
-fn row_columns(
-    sig: &[u8],
-    symbols: &[u16; INDEX],
-    counts: Counts,
-    results: usize,
-    symbol: u16,
-) -> usize
-    requires { ⌜ Indexed (now sig) (now symbols) counts ⌝ }
-    requires { ⌜ symbol < pick (eqb results 0) (counts .preds) (counts .funcs) ⌝ }
-    ensures { λ r. ⌜ r ≡ rowColumns (signatureAt (now (sig .entry)) (now (symbols .entry)) counts) results symbol ⌝ }
-{
-    if results == 0 {
-        return pred_columns(sig, symbols, counts, PredId(symbol));
-    }
-    func_columns(sig, symbols, counts, FuncId(symbol))
+    Relation::Function(FuncId(number))
 }
 
 // An R field (no results) or an A field (one): its symbol and its elements, in structure k.
@@ -187,8 +172,8 @@ pub fn row_fault(
     if FIELDS <= f.before {
         return Fault::Draws(4);
     }
-    let symbol = num(s, f.start);
-    if row_symbols(counts, results) <= symbol as usize {
+    let rel = row_relation(results, num(s, f.start));
+    if !declared(counts, rel) {
         return Fault::Draws(5);
     }
     if !elements_named(s, index, k, f.start + 2, f.len - 2) {
@@ -197,7 +182,7 @@ pub fn row_fault(
     if row_not_above(s, last, results, f.start, f.len) {
         return Fault::Draws(6);
     }
-    if f.len / 2 - 1 != row_columns(sig, symbols, counts, results, symbol) {
+    if f.len / 2 - 1 != arity(sig, symbols, counts, rel) {
         return Fault::Draws(7);
     }
     Fault::Sound

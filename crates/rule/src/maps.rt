@@ -3,9 +3,9 @@ ghost use mathlib.Core.Bool.{true};
 ghost use mathlib.Core.List.{[]};
 ghost use mathlib.Core.Path.{_≡_};
 ghost use Prim.Native.Nat.{_<_};
-ghost use Rattle.definition.specs.Base.{orDefault};
+ghost use Rattle.definition.specs.Base.{orDefault, given};
 ghost use Rattle.definition.specs.Rows.{imageOf};
-ghost use Rattle.definition.specs.Walk.{pairsBetween, found};
+ghost use Rattle.definition.specs.Walk.{pairsBetween};
 ghost use Rattle.rule.specs.Lookup.{Ready, ruleAt};
 ghost use Rattle.rule.specs.MapFields.{pairAt, pairsIn, MapIn, Joins, imageIs};
 use crate::ids::ElId;
@@ -83,7 +83,7 @@ pub fn image_of(s: &[u8], m: Map, e: ElId) -> Image
 // Where the pairs of the map from u to t stand.
 pub fn map_between(s: &[u8], index: &[u16; RULE_INDEX], u: usize, t: usize) -> Map
     requires { ⌜ Ready (now s) (now index) ⌝ }
-    requires { ⌜ found (pairsBetween (ruleAt (now s) .maps) u t) ≡ true ⌝ }
+    requires { ⌜ given (pairsBetween (ruleAt (now s) .maps) u t) ≡ true ⌝ }
     ensures { λ r. ⌜ orDefault (pairsBetween (ruleAt (now (s .entry)) .maps) u t) [] ≡ pairsIn (now (s .entry)) r ⌝ }
     ensures { λ r. ⌜ MapIn (now (s .entry)) r × Joins (now (s .entry)) u t r ⌝ }
 {

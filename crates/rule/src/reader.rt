@@ -13,8 +13,8 @@ ghost use Rattle.signature.specs.Index.{signatureAt, Indexed};
 ghost use Rattle.rule.specs.Layout.{sections, ruleIndex, placeS, sectionFrom};
 ghost use Rattle.rule.specs.Elements.{elementNumbers, numbersIn, Known};
 ghost use Rattle.rule.specs.Faults.{Below, restFault, tailFault};
-ghost use Rattle.rule.specs.Answers.{SectionChecked, ElementsChecked, ElementsHeld, HeadAt, Bodied, Structured, Tailed, Stored, Holds, AllStored, AllHold, Usable, ruleReading};
-use crate::elements::wide_entry;
+ghost use Rattle.rule.specs.Answers.{SectionChecked, ElementsChecked, ElementsHeld, HeadAt, Bodied, Structured, Tailed, Stored, Holds, AllStored,
+    AllHold, Usable, ruleReading};
 use crate::faults::element_fault;
 use crate::faults::field_fault;
 use crate::faults::structure_fault;
@@ -47,6 +47,7 @@ use crate::order::Last;
 use crate::order::spot_of;
 use crate::pass::pass;
 use records::fields::Field;
+use records::fields::place;
 use records::fields::read_field;
 use signature::faults::Fault;
 use signature::faults::drawn;
@@ -63,7 +64,7 @@ pub fn bound(index: &[u16; RULE_INDEX], section: usize) -> usize
     requires { ⌜ section ≤ sections ⌝ }
     ensures { λ r. ⌜ r ≡ getD (now (index .entry)) section 0 ⌝ }
 {
-    wide_entry(index[section])
+    place(index[section])
 }
 
 // The first fault of the fields of a section, front to back.
@@ -302,6 +303,7 @@ fn check_tail(
 }
 
 // The rule's answer; where it is accepted, the index holds where its sections start and where its elements stand.
+// Where it is refused, the entries of the index are left free: any may have been written, and only their number holds.
 pub fn read_rule(
     sig: &[u8],
     symbols: &[u16; INDEX],
@@ -314,6 +316,7 @@ pub fn read_rule(
     ensures { λ r. ⌜ ruleReading (now (s .entry)) r
         ≡ readRule (signatureAt (now (sig .entry)) (now (symbols .entry)) counts) (now (s .entry)) ⌝ }
     ensures { λ r. ⌜ Usable (signatureAt (now (sig .entry)) (now (symbols .entry)) counts) (now (s .entry)) (now (index .exit)) r ⌝ }
+    ensures { λ r. ⌜ length (now (index .exit)) ≡ length (now (index .entry)) ⌝ }
 {
     if RULE_BYTES < s.len() {
         return Reading::Refused(1);

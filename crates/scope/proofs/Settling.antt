@@ -12,6 +12,7 @@ use Rattle.definition.specs.Base.{Outcome, refused, accepted, pick, any, has}
 use Rattle.definition.specs.Letters.{equality}
 use Rattle.definition.specs.Records.{numbers}
 use Rattle.definition.specs.Signature.{Signature, typeParents, parentModel}
+use Rattle.definition.specs.Group as definition
 use Rattle.definition.specs.Group.{Variable}
 use Rattle.definition.specs.Scope.{Scope, global, ownerCount, sameVariables, ownersVerdict, conclusionVerdict, related, relationVerdict, premiseVerdict}
 use Rattle.records.specs.Places.{stretch}
@@ -20,10 +21,10 @@ use Rattle.signature.specs.Entries.{modelOf}
 use Rattle.signature.specs.declared.ids.TypeId.{TypeId}
 use Rattle.signature.specs.declared.lookup.ParentModel.{ParentModel}
 use Rattle.signature.specs.declared.lookup.ParentModel.the-variants.{Model, Nothing}
-use Rattle.group.specs.Lookups.{table, VariablesAt}
-use Rattle.group.specs.declared.lookup.Statement.{Statement}
+use Rattle.group.specs.Lookups.{table, statementFrom, VariablesAt}
+use Rattle.group.specs.declared.lookup.StatementField.{StatementField}
 use Rattle.group.proofs.Values.{numbers-count, taken}
-use Rattle.scope.specs.Statements.{said, ownersIn}
+use Rattle.scope.specs.Statements.{ownersIn}
 use Rattle.scope.specs.Sides.{verdictAt, withoutModel, suiting}
 use Rattle.scope.specs.declared.answers.Owned.{Owned}
 use Rattle.scope.specs.declared.answers.Side.{Side}
@@ -67,57 +68,57 @@ pub enough : {r : Bool} {a b : ℕ} → r ≡ ltb a b → r ≡ false → b ≤ 
 enough {a = a} {b = b} e q = ltb-false a b (sym e ∙ q)
 
 -- A statement's variables against the owners.
-module _ {s : List ℕ} {variables : ℕ} (own : Owned) (count : ℕ) (t : Statement)
-    (h : (count ≤ own .count) × VariablesAt s variables (own .start) (own .count)) (w : VariablesAt s variables (t .at) (t .count)) where
-  pub short : ltb (t .count) count ≡ true → some (refused 43) ≡ ownersVerdict (table s) (ownersIn s own) count (said s t)
-  unfolding ownersVerdict said
-  short q = rw (numbers-count s (t .at) (t .count) (w .within), q)
+module _ {s : List ℕ} {variables : ℕ} (own : Owned) (count : ℕ) (t : StatementField)
+    (h : (count ≤ own .count) × VariablesAt s variables (own .start) (own .count)) (w : VariablesAt s variables (t .start) (t .count)) where
+  pub short : ltb (t .count) count ≡ true → some (refused 43) ≡ ownersVerdict (table s) (ownersIn s own) count (statementFrom s t)
+  unfolding ownersVerdict
+  short q = rw (numbers-count s (t .start) (t .count) (w .within), q)
 
   module _ (q : count ≤ t .count) {r : Bool}
-      (e : r ≡ sameVariables (table s) (numbers (stretch s (t .at) (2 * count))) (numbers (stretch s (own .start) (2 * count)))) where
-    pub by-owners : pick r none (some (accepted global)) ≡ ownersVerdict (table s) (ownersIn s own) count (said s t)
-    unfolding ownersVerdict said ownersIn
+      (e : r ≡ sameVariables (table s) (numbers (stretch s (t .start) (2 * count))) (numbers (stretch s (own .start) (2 * count)))) where
+    by-owners : pick r none (some (accepted global)) ≡ ownersVerdict (table s) (ownersIn s own) count (statementFrom s t)
+    unfolding ownersVerdict ownersIn
     by-owners = rw (
-      numbers-count s (t .at) (t .count) (w .within),
+      numbers-count s (t .start) (t .count) (w .within),
       le-ltb (t .count) count q,
-      taken s (t .at) (t .count) (w .within) count q,
+      taken s (t .start) (t .count) (w .within) count q,
       taken s (own .start) (own .count) (h .1 .within) count (h .0),
       ← e,
     )
 
-    pub alike : r ≡ true → none ≡ ownersVerdict (table s) (ownersIn s own) count (said s t)
+    pub alike : r ≡ true → none ≡ ownersVerdict (table s) (ownersIn s own) count (statementFrom s t)
     alike f = rw f at by-owners
 
-    pub unlike : r ≡ false → some (accepted global) ≡ ownersVerdict (table s) (ownersIn s own) count (said s t)
+    pub unlike : r ≡ false → some (accepted global) ≡ ownersVerdict (table s) (ownersIn s own) count (statementFrom s t)
     unlike f = rw f at by-owners
 
 -- By the model of the statement's symbol.
-module _ (sig : Signature) (variables : List Variable) (m : ℕ) (owners : List ℕ) (s : List ℕ) (t : Statement) {r : ParentModel}
-    (e : modelOf r ≡ parentModel sig (t .kind) (t .symbol)) where
+module _ (sig : Signature) (variables : List Variable) (m : ℕ) (owners : List ℕ) (x : definition.Statement) {r : ParentModel}
+    (e : modelOf r ≡ parentModel sig (x .kind) (x .symbol)) where
   -- It has none.
-  pub no-model : (side : Side) → r ≡ Nothing → withoutModel side (t .kind) ≡ verdictAt side sig variables m owners (said s t)
-  unfolding withoutModel verdictAt conclusionVerdict premiseVerdict relationVerdict said
+  pub no-model : (side : Side) → r ≡ Nothing → withoutModel side (x .kind) ≡ verdictAt side sig variables m owners x
+  unfolding withoutModel verdictAt conclusionVerdict premiseVerdict relationVerdict
   no-model Premises q = rw (← e, q)
   no-model Conclusions q = rw (← e, q)
 
-  module _ {x : TypeId} (q : r ≡ Model x) where
+  module _ {p : TypeId} (q : r ≡ Model p) where
     -- It has one, so it is no Equality.
-    no-equality : eqb (t .kind) equality ≡ false
+    no-equality : eqb (x .kind) equality ≡ false
     unfolding parentModel
-    no-equality = ne-eqb (t .kind) equality λ d. let f = rw (q, d) at e in let z : _≡_ {A = ℕ} 0 1 = cc in absurd (omega arith)
+    no-equality = ne-eqb (x .kind) equality λ d. let f = rw (q, d) at e in let z : _≡_ {A = ℕ} 0 1 = cc in absurd (omega arith)
 
     -- It is another's, or one that suits.
-    pub other-model : (side : Side) {b : Bool} → b ≡ suiting side sig m (x .0) → b ≡ false → some (accepted global) ≡ verdictAt side sig variables m owners (said s t)
-    unfolding suiting verdictAt conclusionVerdict premiseVerdict relationVerdict said
+    pub other-model : (side : Side) {b : Bool} → b ≡ suiting side sig m (p .0) → b ≡ false → some (accepted global) ≡ verdictAt side sig variables m owners x
+    unfolding suiting verdictAt conclusionVerdict premiseVerdict relationVerdict
     other-model Premises f d = rw (no-equality, ← e, q, sym f ∙ d)
     other-model Conclusions f d = rw (← e, q, sym f ∙ d)
 
-    pub by-prefix : (side : Side) {b : Bool} → b ≡ suiting side sig m (x .0) → b ≡ true → {v : Option (Outcome Scope)} {count : ℕ}
-        → count ≡ min (ownerCount sig (x .0)) (ownerCount sig m) → v ≡ ownersVerdict variables owners count (said s t) → v ≡ verdictAt side sig variables m owners (said s t)
-    unfolding suiting verdictAt conclusionVerdict premiseVerdict relationVerdict said
+    pub by-prefix : (side : Side) {b : Bool} → b ≡ suiting side sig m (p .0) → b ≡ true → {v : Option (Outcome Scope)} {count : ℕ}
+        → count ≡ min (ownerCount sig (p .0)) (ownerCount sig m) → v ≡ ownersVerdict variables owners count x → v ≡ verdictAt side sig variables m owners x
+    unfolding suiting verdictAt conclusionVerdict premiseVerdict relationVerdict
     by-prefix Premises f d c g = rw (no-equality, ← e, q, sym f ∙ d, ← c) g
     by-prefix Conclusions f d {count = count} c g =
-        let same : x .0 ≡ m = eqb-true (x .0) m (sym f ∙ d) in
+        let same : p .0 ≡ m = eqb-true (p .0) m (sym f ∙ d) in
         let all : count ≡ ownerCount sig m = rw same at c ∙ omega arith in
         rw (← e, q, sym f ∙ d, ← all) g
 

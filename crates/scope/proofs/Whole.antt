@@ -4,10 +4,10 @@ use native.Mathlib.Omega.{arith}
 use native.Mathlib.Nat.{add-sub-cancel-left}
 use mathlib.Core.List.{List, [], _∷_}
 use mathlib.Core.Path.{_≡_, refl, sym, _∙_}
-use lib.ListN.{length, getD, take, drop}
+use lib.ListN.{length, getD, getElem?, take, drop}
 use Rattle.definition.specs.Base.{Outcome, refused}
-use Rattle.definition.specs.Letters.{letterU, letterB, letterH}
-use Rattle.definition.specs.Records.{Field, Block, withLetter, blocks}
+use Rattle.definition.specs.Letters.{letterU}
+use Rattle.definition.specs.Records.{Field, Block, blocks}
 use Rattle.definition.specs.Signature.{Signature, readSignature}
 use Rattle.definition.specs.Group.{FlatRule, Group, flatRuleOf, groupOf, groupPart, readGroup}
 use Rattle.definition.specs.Scope as definition
@@ -16,7 +16,7 @@ use Rattle.records.specs.Places.{Run, none, more}
 use Rattle.signature.specs.Index as signature-index
 use Rattle.signature.specs.Index.{signatureAt}
 use Rattle.signature.specs.Answers as signature-answers
-use Rattle.signature.specs.Answers.{signatureReading}
+use Rattle.signature.specs.Answers.{signatureReading, refusalNumber}
 use Rattle.signature.specs.declared.ids.Counts.{Counts}
 use Rattle.signature.specs.declared.reader.Reading as read-signature
 use Rattle.signature.specs.declared.reader.Reading.the-variants as signature
@@ -27,8 +27,7 @@ use Rattle.group.specs.declared.lookup.Sections.{Sections}
 use Rattle.group.specs.declared.reader.Reading as read-group
 use Rattle.group.specs.declared.reader.Reading.the-variants as group
 use Rattle.group.proofs.Values.{rules-length, rule-is, numbers-count}
-use Rattle.scope.specs.Statements.{RuleStands}
-use Rattle.scope.specs.Answers.{scopeAnswer, OwnersStand, OwnersFrom, signatureNumber, groupNumber}
+use Rattle.scope.specs.Answers.{scopeAnswer, OwnersStand, OwnersFrom, groupNumber}
 use Rattle.scope.specs.declared.answers.Scope.{Scope}
 use Rattle.scope.specs.declared.answers.Scope.the-variants.{Global, Model, Refused}
 use Rattle.signature.specs.declared.ids.TypeId.{TypeId}
@@ -39,13 +38,14 @@ use mathlib.Core.Logic.{⊎-elim}
 
 -- The rule at a position, if there is one.
 module _ (sig : Signature) (g : Group) where
-  infer-none : (rs : List FlatRule) (i : ℕ) → length rs ≤ i → inferScope sig g rs i ≡ refused 41
+  infer-none : (rs : List FlatRule) (i : ℕ) → length rs ≤ i → inferScope sig g (getElem? rs i) ≡ refused 41
   unfolding inferScope
   infer-none [] i h = refl
   infer-none (r ∷ rs) zero h = absurd (omega arith)
   infer-none (r ∷ rs) (suc i) h = infer-none rs i (omega arith)
 
-  infer-at : (rs : List FlatRule) (i : ℕ) (d : FlatRule) → i < length rs → inferScope sig g rs i ≡ conclusionScope sig (g .variables) (getD rs i d) (getD rs i d .conclusion)
+  infer-at : (rs : List FlatRule) (i : ℕ) (d : FlatRule) → i < length rs
+      → inferScope sig g (getElem? rs i) ≡ conclusionScope sig (g .variables) (getD rs i d) (getD rs i d .conclusion)
   unfolding inferScope
   infer-at [] i d h = absurd (omega arith)
   infer-at (r ∷ rs) zero d h = refl
@@ -62,7 +62,7 @@ some-field (more e r) h q = let z : _≡_ {A = ℕ} 0 1 = cc in absurd (omega ar
 
 module _ (bytes symbols group-bytes : List ℕ) (position : ℕ) {a : read-signature.Reading} (e : signatureReading bytes symbols a ≡ readSignature bytes) where
   -- The signature was refused.
-  pub signature-refused : {n : ℕ} → a ≡ signature.Refused n → refused (signatureNumber a) ≡ scopeOf bytes group-bytes position
+  pub signature-refused : {n : ℕ} → a ≡ signature.Refused n → refused (refusalNumber a) ≡ scopeOf bytes group-bytes position
   unfolding scopeOf
   signature-refused q = rw (← e, q)
 
@@ -73,17 +73,21 @@ module _ (bytes symbols group-bytes : List ℕ) (position : ℕ) {a : read-signa
     unfolding scopeOf
     group-refused q = rw (← e, p, ← f, q)
 
-    module _ {variables rules : ℕ} (q : b ≡ group.Sound variables rules) {index : List ℕ} (w : Indexed (signatureAt bytes symbols counts) group-bytes index variables rules) where
-      here : scopeOf bytes group-bytes position ≡ inferScope (signatureAt bytes symbols counts) (groupOf (groupPart group-bytes .fields)) (groupOf (groupPart group-bytes .fields) .rules) position
+    module _ {variables rules : ℕ} (q : b ≡ group.Sound variables rules) {index : List ℕ}
+        (w : Indexed (signatureAt bytes symbols counts) group-bytes index variables rules) where
+      here : scopeOf bytes group-bytes position
+          ≡ inferScope (signatureAt bytes symbols counts) (groupOf (groupPart group-bytes .fields))
+              (getElem? (groupOf (groupPart group-bytes .fields) .rules) position)
       unfolding scopeOf
       here = rw (← e, p, ← f, q)
 
       -- There is no rule at the position, or there is one.
       pub no-rule : rules ≤ position → refused 41 ≡ scopeOf bytes group-bytes position
-      no-rule h = sym (here ∙ infer-none _ _ _ position (rw (rules-length (w .rule)) h))
+      no-rule h = sym (here ∙ infer-none _ _ (groupOf (groupPart group-bytes .fields) .rules) position (rw (rules-length (w .rule)) h))
 
       pub rule-answer : position < rules → {answer : Outcome definition.Scope}
-          → answer ≡ conclusionScope (signatureAt bytes symbols counts) (table group-bytes) (flatRuleOf (blockAt group-bytes position)) (flatRuleOf (blockAt group-bytes position) .conclusion)
+          → answer ≡ conclusionScope (signatureAt bytes symbols counts) (table group-bytes) (flatRuleOf (blockAt group-bytes position))
+              (flatRuleOf (blockAt group-bytes position) .conclusion)
           → answer ≡ scopeOf bytes group-bytes position
       rule-answer h k =
           let d : FlatRule = flatRuleOf noBlock in
@@ -91,21 +95,16 @@ module _ (bytes symbols group-bytes : List ℕ) (position : ℕ) {a : read-signa
           k ∙ sym (here ∙ infer-at _ _ (groupOf (groupPart group-bytes .fields) .rules) position d l ∙ rw (rule-is (w .rule) position d h))
 
 -- What was accepted can be looked up.
-pub usable-signature : {s index : List ℕ} {a : read-signature.Reading} {counts : Counts} → a ≡ signature.Sound counts → signature-answers.Usable s index a → signature-index.Indexed s index counts
+pub usable-signature : {s index : List ℕ} {a : read-signature.Reading} {counts : Counts} → a ≡ signature.Sound counts → signature-answers.Usable s index a
+    → signature-index.Indexed s index counts
 usable-signature e u = rw e at u
 
-pub usable-group : {sig : Signature} {s index : List ℕ} {b : read-group.Reading} {variables rules : ℕ} → b ≡ group.Sound variables rules → Usable sig s index b → Indexed sig s index variables rules
+pub usable-group : {sig : Signature} {s index : List ℕ} {b : read-group.Reading} {variables rules : ℕ} → b ≡ group.Sound variables rules
+    → Usable sig s index b → Indexed sig s index variables rules
 usable-group e u = rw e at u
 
 module _ {sig : Signature} {s index : List ℕ} {variables rules : ℕ} (w : Indexed sig s index variables rules) {k : ℕ} (h : k < rules) {rule : Sections}
     (v : SectionsAt s (rule .premises) (rule .conclusions) (rule .end) (blockAt s k)) where
-  -- The sections of a rule can be read.
-  pub rule-stands : RuleStands sig variables s rule
-  rule-stands = record {
-    premise = record { fields = withLetter letterB (blockAt s k .body); run = v .premise; stated = w .sound k h .premise };
-    conclusion = record { fields = withLetter letterH (blockAt s k .body); run = v .conclusion; stated = w .sound k h .conclusion };
-  }
-
   -- Its owners stand in the first conclusion.
   pub owners-stand : rule .conclusions ≡ conclusionsAt index k → (r : Scope) → OwnersFrom r (rule .conclusions) (rule .end) (length s) → OwnersStand s k r
   unfolding ownersAt

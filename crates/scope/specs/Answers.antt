@@ -10,8 +10,6 @@ use Rattle.definition.specs.Records.{numbers}
 use Rattle.definition.specs.Scope as definition
 use Rattle.definition.specs.Scope.{ownersAt}
 use Rattle.records.specs.Places.{stretch}
-use Rattle.signature.specs.declared.reader.Reading as Signature
-use Rattle.signature.specs.declared.reader.Reading.the-variants as signature
 use Rattle.group.specs.declared.reader.Reading as Group
 use Rattle.group.specs.declared.reader.Reading.the-variants as group
 use Rattle.scope.specs.declared.answers.Owned.{Owned}
@@ -61,11 +59,7 @@ settledAs own verdict.Open = Model (own .model) (own .start) (own .count)
 settledAs own verdict.Global = Global
 settledAs own (verdict.Refused n) = Refused n
 
--- The number of a refused signature, and of a refused group.
-abbrev pub signatureNumber : Signature.Reading → ℕ
-signatureNumber (signature.Sound counts) = 0
-signatureNumber (signature.Refused n) = n
-
+-- The number of a refused group.
 abbrev pub groupNumber : Group.Reading → ℕ
 groupNumber (group.Sound variables rules) = 0
 groupNumber (group.Refused n) = n

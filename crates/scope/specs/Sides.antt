@@ -4,11 +4,10 @@ use mathlib.Core.List.{List}
 use mathlib.Core.Option.{Option, none, some}
 use Prim.Native.Nat.{ℕ}
 use lib.Dec.{eqb}
-use Rattle.definition.specs.Base.{Outcome, refused, accepted, pick, orElse, each, firstOf}
+use Rattle.definition.specs.Base.{Outcome, refused, accepted, pick, orElse, firstOf}
 use Rattle.definition.specs.Letters.{letterB, letterH, equality}
-use Rattle.definition.specs.Records.{Field}
 use Rattle.definition.specs.Signature.{Signature}
-use Rattle.definition.specs.Group.{Variable, Statement, FlatRule, statementOf}
+use Rattle.definition.specs.Group.{Variable, Statement, FlatRule}
 use Rattle.definition.specs.Scope.{Scope, global, related, conclusionVerdict, premiseVerdict}
 use Rattle.group.specs.declared.lookup.Sections.{Sections}
 use Rattle.scope.specs.declared.answers.Side.{Side}
@@ -33,13 +32,10 @@ unfoldable pub verdictAt : Side → Signature → List Variable → ℕ → List
 verdictAt Premises = premiseVerdict
 verdictAt Conclusions = conclusionVerdict
 
--- The first verdict among the statements of a section's fields.
-unfoldable pub firstAmong : Side → Signature → List Variable → ℕ → List ℕ → List Field → Option (Outcome Scope)
-firstAmong side sig table m owners fs = firstOf (verdictAt side sig table m owners) (each statementOf fs)
-
 -- The first verdict of a rule, its conclusions' before its premises'.
 unfoldable pub firstVerdict : Signature → List Variable → FlatRule → ℕ → List ℕ → Option (Outcome Scope)
-firstVerdict sig table r m owners = orElse (firstOf (conclusionVerdict sig table m owners) (r .conclusion)) (firstOf (premiseVerdict sig table m owners) (r .premise))
+firstVerdict sig table r m owners =
+    orElse (firstOf (conclusionVerdict sig table m owners) (r .conclusion)) (firstOf (premiseVerdict sig table m owners) (r .premise))
 
 -- A statement without a model, by its kind.
 unfoldable pub withoutModel : Side → ℕ → Option (Outcome Scope)

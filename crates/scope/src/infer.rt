@@ -1,7 +1,7 @@
 // Scope and owners of a rule at a position of a group, for any bytes.
 ghost use mathlib.Core.Path.{_≡_};
 ghost use Rattle.definition.specs.Scope.{scopeOf, ownersOf};
-ghost use Rattle.scope.specs.Answers.{scopeAnswer, OwnersStand, signatureNumber, groupNumber};
+ghost use Rattle.scope.specs.Answers.{scopeAnswer, OwnersStand, groupNumber};
 use crate::answers::Scope;
 use crate::rules::rule_scope;
 use group::ids::GROUP_INDEX;
@@ -9,17 +9,9 @@ use group::lookup::rule_sections;
 use group::reader::read_group;
 use signature::ids::INDEX;
 use signature::reader::read_signature;
+use signature::reader::refusal;
 
-// The number of a refused signature, and of a refused group.
-fn signature_number(r: signature::reader::Reading) -> u8
-    ensures { λ n. ⌜ n ≡ signatureNumber r ⌝ }
-{
-    match r {
-        signature::reader::Reading::Sound(_) => 0,
-        signature::reader::Reading::Refused(n) => n,
-    }
-}
-
+// The number of a refused group.
 fn group_number(r: group::reader::Reading) -> u8
     ensures { λ n. ⌜ n ≡ groupNumber r ⌝ }
 {
@@ -40,7 +32,7 @@ pub fn scope(sig: &[u8], group: &[u8], position: usize) -> Scope
     let mut symbols = [0u16; INDEX];
     let a = read_signature(sig, &mut symbols);
     let signature::reader::Reading::Sound(counts) = a else {
-        return Scope::Refused(signature_number(a));
+        return Scope::Refused(refusal(a));
     };
     let mut index = [0u16; GROUP_INDEX];
     let b = read_group(sig, &symbols, counts, group, &mut index);

@@ -1,35 +1,30 @@
 // The statements of a rule, in order, and its scope.
-ghost use mathlib.Core.List.{List};
 ghost use mathlib.Core.Path.{_≡_};
 ghost use lib.ListN.{length};
-ghost use Rattle.definition.specs.Records as definition;
-ghost use Rattle.definition.specs.Records.{Block};
-ghost use Rattle.definition.specs.Group.{flatRuleOf};
+ghost use Rattle.definition.specs.Base.{firstOf};
+ghost use Rattle.definition.specs.Group.{FlatRule};
 ghost use Rattle.definition.specs.Signature.{parentModel};
 ghost use Rattle.definition.specs.Scope.{outputScope, conclusionScope};
-ghost use Rattle.records.specs.Places.{Run};
 ghost use Rattle.signature.specs.Index.{signatureAt, Indexed};
-ghost use Rattle.group.specs.Lookups.{table, Listed, SectionsAt};
-ghost use Rattle.scope.specs.Statements.{said, StatementAt, ownersIn, OwnedAt, RuleStands};
-ghost use Rattle.scope.specs.Sides.{beginOf, endOf, firstAmong, firstVerdict};
+ghost use Rattle.group.specs.Lookups.{table, Listed, statementFrom, statementsIn, RuleStands, RuleSays};
+ghost use Rattle.scope.specs.Statements.{Sound, ownersIn, OwnedAt};
+ghost use Rattle.scope.specs.Sides.{beginOf, endOf, verdictAt, firstVerdict};
 ghost use Rattle.scope.specs.Answers.{verdictOf, leavesOpen, scopeAnswer, settledAs, Leads, OwnersFrom};
 use crate::answers::Owned;
 use crate::answers::Scope;
 use crate::answers::Side;
 use crate::answers::Verdict;
 use crate::verdicts::owner_count;
+use crate::verdicts::statement_model;
 use crate::verdicts::statement_verdict;
 use crate::verdicts::too_few;
 use group::ids::GROUP_INDEX;
 use group::lookup::Sections;
-use group::lookup::Statement;
+use group::lookup::StatementField;
 use group::lookup::read_statement;
-use records::fields::Field;
-use records::fields::read_field;
 use signature::ids::Counts;
 use signature::ids::INDEX;
 use signature::lookup::ParentModel;
-use signature::lookup::parent_model_type;
 
 // Does a verdict leave the scope open?
 fn is_open(v: Verdict) -> bool
@@ -63,7 +58,7 @@ fn part_of(rule: Sections, side: Side) -> Part
     }
 }
 
-// The first verdict of a section that settles the scope. Every field was read before, so here and below none is found bad.
+// The first verdict of a section that settles the scope.
 fn section_verdict(
     sig: &[u8],
     symbols: &[u16; INDEX],
@@ -79,28 +74,20 @@ fn section_verdict(
     requires { ⌜ Listed (now s) (now index) variables ⌝ }
     requires { ⌜ OwnedAt (signatureAt (now sig) (now symbols) counts) (counts .types) variables (now s) own ⌝ }
     requires { ⌜ RuleStands (signatureAt (now sig) (now symbols) counts) variables (now s) rule ⌝ }
-    ensures { λ r. ⌜ ((fs : List definition.Field) → Run (now (s .entry)) (beginOf rule side) (endOf rule side) fs
-        → verdictOf r ≡ firstAmong side (signatureAt (now (sig .entry)) (now (symbols .entry)) counts) (table (now (s .entry))) (own .model .0) (ownersIn (now (s .entry)) own) fs) ⌝ }
+    ensures { λ r. ⌜ verdictOf r
+        ≡ firstOf (verdictAt side (signatureAt (now (sig .entry)) (now (symbols .entry)) counts) (table (now (s .entry)))
+            (own .model .0) (ownersIn (now (s .entry)) own))
+        (statementsIn (now (s .entry)) (beginOf rule side) (endOf rule side)) ⌝ }
 {
     let part = part_of(rule, side);
     let mut at = part.from;
     while at < part.end {
-        let f = read_field(s, at);
-        let Field::Got {
-            letter: _,
-            start,
-            len,
-            next,
-        } = f
-        else {
-            return Verdict::Global;
-        };
-        let t = read_statement(s, start, len);
+        let t = read_statement(s, at);
         let v = statement_verdict(sig, symbols, counts, s, index, variables, own, side, t);
         if !is_open(v) {
             return v;
         }
-        at = next;
+        at = t.next;
     }
     Verdict::Open
 }
@@ -120,8 +107,9 @@ fn rule_verdict(
     requires { ⌜ Listed (now s) (now index) variables ⌝ }
     requires { ⌜ OwnedAt (signatureAt (now sig) (now symbols) counts) (counts .types) variables (now s) own ⌝ }
     requires { ⌜ RuleStands (signatureAt (now sig) (now symbols) counts) variables (now s) rule ⌝ }
-    ensures { λ r. ⌜ ((b : Block) → SectionsAt (now (s .entry)) (rule .premises) (rule .conclusions) (rule .end) b → verdictOf r
-        ≡ firstVerdict (signatureAt (now (sig .entry)) (now (symbols .entry)) counts) (table (now (s .entry))) (flatRuleOf b) (own .model .0) (ownersIn (now (s .entry)) own)) ⌝ }
+    ensures { λ r. ⌜ ((x : FlatRule) → RuleSays (now (s .entry)) rule x → verdictOf r
+        ≡ firstVerdict (signatureAt (now (sig .entry)) (now (symbols .entry)) counts) (table (now (s .entry))) x
+        (own .model .0) (ownersIn (now (s .entry)) own)) ⌝ }
 {
     let first = Side::Conclusions;
     let v = section_verdict(sig, symbols, counts, s, index, variables, own, rule, first);
@@ -157,18 +145,18 @@ fn output_scope(
     index: &[u16; GROUP_INDEX],
     variables: usize,
     rule: Sections,
-    t: Statement,
+    t: StatementField,
 ) -> Scope
     requires { ⌜ Indexed (now sig) (now symbols) counts ⌝ }
     requires { ⌜ Listed (now s) (now index) variables ⌝ }
     requires { ⌜ RuleStands (signatureAt (now sig) (now symbols) counts) variables (now s) rule ⌝ }
-    requires { ⌜ StatementAt (signatureAt (now sig) (now symbols) counts) variables (now s) t ⌝ }
-    ensures { λ r. ⌜ ((b : Block) → SectionsAt (now (s .entry)) (rule .premises) (rule .conclusions) (rule .end) b → scopeAnswer (now (s .entry)) r
-        ≡ outputScope (signatureAt (now (sig .entry)) (now (symbols .entry)) counts) (table (now (s .entry))) (flatRuleOf b) (said (now (s .entry)) t)
+    requires { ⌜ Sound (signatureAt (now sig) (now symbols) counts) variables (now s) t ⌝ }
+    ensures { λ r. ⌜ ((x : FlatRule) → RuleSays (now (s .entry)) rule x → scopeAnswer (now (s .entry)) r
+        ≡ outputScope (signatureAt (now (sig .entry)) (now (symbols .entry)) counts) (table (now (s .entry))) x (statementFrom (now (s .entry)) t)
         (parentModel (signatureAt (now (sig .entry)) (now (symbols .entry)) counts) (t .kind) (t .symbol))) ⌝ }
-    ensures { λ r. ⌜ Leads r (t .at) (length (now (s .entry))) ⌝ }
+    ensures { λ r. ⌜ Leads r (t .start) (length (now (s .entry))) ⌝ }
 {
-    let p = parent_model_type(sig, symbols, counts, t.kind, t.symbol);
+    let p = statement_model(sig, symbols, counts, t);
     let ParentModel::Model(model) = p else {
         return Scope::Global;
     };
@@ -176,10 +164,9 @@ fn output_scope(
     if too_few(t, count) {
         return Scope::Refused(43);
     }
-    let start = t.at;
     let own = Owned {
         model,
-        start,
+        start: t.start,
         count,
     };
     let v = rule_verdict(sig, symbols, counts, s, index, variables, own, rule);
@@ -199,23 +186,13 @@ pub fn rule_scope(
     requires { ⌜ Indexed (now sig) (now symbols) counts ⌝ }
     requires { ⌜ Listed (now s) (now index) variables ⌝ }
     requires { ⌜ RuleStands (signatureAt (now sig) (now symbols) counts) variables (now s) rule ⌝ }
-    ensures { λ r. ⌜ ((b : Block) → SectionsAt (now (s .entry)) (rule .premises) (rule .conclusions) (rule .end) b → scopeAnswer (now (s .entry)) r
-        ≡ conclusionScope (signatureAt (now (sig .entry)) (now (symbols .entry)) counts) (table (now (s .entry))) (flatRuleOf b) (flatRuleOf b .conclusion)) ⌝ }
+    ensures { λ r. ⌜ ((x : FlatRule) → RuleSays (now (s .entry)) rule x → scopeAnswer (now (s .entry)) r
+        ≡ conclusionScope (signatureAt (now (sig .entry)) (now (symbols .entry)) counts) (table (now (s .entry))) x (x .conclusion)) ⌝ }
     ensures { λ r. ⌜ OwnersFrom r (rule .conclusions) (rule .end) (length (now (s .entry))) ⌝ }
 {
     if rule.end <= rule.conclusions {
         return Scope::Global;
     }
-    let f = read_field(s, rule.conclusions);
-    let Field::Got {
-        letter: _,
-        start,
-        len,
-        next: _,
-    } = f
-    else {
-        return Scope::Global;
-    };
-    let t = read_statement(s, start, len);
-    output_scope(sig, symbols, counts, s, index, variables, rule, t)
+    let first = read_statement(s, rule.conclusions);
+    output_scope(sig, symbols, counts, s, index, variables, rule, first)
 }

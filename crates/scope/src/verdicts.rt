@@ -3,19 +3,20 @@ ghost use mathlib.Core.Path.{_≡_};
 ghost use Prim.Native.Nat.{_+_, _≤_, _<_, min};
 ghost use lib.Dec.{ltb};
 ghost use Rattle.definition.specs.Base.{has};
-ghost use Rattle.definition.specs.Signature.{typeParents};
+ghost use Rattle.definition.specs.Signature.{typeParents, symbolCount, parentModel};
 ghost use Rattle.definition.specs.Scope as definition;
 ghost use Rattle.definition.specs.Scope.{ownerCount, ownersVerdict};
+ghost use Rattle.signature.specs.Entries.{modelOf, Named};
 ghost use Rattle.signature.specs.Index.{signatureAt, Indexed};
-ghost use Rattle.group.specs.Lookups.{table, Listed, VariablesAt};
-ghost use Rattle.scope.specs.Statements.{said, StatementAt, ownersIn, OwnedAt};
+ghost use Rattle.group.specs.Lookups.{table, Listed, statementFrom, VariablesAt};
+ghost use Rattle.scope.specs.Statements.{Sound, ownersIn, OwnedAt};
 ghost use Rattle.scope.specs.Answers.{verdictOf};
 ghost use Rattle.scope.specs.Sides.{withoutModel, suiting, verdictAt};
 use crate::answers::Owned;
 use crate::answers::Side;
 use crate::answers::Verdict;
 use group::ids::GROUP_INDEX;
-use group::lookup::Statement;
+use group::lookup::StatementField;
 use group::lookup::same_variables;
 use signature::ids::Counts;
 use signature::ids::EQUALITY;
@@ -23,8 +24,19 @@ use signature::ids::INDEX;
 use signature::ids::TypeId;
 use signature::lookup::ParentModel;
 use signature::lookup::parent_model_type;
+use signature::lookup::relation;
 use signature::lookup::type_parent;
 use signature::lookup::type_parents;
+
+// The model of what a statement is about.
+pub fn statement_model(sig: &[u8], symbols: &[u16; INDEX], counts: Counts, t: StatementField) -> ParentModel
+    requires { ⌜ Indexed (now sig) (now symbols) counts ⌝ }
+    requires { ⌜ t .symbol < symbolCount (signatureAt (now sig) (now symbols) counts) (t .kind) ⌝ }
+    ensures { λ r. ⌜ modelOf r ≡ parentModel (signatureAt (now (sig .entry)) (now (symbols .entry)) counts) (t .kind) (t .symbol) ⌝ }
+    ensures { λ r. ⌜ Named r (counts .types) ⌝ }
+{
+    parent_model_type(sig, symbols, counts, relation(t.kind, t.symbol))
+}
 
 // How many owners a model's rules have: one more than it has parents.
 pub fn owner_count(sig: &[u8], symbols: &[u16; INDEX], counts: Counts, m: TypeId) -> usize
@@ -79,7 +91,7 @@ fn smaller(a: usize, b: usize) -> usize
 }
 
 // Has a statement fewer arguments than owners are compared? A FuncDomain's result is none of them.
-pub fn too_few(t: Statement, count: usize) -> bool
+pub fn too_few(t: StatementField, count: usize) -> bool
     ensures { λ r. ⌜ r ≡ ltb (t .count) count ⌝ }
 {
     t.count < count
@@ -92,17 +104,18 @@ fn compared(
     variables: usize,
     own: Owned,
     count: usize,
-    t: Statement,
+    t: StatementField,
 ) -> Verdict
     requires { ⌜ Listed (now s) (now index) variables ⌝ }
     requires { ⌜ (count ≤ own .count) × VariablesAt (now s) variables (own .start) (own .count) ⌝ }
-    requires { ⌜ VariablesAt (now s) variables (t .at) (t .count) ⌝ }
-    ensures { λ r. ⌜ verdictOf r ≡ ownersVerdict (table (now (s .entry))) (ownersIn (now (s .entry)) own) count (said (now (s .entry)) t) ⌝ }
+    requires { ⌜ VariablesAt (now s) variables (t .start) (t .count) ⌝ }
+    ensures { λ r. ⌜ verdictOf r
+        ≡ ownersVerdict (table (now (s .entry))) (ownersIn (now (s .entry)) own) count (statementFrom (now (s .entry)) t) ⌝ }
 {
     if too_few(t, count) {
         return Verdict::Refused(43);
     }
-    if same_variables(s, index, variables, t.at, own.start, count) {
+    if same_variables(s, index, variables, t.start, own.start, count) {
         return Verdict::Open;
     }
     Verdict::Global
@@ -152,16 +165,16 @@ pub fn statement_verdict(
     variables: usize,
     own: Owned,
     side: Side,
-    t: Statement,
+    t: StatementField,
 ) -> Verdict
     requires { ⌜ Indexed (now sig) (now symbols) counts ⌝ }
     requires { ⌜ Listed (now s) (now index) variables ⌝ }
     requires { ⌜ OwnedAt (signatureAt (now sig) (now symbols) counts) (counts .types) variables (now s) own ⌝ }
-    requires { ⌜ StatementAt (signatureAt (now sig) (now symbols) counts) variables (now s) t ⌝ }
+    requires { ⌜ Sound (signatureAt (now sig) (now symbols) counts) variables (now s) t ⌝ }
     ensures { λ r. ⌜ verdictOf r ≡ verdictAt side (signatureAt (now (sig .entry)) (now (symbols .entry)) counts) (table (now (s .entry)))
-        (own .model .0) (ownersIn (now (s .entry)) own) (said (now (s .entry)) t) ⌝ }
+        (own .model .0) (ownersIn (now (s .entry)) own) (statementFrom (now (s .entry)) t) ⌝ }
 {
-    let p = parent_model_type(sig, symbols, counts, t.kind, t.symbol);
+    let p = statement_model(sig, symbols, counts, t);
     let ParentModel::Model(parent) = p else {
         return without_model(side, t.kind);
     };

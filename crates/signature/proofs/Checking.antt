@@ -51,7 +51,8 @@ module _ {r : Fault} {x : Option ℕ} (h : faultOf r ≡ x) where
 module _ {s index₀ : List ℕ} {letter types from : ℕ} where
   -- Nothing is stored yet.
   pub stored-start : {begin : ℕ} → length index₀ ≡ indexSize → Stored (Count 0 begin) s index₀ index₀ letter types from
-  stored-start l = record { long = l; kept = λ i h. refl; held = record { few = omega arith; within = λ i h. absurd (omega arith); sound = λ i h. absurd (omega arith) } }
+  stored-start l = record
+      { long = l; kept = λ i h. refl; held = record { few = omega arith; within = λ i h. absurd (omega arith); sound = λ i h. absurd (omega arith) } }
 
   module _ {index : List ℕ} {count at : ℕ} (w : Stored (Count count at) s index₀ index letter types from) where
     -- A refusal asks nothing of the index's new entries.
@@ -110,7 +111,8 @@ pub check-start : {s index : List ℕ} {letter types from begin end : ℕ} {fs r
 unfolding faultAmong heldAt
 check-start {fs = fs} r f = record { left = fs; last = none; run = r; front = f; fault = refl; held = refl }
 
-module _ {s index : List ℕ} {letter types from end : ℕ} {fs rest : List Field} {at count : ℕ} (w : Checking s index letter types from end fs rest at count) where
+module _ {s index : List ℕ} {letter types from end : ℕ} {fs rest : List Field} {at count : ℕ} (w : Checking s index letter types from end fs rest at count)
+    where
   -- None of the letter is left: what is left is the rest.
   check-done : withLetter letter (w .left) ≡ [] → Checks (Count count at) s index letter types from end fs rest
   unfolding faultFrom

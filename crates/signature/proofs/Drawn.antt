@@ -46,7 +46,8 @@ columns-none most types before ns e =
     let b = lowest-none 5 _ _ (a .1) in
     (leb-false _ _ (or-left _ _ (a .0)), not-false _ (b .0))
 
-pub type-none : (types before : ℕ) (last : Option Field) (f : Field) → typeFault types before last f ≡ none → columnsFault parentLimit types before (numbers (f .content)) ≡ none
+pub type-none : (types before : ℕ) (last : Option Field) (f : Field) → typeFault types before last f ≡ none
+    → columnsFault parentLimit types before (numbers (f .content)) ≡ none
 unfolding typeFault columnsFault
 type-none types before last f e = lowest-none 3 _ _ e .1
 
@@ -65,7 +66,8 @@ module _ (s : List ℕ) (start len : ℕ) (h : start + len ≤ length s) (types 
   unfolding typeFault lowest
   type-odd q = rw (length-stretch s start len h, eq-eqb _ _ q)
 
-  pub type-even : (len % 2 ≡ 1 → ⊥) → columnsFault parentLimit types before (numbers (stretch s start len)) ≡ typeFault types before last (fieldOf s letter start len)
+  pub type-even : (len % 2 ≡ 1 → ⊥)
+      → columnsFault parentLimit types before (numbers (stretch s start len)) ≡ typeFault types before last (fieldOf s letter start len)
   unfolding typeFault columnsFault lowest
   type-even q = rw (length-stretch s start len h, ne-eqb _ _ q, le-ltb len 0 (omega arith))
 
@@ -74,7 +76,8 @@ module _ (s : List ℕ) (start len : ℕ) (h : start + len ≤ length s) (types 
   unfolding symbolFault lowest
   symbol-even results q = rw (length-stretch s start len h, ne-eqb _ _ q)
 
-  symbol-odd : (results : ℕ) → len % 2 ≡ 1 → pick (ltb (len / 2) (getD s start 0 + results)) (some 3) (columnsFault columnLimit types before (numbers (stretch s (start + 1) (len - 1))))
+  symbol-odd : (results : ℕ) → len % 2 ≡ 1
+      → pick (ltb (len / 2) (getD s start 0 + results)) (some 3) (columnsFault columnLimit types before (numbers (stretch s (start + 1) (len - 1))))
       ≡ symbolFault results types before last (fieldOf s letter start len)
   unfolding symbolFault columnsFault lowest
   symbol-odd results q =
@@ -84,7 +87,8 @@ module _ (s : List ℕ) (start len : ℕ) (h : start + len ≤ length s) (types 
       half : (len - 1) / 2 ≡ len / 2
       half = omega arith
 
-  pub symbol-short : (results : ℕ) → len % 2 ≡ 1 → len / 2 < getD s start 0 + results → some 3 ≡ symbolFault results types before last (fieldOf s letter start len)
+  pub symbol-short : (results : ℕ) → len % 2 ≡ 1 → len / 2 < getD s start 0 + results
+      → some 3 ≡ symbolFault results types before last (fieldOf s letter start len)
   symbol-short results q k = rw (lt-ltb _ _ k) at (symbol-odd results q)
 
   pub symbol-columns : (results : ℕ) → len % 2 ≡ 1 → getD s start 0 + results ≤ len / 2
@@ -94,4 +98,5 @@ module _ (s : List ℕ) (start len : ℕ) (h : start + len ≤ length s) (types 
   -- Where a P or F has no fault, its columns are enough.
   pub symbol-fits : (results : ℕ) → len % 2 ≡ 1 → symbolFault results types before last (fieldOf s letter start len) ≡ none → getD s start 0 + results ≤ len / 2
   symbol-fits results q e =
-      ltb-false _ _ (pick-none (ltb (len / 2) (getD s start 0 + results)) (columnsFault columnLimit types before (numbers (stretch s (start + 1) (len - 1)))) (symbol-odd results q ∙ e))
+      ltb-false _ _ (pick-none (ltb (len / 2) (getD s start 0 + results))
+          (columnsFault columnLimit types before (numbers (stretch s (start + 1) (len - 1)))) (symbol-odd results q ∙ e))

@@ -45,7 +45,8 @@ unfolding withLetter keep
 kept-again letter [] = refl
 kept-again letter (f ∷ fs) = go (ℕ-discrete (f .letter) letter) (kept-again letter fs)
   where
-    go : Dec (f .letter ≡ letter) → withLetter letter (withLetter letter fs) ≡ withLetter letter fs → withLetter letter (withLetter letter (f ∷ fs)) ≡ withLetter letter (f ∷ fs)
+    go : Dec (f .letter ≡ letter) → withLetter letter (withLetter letter fs) ≡ withLetter letter fs
+        → withLetter letter (withLetter letter (f ∷ fs)) ≡ withLetter letter (f ∷ fs)
     go (yes q) r = rw (letter-yes letter {f = f} {fs = fs} refl q) (letter-yes letter {fs = withLetter letter fs} refl q ∙ rw r)
     go (no q) r = rw (letter-no letter {f = f} {fs = fs} refl q) r
 
@@ -66,9 +67,11 @@ module _ (behind letter : ℕ) where
   not-above : 0 < behind → behind < letter → Letter letter → follows (signatureGrammar .places) behind letter ≡ false
   unfolding follows any has
   not-above z h (inl q) = rw (q, ne-eqb start behind (λ e. omega arith), ne-eqb letterT behind (λ e. omega arith))
-  not-above z h (inr (inl q)) = rw (q, ne-eqb start behind (λ e. omega arith), ne-eqb letterT behind (λ e. omega arith), ne-eqb letterP behind (λ e. omega arith))
+  not-above z h (inr (inl q)) =
+      rw (q, ne-eqb start behind (λ e. omega arith), ne-eqb letterT behind (λ e. omega arith), ne-eqb letterP behind (λ e. omega arith))
   not-above z h (inr (inr q)) =
-      rw (q, ne-eqb start behind (λ e. omega arith), ne-eqb letterT behind (λ e. omega arith), ne-eqb letterP behind (λ e. omega arith), ne-eqb letterF behind (λ e. omega arith))
+      rw (q, ne-eqb start behind (λ e. omega arith), ne-eqb letterT behind (λ e. omega arith), ne-eqb letterP behind (λ e. omega arith),
+          ne-eqb letterF behind (λ e. omega arith))
 
   module _ (e : follows (signatureGrammar .places) behind letter ≡ true) where
     is-letter : Letter letter
@@ -79,7 +82,8 @@ module _ (behind letter : ℕ) where
         go (yes t) p f = inl t
         go (no t) (yes p) f = inr (inl p)
         go (no t) (no p) (yes f) = inr (inr f)
-        go (no t) (no p) (no f) = never e (rw (ne-eqb letterT letter (λ q. t (sym q)), ne-eqb letterP letter (λ q. p (sym q)), ne-eqb letterF letter (λ q. f (sym q))))
+        go (no t) (no p) (no f) =
+            never e (rw (ne-eqb letterT letter (λ q. t (sym q)), ne-eqb letterP letter (λ q. p (sym q)), ne-eqb letterF letter (λ q. f (sym q))))
 
     is-low : 0 < behind → letter ≤ behind
     is-low z = go (ltb behind letter) refl
@@ -91,7 +95,8 @@ module _ (behind letter : ℕ) where
 -- Each letter may stand behind the one before it.
 data Falling : ℕ → List Field → Type 0 where
   done : {behind : ℕ} → Falling behind []
-  next : {behind : ℕ} {f : Field} {fs : List Field} → follows (signatureGrammar .places) behind (f .letter) ≡ true → Falling (f .letter) fs → Falling behind (f ∷ fs)
+  next : {behind : ℕ} {f : Field} {fs : List Field} → follows (signatureGrammar .places) behind (f .letter) ≡ true → Falling (f .letter) fs
+      → Falling behind (f ∷ fs)
 
 -- So it is in a signature's part,
 falling : (behind : ℕ) (fs : Fields) → Falling behind (placed signatureGrammar behind fs .fields)

@@ -24,7 +24,8 @@ unfolding follows any has
 follows-last behind letter e = go (eqb letterT letter) (eqb letterP letter) (eqb letterF letter) refl refl refl e
   where
     go : (a b c : Bool) → eqb letterT letter ≡ a → eqb letterP letter ≡ b → eqb letterF letter ≡ c
-        → ((a && has behind (start ∷ letterT ∷ [])) || ((b && has behind (start ∷ letterT ∷ letterP ∷ [])) || ((c && has behind (start ∷ letterT ∷ letterP ∷ letterF ∷ [])) || false))) ≡ true
+        → ((a && has behind (start ∷ letterT ∷ [])) ||
+            ((b && has behind (start ∷ letterT ∷ letterP ∷ [])) || ((c && has behind (start ∷ letterT ∷ letterP ∷ letterF ∷ [])) || false))) ≡ true
         → has letter (signatureGrammar .last) ≡ true
     go true b c p q r e = rw (← (eqb-true letterT letter p))
     go false true c p q r e = rw (← (eqb-true letterP letter q))

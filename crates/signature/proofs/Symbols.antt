@@ -54,7 +54,8 @@ pub record Shaped (results types : ℕ) (s : List ℕ) (p : ℕ) : Type 0 where
   pub all-named : AllNamed types s p
   pub enough : getD s (p + 3) 0 + results ≤ twoAt s (p + 1) / 2
 
-symbol-sound : (results types before : ℕ) (last : Option Field) (s : List ℕ) (p : ℕ) → Sits s p → symbolFault results types before last (fieldIn s p) ≡ none → Shaped results types s p
+symbol-sound : (results types before : ℕ) (last : Option Field) (s : List ℕ) (p : ℕ) → Sits s p → symbolFault results types before last (fieldIn s p) ≡ none
+    → Shaped results types s p
 unfolding fieldIn
 symbol-sound results types before last s p h e = go (ℕ-discrete (twoAt s (p + 1) % 2) 1)
   where
@@ -123,12 +124,15 @@ module _ {s : List ℕ} {p : ℕ} (w : Columned s p) where
   pub parent-of : (i : ℕ) → i < length (symbolOf (fieldIn s p) .parents) → getD (symbolOf (fieldIn s p) .parents) i 0 ≡ twoAt s (p + 3 + 1 + 2 * i)
   parent-of i l =
       let n = parents-of in let h = w .split in let o = w .odd in let k = w .within in
-      rw (parents-at, getD-take (getD s (p + 3) 0) (columnsOf (fieldIn s p .content)) i 0 (omega arith), columns-at) (numbers-in s (p + 3 + 1) (len - 1) (omega arith) i (omega arith))
+      rw (parents-at, getD-take (getD s (p + 3) 0) (columnsOf (fieldIn s p .content)) i 0 (omega arith), columns-at)
+          (numbers-in s (p + 3 + 1) (len - 1) (omega arith) i (omega arith))
 
-  pub parent-below : {types : ℕ} → AllNamed types s p → (i : ℕ) → i < length (symbolOf (fieldIn s p) .parents) → getD (symbolOf (fieldIn s p) .parents) i 0 < types
+  pub parent-below : {types : ℕ} → AllNamed types s p → (i : ℕ) → i < length (symbolOf (fieldIn s p) .parents)
+      → getD (symbolOf (fieldIn s p) .parents) i 0 < types
   parent-below {types} k i l =
       let n = parents-of in let h = w .split in
-      rw (parents-at, getD-take (getD s (p + 3) 0) (columnsOf (fieldIn s p .content)) i 0 (omega arith)) (named-below types (columnsOf (fieldIn s p .content)) (k .is) i (omega (arith, length-columns)))
+      rw (parents-at, getD-take (getD s (p + 3) 0) (columnsOf (fieldIn s p .content)) i 0 (omega arith))
+          (named-below types (columnsOf (fieldIn s p .content)) (k .is) i (omega (arith, length-columns)))
 
   pub parent-room : (i : ℕ) → i < length (symbolOf (fieldIn s p) .parents) → p + 3 + 1 + 2 * i + 2 ≤ length s
   parent-room i l = let n = parents-of in let h = w .split in let o = w .odd in let k = w .within in omega arith

@@ -92,7 +92,8 @@ module _ {s : List ℕ} {end t : ℕ} {whole : Bool} (p : Parted s (signaturePar
           read-sound w =
               let ft = st .held .few in
               let fp = sp .held .few in
-              let x : heldAt s h₃ typesFrom nt ≡ withLetter letterT (fields s) = held-kept sf typesFrom nt (omega arith) ∙ held-kept sp typesFrom nt (omega arith) ∙ ct .is .1 in
+              let x : heldAt s h₃ typesFrom nt ≡ withLetter letterT (fields s) =
+                  held-kept sf typesFrom nt (omega arith) ∙ held-kept sp typesFrom nt (omega arith) ∙ ct .is .1 in
               let y : heldAt s h₃ predsFrom np ≡ withLetter letterP (fields s) = held-kept sf predsFrom np (omega arith) ∙ cp .is .1 ∙ preds-same s in
               rw (x, y, cf .is .1 ∙ funcs-same s) (rw (sym (p .same) ∙ w) at (read-is faultless))
 

@@ -56,3 +56,8 @@ pub record Stored (r : Checked) (s index₀ index : List ℕ) (letter types from
 abbrev pub numberOf : Checked → ℕ
 numberOf (checked.Refused n) = n
 numberOf (checked.Count n next) = 0
+
+-- The number of a refused signature; 0 for an accepted one.
+abbrev pub refusalNumber : Reading → ℕ
+refusalNumber (reading.Sound counts) = 0
+refusalNumber (reading.Refused n) = n

@@ -3,3 +3,4 @@ pub mod Faults
 pub mod Index
 pub mod Answers
 pub mod Entries
+pub mod Relations

@@ -52,3 +52,13 @@ pub const EQUALITY: u8 = 3;
 pub const TYPE_SET: u8 = 4;
 
 pub const FUNC_DOMAIN: u8 = 5;
+
+// What a statement is about, by its kind: a predicate, a function or a type, each by an id of its own.
+pub enum Relation {
+    Predicate(PredId),
+    Function(FuncId),
+    Member(TypeId),
+    Equality(TypeId),
+    TypeSet(TypeId),
+    FuncDomain(FuncId),
+}

@@ -1,19 +1,20 @@
 // Arities. A signature that was accepted is its bytes, its index and its counts, which are handed on together.
 ghost use mathlib.Core.Bool.{not};
-ghost use mathlib.Core.List.{List};
 ghost use mathlib.Core.Path.{_≡_};
-ghost use Prim.Native.Nat.{ℕ, _+_, _-_, _<_};
+ghost use Prim.Native.Nat.{ℕ, _+_, _-_, _≤_, _<_};
+ghost use lib.Dec.{ltb};
 ghost use lib.ListN.{length, getD};
 ghost use Rattle.definition.specs.Base.{empty, lastOf};
+ghost use Rattle.definition.specs.Letters.{funcDomain};
 ghost use Rattle.definition.specs.Signature as definition;
-ghost use Rattle.definition.specs.Signature.{symbolOf, typeParents, predOf, funcOf, columnCount, symbolCount, parentModel};
+ghost use Rattle.definition.specs.Signature.{symbolOf, typeParents, predOf, funcOf, columnCount, parentModel};
 ghost use Rattle.records.specs.Places.{twoAt};
 ghost use Rattle.records.specs.Held.{fieldIn};
 ghost use Rattle.signature.specs.Index.{indexSize, signatureAt, Indexed};
 ghost use Rattle.signature.specs.Entries.{Sits, Columned, AllNamed, modelOf, Named};
+ghost use Rattle.signature.specs.Relations.{kindOf, numberOf, countOf};
 use crate::ids::Counts;
 use crate::ids::EQUALITY;
-use crate::ids::FUNC_DOMAIN;
 use crate::ids::FUNCS_FROM;
 use crate::ids::FUNCTION;
 use crate::ids::FuncId;
@@ -22,6 +23,7 @@ use crate::ids::MEMBER;
 use crate::ids::PREDICATE;
 use crate::ids::PREDS_FROM;
 use crate::ids::PredId;
+use crate::ids::Relation;
 use crate::ids::TYPE_SET;
 use crate::ids::TYPES_FROM;
 use crate::ids::TypeId;
@@ -191,52 +193,84 @@ pub fn flat_domain(s: &[u8], index: &[u16; INDEX], counts: Counts, f: FuncId) ->
     func_columns(s, index, counts, f) - 1
 }
 
-// How many symbols a kind can have.
-pub fn symbol_count(counts: Counts, kind: u8) -> usize
-    ensures { λ r. ⌜ ((s index : List ℕ) → r ≡ symbolCount (signatureAt s index counts) kind) ⌝ }
+// The last parent of a predicate.
+fn pred_model(s: &[u8], index: &[u16; INDEX], counts: Counts, p: PredId) -> ParentModel
+    requires { ⌜ Indexed (now s) (now index) counts ⌝ }
+    requires { ⌜ p .0 < counts .preds ⌝ }
+    ensures { λ r. ⌜ modelOf r ≡ lastOf (predOf (signatureAt (now (s .entry)) (now (index .entry)) counts) (p .0) .parents) ⌝ }
+    ensures { λ r. ⌜ Named r (counts .types) ⌝ }
+{
+    model(s, index, PREDS_FROM + place(p.0))
+}
+
+// The last parent of a function.
+fn func_model(s: &[u8], index: &[u16; INDEX], counts: Counts, f: FuncId) -> ParentModel
+    requires { ⌜ Indexed (now s) (now index) counts ⌝ }
+    requires { ⌜ f .0 < counts .funcs ⌝ }
+    ensures { λ r. ⌜ modelOf r ≡ lastOf (funcOf (signatureAt (now (s .entry)) (now (index .entry)) counts) (f .0) .parents) ⌝ }
+    ensures { λ r. ⌜ Named r (counts .types) ⌝ }
+{
+    model(s, index, FUNCS_FROM + place(f.0))
+}
+
+// What a statement is about. Only here does a number become an id by a kind.
+pub fn relation(kind: u8, number: u16) -> Relation
+    requires { ⌜ kind ≤ funcDomain ⌝ }
+    ensures { λ r. ⌜ (kindOf r ≡ kind) × (numberOf r ≡ number) ⌝ }
 {
     match kind {
-        PREDICATE => counts.preds,
-        FUNCTION | FUNC_DOMAIN => counts.funcs,
-        MEMBER | EQUALITY | TYPE_SET => counts.types,
-        _ => 0,
+        PREDICATE => Relation::Predicate(PredId(number)),
+        FUNCTION => Relation::Function(FuncId(number)),
+        MEMBER => Relation::Member(TypeId(number)),
+        EQUALITY => Relation::Equality(TypeId(number)),
+        TYPE_SET => Relation::TypeSet(TypeId(number)),
+        _ => Relation::FuncDomain(FuncId(number)),
+    }
+}
+
+// Does the signature have it?
+pub fn declared(counts: Counts, rel: Relation) -> bool
+    ensures { λ r. ⌜ r ≡ ltb (numberOf rel) (countOf counts rel) ⌝ }
+{
+    match rel {
+        Relation::Predicate(p) => place(p.0) < counts.preds,
+        Relation::Function(f) => place(f.0) < counts.funcs,
+        Relation::Member(t) => place(t.0) < counts.types,
+        Relation::Equality(t) => place(t.0) < counts.types,
+        Relation::TypeSet(t) => place(t.0) < counts.types,
+        Relation::FuncDomain(f) => place(f.0) < counts.funcs,
     }
 }
 
 // The columns of a statement.
-pub fn arity(s: &[u8], index: &[u16; INDEX], counts: Counts, kind: u8, symbol: u16) -> usize
+pub fn arity(s: &[u8], index: &[u16; INDEX], counts: Counts, rel: Relation) -> usize
     requires { ⌜ Indexed (now s) (now index) counts ⌝ }
-    requires { ⌜ symbol < symbolCount (signatureAt (now s) (now index) counts) kind ⌝ }
-    ensures { λ r. ⌜ r ≡ definition.arity (signatureAt (now (s .entry)) (now (index .entry)) counts) kind symbol ⌝ }
+    requires { ⌜ numberOf rel < countOf counts rel ⌝ }
+    ensures { λ r. ⌜ r ≡ definition.arity (signatureAt (now (s .entry)) (now (index .entry)) counts) (kindOf rel) (numberOf rel) ⌝ }
 {
-    match kind {
-        PREDICATE => pred_columns(s, index, counts, PredId(symbol)),
-        FUNCTION => func_columns(s, index, counts, FuncId(symbol)),
-        MEMBER => type_parents(s, index, counts, TypeId(symbol)) + 1,
-        EQUALITY => 2,
-        TYPE_SET => 1,
-        FUNC_DOMAIN => flat_domain(s, index, counts, FuncId(symbol)),
-        _ => 0,
+    match rel {
+        Relation::Predicate(p) => pred_columns(s, index, counts, p),
+        Relation::Function(f) => func_columns(s, index, counts, f),
+        Relation::Member(t) => type_parents(s, index, counts, t) + 1,
+        Relation::Equality(_) => 2,
+        Relation::TypeSet(_) => 1,
+        Relation::FuncDomain(f) => flat_domain(s, index, counts, f),
     }
 }
 
-// The parent model of a statement's symbol; an Equality and a TypeSet have none.
-pub fn parent_model_type(
-    s: &[u8],
-    index: &[u16; INDEX],
-    counts: Counts,
-    kind: u8,
-    symbol: u16,
-) -> ParentModel
+// The parent model of what a statement is about; an Equality and a TypeSet have none.
+pub fn parent_model_type(s: &[u8], index: &[u16; INDEX], counts: Counts, rel: Relation) -> ParentModel
     requires { ⌜ Indexed (now s) (now index) counts ⌝ }
-    requires { ⌜ symbol < symbolCount (signatureAt (now s) (now index) counts) kind ⌝ }
-    ensures { λ r. ⌜ modelOf r ≡ parentModel (signatureAt (now (s .entry)) (now (index .entry)) counts) kind symbol ⌝ }
+    requires { ⌜ numberOf rel < countOf counts rel ⌝ }
+    ensures { λ r. ⌜ modelOf r ≡ parentModel (signatureAt (now (s .entry)) (now (index .entry)) counts) (kindOf rel) (numberOf rel) ⌝ }
     ensures { λ r. ⌜ Named r (counts .types) ⌝ }
 {
-    match kind {
-        PREDICATE => model(s, index, PREDS_FROM + place(symbol)),
-        FUNCTION | FUNC_DOMAIN => model(s, index, FUNCS_FROM + place(symbol)),
-        MEMBER => type_model(s, index, counts, TypeId(symbol)),
-        _ => ParentModel::Nothing,
+    match rel {
+        Relation::Predicate(p) => pred_model(s, index, counts, p),
+        Relation::Function(f) => func_model(s, index, counts, f),
+        Relation::Member(t) => type_model(s, index, counts, t),
+        Relation::Equality(_) => ParentModel::Nothing,
+        Relation::TypeSet(_) => ParentModel::Nothing,
+        Relation::FuncDomain(f) => func_model(s, index, counts, f),
     }
 }

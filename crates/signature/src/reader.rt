@@ -7,7 +7,7 @@ ghost use Rattle.definition.specs.Limits.{symbolLimit, signatureBytes};
 ghost use Rattle.definition.specs.Records.{follows, withLetter};
 ghost use Rattle.definition.specs.Signature.{signatureGrammar, signaturePart, readSignature};
 ghost use Rattle.records.specs.Places.{Parted};
-ghost use Rattle.signature.specs.Answers.{ChecksUpTo, Stored, numberOf, signatureReading, Usable};
+ghost use Rattle.signature.specs.Answers.{ChecksUpTo, Stored, numberOf, signatureReading, Usable, refusalNumber};
 ghost use Rattle.signature.specs.Index.{indexSize};
 use crate::faults::Fault;
 use crate::faults::drawn;
@@ -157,10 +157,11 @@ fn number(c: Checked) -> u8
 }
 
 // The signature's answer; where it is accepted, the index holds the positions of its fields.
-// A refused signature may leave the index partly filled. The bytes are only read.
+// Where it is refused, the entries of the index are left free: any may have been written, and only their number holds.
 pub fn read_signature(s: &[u8], index: &mut [u16; INDEX]) -> Reading
     ensures { λ r. ⌜ signatureReading (now (s .entry)) (now (index .exit)) r ≡ readSignature (now (s .entry)) ⌝ }
     ensures { λ r. ⌜ Usable (now (s .entry)) (now (index .exit)) r ⌝ }
+    ensures { λ r. ⌜ length (now (index .exit)) ≡ length (now (index .entry)) ⌝ }
 {
     if SIGNATURE_BYTES < s.len() {
         return Reading::Refused(1);
@@ -187,4 +188,14 @@ pub fn read_signature(s: &[u8], index: &mut [u16; INDEX]) -> Reading
         preds,
         funcs,
     })
+}
+
+// The number of a refused signature; 0 for an accepted one.
+pub fn refusal(r: Reading) -> u8
+    ensures { λ n. ⌜ n ≡ refusalNumber r ⌝ }
+{
+    match r {
+        Reading::Sound(_) => 0,
+        Reading::Refused(n) => n,
+    }
 }

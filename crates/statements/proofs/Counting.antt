@@ -34,8 +34,9 @@ use Rattle.statements.specs.Said.{flagged, memberFlag, saidBy}
 use Rattle.statements.specs.Parts.{variableBy, chosenStatements, predsBy, funcsBy, membersSaid, typesSaid, elementStatement, typeSetOf}
 use Rattle.statements.specs.Equalities.{equalityOf, equalitiesAmong, TypedVars}
 use Rattle.statements.specs.declared.masks.Masks.{Masks}
-use Rattle.statements.proofs.Variables.{statement-long}
-use Rattle.statements.proofs.Elements.{statements-cons, statements-none, own-flag, parents-count, element-many, type-said, type-unsaid, in-place, elements-left, typesFrom, types-on, types-pass, types-end}
+use Rattle.group.proofs.Writing.{statement-long}
+use Rattle.statements.proofs.Elements.{statements-cons, statements-none, own-flag, parents-count, element-many, type-said, type-unsaid}
+use Rattle.statements.proofs.Elements.{in-place, elements-left, typesFrom, types-on, types-pass, types-end}
 use Rattle.statements.proofs.Unsaid.{unsaid, members-none, types-none}
 use Rattle.statements.proofs.Whole.{apps-parts, said-parts}
 
@@ -70,7 +71,8 @@ unfolding rowStatement
 row-long variable r = length-each variable (r .elements)
 
 -- So many bytes they have.
-rows-size : (letter : ℕ) (variable : ℕ → ℕ) (p : Row → Bool) (rows : List Row) → length (statementBytes letter (each (rowStatement variable) (keep p rows))) ≡ rowsSize p rows
+rows-size : (letter : ℕ) (variable : ℕ → ℕ) (p : Row → Bool) (rows : List Row)
+    → length (statementBytes letter (each (rowStatement variable) (keep p rows))) ≡ rowsSize p rows
 unfolding rowsSize keep each
 rows-size letter variable p [] = rw statements-none refl
 rows-size letter variable p (r ∷ rows) = go (p r) (rows-size letter variable p rows)
@@ -86,7 +88,8 @@ unfolding rowsSize insertRow
 insert-size p r [] = refl
 insert-size p r (q ∷ rows) = go (rowBefore r q) (insert-size p r rows)
   where
-    go : (b : Bool) → rowsSize p (insertRow r rows) ≡ rowsSize p (r ∷ rows) → rowsSize p (pick b (r ∷ q ∷ rows) (q ∷ insertRow r rows)) ≡ rowsSize p (r ∷ q ∷ rows)
+    go : (b : Bool) → rowsSize p (insertRow r rows) ≡ rowsSize p (r ∷ rows)
+        → rowsSize p (pick b (r ∷ q ∷ rows) (q ∷ insertRow r rows)) ≡ rowsSize p (r ∷ q ∷ rows)
     go true e = refl
     go false e = omega arith
 
@@ -107,7 +110,8 @@ elementsSize letter st row members free i = membersLeft st members i + typesLeft
 
 -- From the first place on these are the member rows in their order and the TypeSets.
 pub elements-all : (letter : ℕ) (st : Structure) (row : List ℕ) (members free : Mask)
-    → elementsSize letter st row members free 0 ≡ length (statementBytes letter (membersSaid st row members)) + length (statementBytes letter (typesSaid st row (flagged free (st .elements))))
+    → elementsSize letter st row members free 0
+        ≡ length (statementBytes letter (membersSaid st row members)) + length (statementBytes letter (typesSaid st row (flagged free (st .elements))))
 unfolding elementsSize memberRows typesFrom members
 elements-all letter st row mask free =
     let a = rows-size letter (variableBy st row) (memberFlag st mask) (sortRows (memberRows (st .elements))) in
@@ -117,7 +121,8 @@ elements-all letter st row mask free =
 -- Where no flag is set nothing is counted.
 pub elements-unsaid : (letter : ℕ) (st : Structure) (row : List ℕ) (members free : Mask) {from : ℕ}
     → noneSet members ≡ true → noneSet free ≡ true → from ≤ countLimit
-    → from ≡ capped (from + (length (statementBytes letter (membersSaid st row members)) + length (statementBytes letter (typesSaid st row (flagged free (st .elements))))))
+    → from ≡ capped (from +
+        (length (statementBytes letter (membersSaid st row members)) + length (statementBytes letter (typesSaid st row (flagged free (st .elements))))))
 elements-unsaid letter st row members free m f h =
     let a = unsaid [] letter (members-none st row members m) h .size in
     let b = unsaid [] letter (types-none st row free f (st .elements)) h .size in
@@ -149,7 +154,8 @@ module _ {s index : List ℕ} {k : ℕ} (w : Stands s index k) (letter : ℕ) (r
     unfolding memberRows keep
     no-member z = rw (elements-left w c h, without, eq-eqb _ _ z)
 
-    member-left : (e .parents ≡ 0 → ⊥) → membersLeft (structureIn s k) members i ≡ pick (flagAt members i) (6 + 2 * (e .parents + 1)) 0 + membersLeft (structureIn s k) members (i + 1)
+    member-left : (e .parents ≡ 0 → ⊥)
+        → membersLeft (structureIn s k) members i ≡ pick (flagAt members i) (6 + 2 * (e .parents + 1)) 0 + membersLeft (structureIn s k) members (i + 1)
     unfolding memberRows keep each rowsSize memberIn memberRow
     member-left z =
         let f = own-flag w (in-place w c h) members in
@@ -168,7 +174,8 @@ module _ {s index : List ℕ} {k : ℕ} (w : Stands s index k) (letter : ℕ) (r
 
     -- It counts where the flag is set by which it goes: a TypeSet is as long as a member row of one variable.
     pub element-on : flagAt (pick (eqb (e .parents) 0) free members) i ≡ true → elementsSize letter (structureIn s k) row members free i
-        ≡ length (fieldBytes (statementField letter (elementStatement (variableBy (structureIn s k) row) member (elementIn s index k i)))) + elementsSize letter (structureIn s k) row members free (i + 1)
+        ≡ length (fieldBytes (statementField letter (elementStatement (variableBy (structureIn s k) row) member (elementIn s index k i)))) + elementsSize
+            letter (structureIn s k) row members free (i + 1)
     unfolding elementsSize
     element-on f =
         let a = statement-long letter (elementStatement (variableBy (structureIn s k) row) member (elementIn s index k i)) in
@@ -180,11 +187,14 @@ module _ {s index : List ℕ} {k : ℕ} (w : Stands s index k) (letter : ℕ) (r
         go (yes z) = let m = no-member z in let t = type-left z (rw (eq-eqb _ _ z) at f) in omega arith
         go (no z) = let m = rw (rw (ne-eqb _ _ z) at f) at (member-left z) in let t = no-type z in omega arith
 
-    pub element-pass : flagAt (pick (eqb (e .parents) 0) free members) i ≡ false → elementsSize letter (structureIn s k) row members free i ≡ elementsSize letter (structureIn s k) row members free (i + 1)
+    pub element-pass : flagAt (pick (eqb (e .parents) 0) free members) i ≡ false
+        → elementsSize letter (structureIn s k) row members free i ≡ elementsSize letter (structureIn s k) row members free (i + 1)
     unfolding elementsSize
     element-pass f = go (ℕ-discrete (e .parents) 0)
       where
-        go : Dec (e .parents ≡ 0) → membersLeft (structureIn s k) members i + typesLeft letter (structureIn s k) row free i ≡ membersLeft (structureIn s k) members (i + 1) + typesLeft letter (structureIn s k) row free (i + 1)
+        go : Dec (e .parents ≡ 0)
+            → membersLeft (structureIn s k) members i + typesLeft letter (structureIn s k) row free i
+            ≡ membersLeft (structureIn s k) members (i + 1) + typesLeft letter (structureIn s k) row free (i + 1)
         go (yes z) = rw (no-member z, types-pass w letter row free c h (rw (eq-eqb _ _ z) at f))
         go (no z) = let m = rw (rw (ne-eqb _ _ z) at f) at (member-left z) in let t = no-type z in omega arith
 
@@ -192,7 +202,8 @@ module _ {s index : List ℕ} {k : ℕ} (w : Stands s index k) (letter : ℕ) (r
 pub said-counted : {s index : List ℕ} {k : ℕ} → Stands s index k → (letter : ℕ) (row : List ℕ) (masks : Masks) (from : ℕ) {p f r : ℕ}
     → p ≡ capped (from + length (statementBytes letter (chosenStatements (structureIn s k) row (predsBy (masks .preds)))))
     → f ≡ capped (p + length (statementBytes letter (chosenStatements (structureIn s k) row (funcsBy (masks .funcs)))))
-    → r ≡ capped (f + (length (statementBytes letter (membersSaid (structureIn s k) row (masks .members))) + length (statementBytes letter (typesSaid (structureIn s k) row (flagged (masks .free) (structureIn s k .elements))))))
+    → r ≡ capped (f + (length (statementBytes letter (membersSaid (structureIn s k) row (masks .members))) + length
+        (statementBytes letter (typesSaid (structureIn s k) row (flagged (masks .free) (structureIn s k .elements))))))
     → r ≡ capped (from + length (statementBytes letter (saidBy (structureIn s k) (variablesIn (structureIn s k) row) masks)))
 said-counted w letter row masks from a b c = rw (said-parts, apps-parts w row letter masks, length-append, length-append, length-append) (omega arith)
 

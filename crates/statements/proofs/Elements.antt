@@ -38,7 +38,8 @@ use Rattle.statements.specs.Parts.{variableBy, NamedIn, elementStatement
 use Rattle.statements.proofs.Variables.{variable-found}
 
 -- One statement before others.
-pub statements-cons : (letter : ℕ) (x : Statement) (xs : List Statement) → statementBytes letter (x ∷ xs) ≡ fieldBytes (statementField letter x) ++ statementBytes letter xs
+pub statements-cons : (letter : ℕ) (x : Statement) (xs : List Statement)
+    → statementBytes letter (x ∷ xs) ≡ fieldBytes (statementField letter x) ++ statementBytes letter xs
 unfolding statementBytes recordBytes joined each
 statements-cons letter x xs = refl
 
@@ -72,7 +73,8 @@ module _ {s index : List ℕ} {k : ℕ} (w : Stands s index k) {i : ℕ} (h : i 
   element-mem = rw (← (element-get l i h)) (mem-at (st .elements) i noElement (rw (elements-are l) h))
 
   found-own : Finds (At i) (elementIn s index k i .number) (elementNumbers s index k)
-  found-own = let e : elementAt s index k i ≡ elementIn s index k i .number = ap (λ (x : Element). x .number) (element-is (l .elements) i h) in search-found (l .elements .elements) _ i h e
+  found-own = let e : elementAt s index k i ≡ elementIn s index k i .number = ap (λ (x : Element). x .number) (element-is (l .elements) i h) in
+      search-found (l .elements .elements) _ i h e
 
   own-variable : (row : List ℕ) → getD row i 0 ≡ variableBy st row (elementIn s index k i .number)
   own-variable row = variable-found l row found-own
@@ -107,24 +109,32 @@ module _ {s index : List ℕ} {k : ℕ} (w : Stands s index k) {i : ℕ} (h : i 
 
     -- Its TypeSet, if it has no parents.
     pub type-said : (letter : ℕ) (row : List ℕ) → e .parents ≡ 0
-        → statementBytes letter (typeSets (variableBy st row) (elementIn s index k i ∷ [])) ≡ fieldBytes (statementField letter (typeSetOf (e .ty .0) (getD row i 0)))
+        → statementBytes letter (typeSets (variableBy st row) (elementIn s index k i ∷ []))
+            ≡ fieldBytes (statementField letter (typeSetOf (e .ty .0) (getD row i 0)))
     unfolding typeSets keep each typeSetOf statementBytes recordBytes joined
     type-said letter row z =
         let a : e .ty .0 ≡ elementIn s index k i .type = ap (λ (x : Element). x .type) q in
         rw (own-variable row, a) (go (elementIn s index k i .parents) (parents-count ∙ z))
       where
         go : (ps : List ℕ) → length ps ≡ 0
-            → joined fieldBytes (each (statementField letter) (each (λ (x : Element). record { kind = typeSet; symbol = x .type; variables = variableBy st row (x .number) ∷ [] }) (consIf (empty ps) (elementIn s index k i) [])))
-            ≡ fieldBytes (statementField letter (record { kind = typeSet; symbol = elementIn s index k i .type; variables = variableBy st row (elementIn s index k i .number) ∷ [] }))
+            → joined fieldBytes (each (statementField letter)
+                (each (λ (x : Element). record { kind = typeSet; symbol = x .type; variables = variableBy st row (x .number) ∷ [] })
+                (consIf (empty ps) (elementIn s index k i) [])))
+            ≡ fieldBytes (statementField letter
+                (record { kind = typeSet; symbol = elementIn s index k i .type; variables = variableBy st row (elementIn s index k i .number) ∷ [] }))
         go [] n = rw append-nil
         go (p ∷ ps) n = absurd (omega arith)
 
-    pub type-unsaid : (letter : ℕ) (row : List ℕ) → (e .parents ≡ 0 → ⊥) → [] ≡ statementBytes letter (typeSets (variableBy st row) (elementIn s index k i ∷ []))
+    pub type-unsaid : (letter : ℕ) (row : List ℕ) → (e .parents ≡ 0 → ⊥)
+        → [] ≡ statementBytes letter (typeSets (variableBy st row) (elementIn s index k i ∷ []))
     unfolding typeSets keep each statementBytes recordBytes joined
     type-unsaid letter row z = go (elementIn s index k i .parents) (λ n. z (sym parents-count ∙ n))
       where
         go : (ps : List ℕ) → (length ps ≡ 0 → ⊥)
-            → [] ≡ joined fieldBytes (each (statementField letter) (each (λ (x : Element). record { kind = typeSet; symbol = x .type; variables = variableBy st row (x .number) ∷ [] }) (consIf (empty ps) (elementIn s index k i) [])))
+            → [] ≡ joined fieldBytes
+                (each (statementField letter)
+                (each (λ (x : Element). record { kind = typeSet; symbol = x .type; variables = variableBy st row (x .number) ∷ [] })
+                (consIf (empty ps) (elementIn s index k i) [])))
         go [] n = absurd (n refl)
         go (p ∷ ps) n = refl
 
@@ -147,7 +157,8 @@ types-cons : (variable : ℕ → ℕ) (e : Element) (es : List Element) → type
 unfolding typeSets keep each
 types-cons variable e es = go (empty (e .parents))
   where
-    go : (b : Bool) → each (λ (x : Element). record { kind = typeSet; symbol = x .type; variables = variable (x .number) ∷ [] }) (consIf b e (keep (λ (x : Element). empty (x .parents)) es))
+    go : (b : Bool) → each (λ (x : Element). record { kind = typeSet; symbol = x .type; variables = variable (x .number) ∷ [] })
+        (consIf b e (keep (λ (x : Element). empty (x .parents)) es))
         ≡ each (λ (x : Element). record { kind = typeSet; symbol = x .type; variables = variable (x .number) ∷ [] }) (consIf b e []) ++ typeSets variable es
     go true = refl
     go false = refl
@@ -155,7 +166,8 @@ types-cons variable e es = go (empty (e .parents))
 module _ {s index : List ℕ} {k : ℕ} (w : Stands s index k) (letter : ℕ) (row : List ℕ) (mask : Mask) {count i : ℕ} (c : count ≡ countAt index k) where
   module _ (h : i < count) where
     pub types-on : flagAt mask i ≡ true → typesFrom letter (variableBy (structureIn s k) row) mask (structureIn s k .elements) i
-        ≡ statementBytes letter (typeSets (variableBy (structureIn s k) row) (elementIn s index k i ∷ [])) ++ typesFrom letter (variableBy (structureIn s k) row) mask (structureIn s k .elements) (i + 1)
+        ≡ statementBytes letter (typeSets (variableBy (structureIn s k) row) (elementIn s index k i ∷ [])) ++ typesFrom letter
+            (variableBy (structureIn s k) row) mask (structureIn s k .elements) (i + 1)
     unfolding typesFrom
     types-on f = rw (flagged-on mask (structureIn s k .elements) i (elements-left w c h) f, types-cons _ (elementIn s index k i), statements-append)
 
@@ -168,7 +180,8 @@ module _ {s index : List ℕ} {k : ℕ} (w : Stands s index k) (letter : ℕ) (r
   unfolding typesFrom typeSets keep each statementBytes recordBytes joined
   types-end h = let n = elements-are (w .at .laid) in rw (flagged-end mask (structureIn s k .elements) i (omega arith))
 
-pub types-all : (letter : ℕ) (variable : ℕ → ℕ) (mask : Mask) (els : List Element) → typesFrom letter variable mask els 0 ≡ statementBytes letter (typeSets variable (flaggedFrom mask 0 els))
+pub types-all : (letter : ℕ) (variable : ℕ → ℕ) (mask : Mask) (els : List Element)
+    → typesFrom letter variable mask els 0 ≡ statementBytes letter (typeSets variable (flaggedFrom mask 0 els))
 unfolding typesFrom
 types-all letter variable mask els = refl
 
@@ -195,7 +208,8 @@ module _ {s index : List ℕ} {k : ℕ} (w : Stands s index k) {order : List ℕ
   pub order-few : getD order n 0 < places
   order-few = let f = w .at .laid .elements .elements .few in let b = order-below in omega arith
 
-module _ {s index : List ℕ} {k : ℕ} (w : Stands s index k) (letter : ℕ) (row : List ℕ) (mask : Mask) {order : List ℕ} {count : ℕ} (o : Ordered s index k order count) where
+module _ {s index : List ℕ} {k : ℕ} (w : Stands s index k) (letter : ℕ) (row : List ℕ) (mask : Mask) {order : List ℕ} {count : ℕ}
+    (o : Ordered s index k order count) where
   in-order : members (structureIn s k) ≡ each (memberIn s index k) (take count order)
   in-order = members-are s index k (structureIn s k) (w .at .laid .same) ∙ sym (o .sorted)
 
@@ -215,15 +229,18 @@ module _ {s index : List ℕ} {k : ℕ} (w : Stands s index k) (letter : ℕ) (r
       left =
           let z = took in
           let g : getD (members (structureIn s k)) n (memberIn s index k 0) ≡ memberIn s index k (getD order n 0)
-          = rw in-order (getD-each (memberIn s index k) (take count order) n 0 (memberIn s index k 0) (omega arith) ∙ ap (memberIn s index k) (getD-take count order n 0 h)) in
+          = rw in-order (getD-each (memberIn s index k) (take count order) n 0 (memberIn s index k 0) (omega arith)
+              ∙ ap (memberIn s index k) (getD-take count order n 0 h)) in
           let m = many in
           rw (add-one, ← g) (drop-cons (members (structureIn s k)) n (memberIn s index k 0) (omega arith))
 
       pub members-on : flagAt mask (getD order n 0) ≡ true → membersFrom letter (structureIn s k) row mask n
-          ≡ fieldBytes (statementField letter (elementStatement (variableBy (structureIn s k) row) member (elementIn s index k (getD order n 0)))) ++ membersFrom letter (structureIn s k) row mask (n + 1)
+          ≡ fieldBytes (statementField letter (elementStatement (variableBy (structureIn s k) row) member (elementIn s index k (getD order n 0)))) ++
+              membersFrom letter (structureIn s k) row mask (n + 1)
       unfolding membersFrom keep each rowStatement memberIn memberRow elementStatement
       members-on f = rw (left, own-flag w (order-below w o n h) mask, f) (statements-cons letter _ _)
 
-      pub members-pass : flagAt mask (getD order n 0) ≡ false → membersFrom letter (structureIn s k) row mask n ≡ membersFrom letter (structureIn s k) row mask (n + 1)
+      pub members-pass : flagAt mask (getD order n 0) ≡ false
+          → membersFrom letter (structureIn s k) row mask n ≡ membersFrom letter (structureIn s k) row mask (n + 1)
       unfolding membersFrom keep
       members-pass f = rw (left, own-flag w (order-below w o n h) mask, f)

@@ -51,7 +51,8 @@ fiber-start s m els row e vars = record { same = λ source t. refl }
 
 module _ {s : List ℕ} {m : Map} (h : MapIn s m) {els row : List ℕ} {e : ℕ} {vars : List ℕ} {count p : ℕ} (w : FiberTo s m els row e vars count p) where
   pub fiber-end : m .pairs ≤ p → (source : Side) → SideAt els row source → take count vars ≡ each (variableIn source) (fiber (pairsIn s m) e)
-  fiber-end l source t = let n = pairs-many h in let a : take p (pairsIn s m) ≡ pairsIn s m = take-all p (pairsIn s m) (omega arith) in rw a at (w .same source t)
+  fiber-end l source t = let n = pairs-many h in let a : take p (pairsIn s m) ≡ pairsIn s m = take-all p (pairsIn s m) (omega arith) in
+      rw a at (w .same source t)
 
   module _ (l : p < m .pairs) where
     on : take (p + 1) (pairsIn s m) ≡ take p (pairsIn s m) ++ (pairAt s m p ∷ [])
@@ -106,7 +107,8 @@ unfoldable pub overBytes : ℕ → (ℕ → ℕ) → List Pair → List ℕ → 
 overBytes letter variable pairs types els = statementBytes letter (equalitiesOver variable pairs types els)
 
 module _ (letter : ℕ) (types : List ℕ) where
-  pub later-cons : (v w : ℕ) {vs ws : List ℕ} → ws ≡ w ∷ vs → laterBytes letter types v ws ≡ fieldBytes (statementField letter (equalityOf types v w)) ++ laterBytes letter types v vs
+  pub later-cons : (v w : ℕ) {vs ws : List ℕ} → ws ≡ w ∷ vs
+      → laterBytes letter types v ws ≡ fieldBytes (statementField letter (equalityOf types v w)) ++ laterBytes letter types v vs
   unfolding laterBytes each
   later-cons v w e = rw e (statements-cons letter _ _)
 
@@ -118,7 +120,8 @@ module _ (letter : ℕ) (types : List ℕ) where
   unfolding laterBytes each statementBytes recordBytes joined
   later-none v e = rw e
 
-  pub among-cons : (v : ℕ) {vs ws : List ℕ} → ws ≡ v ∷ vs → amongBytes letter types ws ≡ statementBytes letter (each (equalityOf types v) vs) ++ amongBytes letter types vs
+  pub among-cons : (v : ℕ) {vs ws : List ℕ} → ws ≡ v ∷ vs
+      → amongBytes letter types ws ≡ statementBytes letter (each (equalityOf types v) vs) ++ amongBytes letter types vs
   unfolding amongBytes equalitiesAmong
   among-cons v {vs} e = rw e (statements-append letter (each (equalityOf types v) vs) (equalitiesAmong types vs))
 
@@ -133,7 +136,8 @@ module _ (letter : ℕ) (types : List ℕ) where
   module _ {s index : List ℕ} {tgt : ℕ} (l : Laid s index tgt) (variable : ℕ → ℕ) (pairs : List Pair) {count j : ℕ} (c : count ≡ countAt index tgt) where
     pub els-on : j < count → {e : ℕ} → e ≡ elementAt s index tgt j
         → overBytes letter variable pairs types (drop j (numbersOf (structureIn s tgt)))
-        ≡ statementBytes letter (equalitiesAmong types (each variable (fiber pairs e))) ++ overBytes letter variable pairs types (drop (j + 1) (numbersOf (structureIn s tgt)))
+        ≡ statementBytes letter (equalitiesAmong types (each variable (fiber pairs e))) ++ overBytes letter variable pairs types
+            (drop (j + 1) (numbersOf (structureIn s tgt)))
     unfolding overBytes equalitiesOver joined
     els-on h {e} q =
         let n = numbers-length s index tgt in
@@ -142,11 +146,14 @@ module _ (letter : ℕ) (types : List ℕ) where
         rw (numbers-are l, d) (statements-append letter (equalitiesAmong types (each variable (fiber pairs e))) _)
 
     pub els-pass : j < count → length (fiber pairs (getD (numbersOf (structureIn s tgt)) j 0)) ≤ 1
-        → overBytes letter variable pairs types (drop j (numbersOf (structureIn s tgt))) ≡ overBytes letter variable pairs types (drop (j + 1) (numbersOf (structureIn s tgt)))
+        → overBytes letter variable pairs types (drop j (numbersOf (structureIn s tgt)))
+            ≡ overBytes letter variable pairs types (drop (j + 1) (numbersOf (structureIn s tgt)))
     els-pass h f =
         let e : getD (numbersOf (structureIn s tgt)) j 0 ≡ elementAt s index tgt j = rw (numbers-are l) (numbers-get (l .elements .elements) j (rw (← c) h)) in
-        let n : length (each variable (fiber pairs (elementAt s index tgt j))) ≤ 1 = rw (length-each variable (fiber pairs (elementAt s index tgt j))) (rw e at f) in
-        els-on h {e = elementAt s index tgt j} refl ∙ rw (equal-few types (each variable (fiber pairs (elementAt s index tgt j))) n, statements-none letter) refl
+        let n : length (each variable (fiber pairs (elementAt s index tgt j))) ≤ 1 =
+            rw (length-each variable (fiber pairs (elementAt s index tgt j))) (rw e at f) in
+        els-on h {e = elementAt s index tgt j} refl
+            ∙ rw (equal-few types (each variable (fiber pairs (elementAt s index tgt j))) n, statements-none letter) refl
 
     pub els-end : count ≤ j → overBytes letter variable pairs types (drop j (numbersOf (structureIn s tgt))) ≡ []
     unfolding overBytes equalitiesOver joined each statementBytes recordBytes
@@ -154,6 +161,7 @@ module _ (letter : ℕ) (types : List ℕ) where
         let n : length (numbersOf (structureIn s tgt)) ≡ countAt index tgt = ap length (numbers-are l) ∙ numbers-length s index tgt in
         rw (drop-of-length-le (numbersOf (structureIn s tgt)) {i = j} (omega arith))
 
-pub over-all : (letter : ℕ) (variable : ℕ → ℕ) (pairs : List Pair) (types els : List ℕ) → overBytes letter variable pairs types els ≡ statementBytes letter (equalitiesOver variable pairs types els)
+pub over-all : (letter : ℕ) (variable : ℕ → ℕ) (pairs : List Pair) (types els : List ℕ)
+    → overBytes letter variable pairs types els ≡ statementBytes letter (equalitiesOver variable pairs types els)
 unfolding overBytes
 over-all letter variable pairs types els = refl

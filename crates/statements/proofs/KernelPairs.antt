@@ -39,7 +39,8 @@ side-at {s} {index} {k} l row = record {
 pub keys-in : {s index : List ℕ} {k : ℕ} {ps : List Pair} → Laid s index k → KeysIn (numbersOf (structureIn s k)) ps → KeysIn (elementNumbers s index k) ps
 keys-in l w = rw (numbers-are l) at w
 
-pub keys-given : {s : List ℕ} {src tgt size : ℕ} {m : Map} {row : List ℕ} → Joins s src tgt m → GivenOut (structureIn s src) row size → KeysGiven s src m row size
+pub keys-given : {s : List ℕ} {src tgt size : ℕ} {m : Map} {row : List ℕ} → Joins s src tgt m → GivenOut (structureIn s src) row size
+    → KeysGiven s src m row size
 keys-given j g = record { keys = j .keys; given = g }
 
 -- Each key's variable has a type.
@@ -57,7 +58,8 @@ module _ {s : List ℕ} {m : Map} {src size : ℕ} {row : List ℕ} (j : KeysGiv
       below : (i : ℕ) → i < count → getD vars i 0 < size
       below i l =
           let n : length (take count vars) ≡ count = length-take-le count vars (omega arith) in
-          let k : length (take count vars) ≡ length (fiber (pairsIn s m) e) = ap length q ∙ length-each (variableIn (sideIn s src row)) (fiber (pairsIn s m) e) in
+          let k : length (take count vars) ≡ length (fiber (pairsIn s m) e) =
+              ap length q ∙ length-each (variableIn (sideIn s src row)) (fiber (pairsIn s m) e) in
           let v : getD vars i 0 ≡ variableIn (sideIn s src row) (getD (fiber (pairsIn s m) e) i 0) =
           sym (getD-take count vars i 0 l) ∙ rw q (getD-each (variableIn (sideIn s src row)) (fiber (pairsIn s m) e) i 0 0 (omega arith)) in
           rw v (fiber-below e (getD (fiber (pairsIn s m) e) i 0) (mem-at (fiber (pairsIn s m) e) i 0 (omega arith)))
@@ -70,12 +72,14 @@ module _ {types : List ℕ} {table : List Variable} (t : TypesOf table types) (v
   abbrev equal : Pair → Statement
   equal p = record { kind = equality; symbol = typeIn table (p .key); variables = p .key ∷ p .image ∷ [] }
 
-  with-later : (k : ℕ) → variable k < length types → (ks : List ℕ) → each equal (each ofVariables (each (λ (l : ℕ). record { key = k; image = l }) ks)) ≡ each (equalityOf types (variable k)) (each variable ks)
+  with-later : (k : ℕ) → variable k < length types → (ks : List ℕ)
+      → each equal (each ofVariables (each (λ (l : ℕ). record { key = k; image = l }) ks)) ≡ each (equalityOf types (variable k)) (each variable ks)
   unfolding each equalityOf
   with-later k h [] = refl
   with-later k h (l ∷ ks) = rw (t .same (variable k) h, with-later k h ks)
 
-  among-are : (ks : List ℕ) → ((k : ℕ) → k ∈ ks → variable k < length types) → each equal (each ofVariables (pairsAmong ks)) ≡ equalitiesAmong types (each variable ks)
+  among-are : (ks : List ℕ) → ((k : ℕ) → k ∈ ks → variable k < length types)
+      → each equal (each ofVariables (pairsAmong ks)) ≡ equalitiesAmong types (each variable ks)
   unfolding each pairsAmong equalitiesAmong
   among-are [] h = refl
   among-are (k ∷ ks) h =
@@ -86,7 +90,8 @@ unfolding each joined
 each-joined f g [] = refl
 each-joined f g (x ∷ xs) = rw (each-append, each-joined f g xs)
 
-module _ {s : List ℕ} {m : Map} {src : ℕ} {row types : List ℕ} (j : KeysGiven s src m row (length types)) {table : List Variable} (t : TypesOf table types) where
+module _ {s : List ℕ} {m : Map} {src : ℕ} {row types : List ℕ} (j : KeysGiven s src m row (length types)) {table : List Variable}
+    (t : TypesOf table types) where
   abbrev variable : ℕ → ℕ
   variable = variableIn (sideIn s src row)
 
@@ -104,12 +109,12 @@ module _ {s : List ℕ} {m : Map} {src : ℕ} {row types : List ℕ} (j : KeysGi
       ∙ joined-same _ _ by-image els
 
   pub equalities-are : (tgt : ℕ) (sig : Signature) (target : Side) → target .structure ≡ structureIn s tgt
-      → equalities sig table (sideIn s src row) target (pairsIn s m) ≡ equalitiesOver variable (pairsIn s m) types (numbersOf (structureIn s tgt))
+      → equalities table (sideIn s src row) target (pairsIn s m) ≡ equalitiesOver variable (pairsIn s m) types (numbersOf (structureIn s tgt))
   unfolding equalities kernelVariables kernelPairs
   equalities-are tgt sig target q = rw q (all-images (numbersOf (structureIn s tgt)))
 
 -- Without kernel pairs there are none.
 pub equalities-none : (sig : Signature) (table : List Variable) (source target : Side) (ps : List Pair) → kernelPairs ps (target .structure) ≡ []
-    → equalities sig table source target ps ≡ []
+    → equalities table source target ps ≡ []
 unfolding equalities kernelVariables each
 equalities-none sig table source target ps e = rw e

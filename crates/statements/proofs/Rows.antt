@@ -55,7 +55,8 @@ start-with {rows = rows} {from = from} kind {fields} section run same named wide
     let a : rows ≡ each (rowOf kind) (section .fields) = rw e same in
     record { kind = kind; from = from; section = section; passed = passed-start (section .run); are = a; same = a; named = named; wide = wide }
 
-pub rowing : {s index : List ℕ} {k : ℕ} → Stands s index k → {c : Chosen} → Chooses c → {from end : ℕ} → from ≡ sectionFrom index k (c .place) → end ≡ sectionTo index k (c .place)
+pub rowing : {s index : List ℕ} {k : ℕ} → Stands s index k → {c : Chosen} → Chooses c → {from end : ℕ} → from ≡ sectionFrom index k (c .place)
+    → end ≡ sectionTo index k (c .place)
     → Rowing s (structureIn s k) (rowsAt (structureIn s k) (c .place)) (c .omitted) from end 0
 rowing {s} {index} {k} w {c} g {from} {end} a b = go (ℕ-discrete (c .place) placeR)
   where
@@ -149,12 +150,14 @@ module _ {s : List ℕ} {st : Structure} {rows : List Row} {omitted field end i 
     unfolding rowsFrom
     rows-pass f = rw (flagged-pass (c .mask) rows i rows-left f)
 
-pub rows-end : {s : List ℕ} {st : Structure} {rows : List Row} {omitted field end i : ℕ} → Rowing s st rows omitted field end i → end ≤ field → (letter : ℕ) (variable : ℕ → ℕ) (c : Chosen)
+pub rows-end : {s : List ℕ} {st : Structure} {rows : List Row} {omitted field end i : ℕ} → Rowing s st rows omitted field end i → end ≤ field
+    → (letter : ℕ) (variable : ℕ → ℕ) (c : Chosen)
     → rowsFrom letter variable c rows i ≡ []
 unfolding rowsFrom flaggedFrom each statementBytes recordBytes joined
 rows-end {rows = rows} {i = i} r h letter variable c =
     let e : drop i rows ≡ [] = r .same ∙ rw (run-end (r .passed .run) h) in rw e
 
-pub rows-all : (letter : ℕ) (st : Structure) (row : List ℕ) (c : Chosen) → rowsFrom letter (variableBy st row) c (rowsAt st (c .place)) 0 ≡ statementBytes letter (chosenStatements st row c)
+pub rows-all : (letter : ℕ) (st : Structure) (row : List ℕ) (c : Chosen)
+    → rowsFrom letter (variableBy st row) c (rowsAt st (c .place)) 0 ≡ statementBytes letter (chosenStatements st row c)
 unfolding rowsFrom chosenStatements
 rows-all letter st row c = refl

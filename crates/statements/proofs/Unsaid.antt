@@ -19,7 +19,8 @@ use Rattle.statements.specs.declared.masks.Chosen.{Chosen}
 use Rattle.statements.proofs.Elements.{statements-none}
 
 -- No statements: no bytes.
-pub unsaid : {statements : List Statement} {from : ℕ} (out : List ℕ) (letter : ℕ) → statements ≡ [] → from ≤ countLimit → Put out out (statementBytes letter statements) from from
+pub unsaid : {statements : List Statement} {from : ℕ} (out : List ℕ) (letter : ℕ) → statements ≡ [] → from ≤ countLimit
+    → Put out out (statementBytes letter statements) from from
 unsaid {from = from} out letter e h = rw (e, statements-none letter) (nothing out from h)
 
 flagged-none : {A : Type 0} (mask : Mask) → noneSet mask ≡ true → (i : ℕ) (xs : List A) → flaggedFrom mask i xs ≡ []

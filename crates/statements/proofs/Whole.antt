@@ -69,11 +69,14 @@ module _ {s index : List ℕ} {k : ℕ} (w : Stands s index k) (row : List ℕ) 
       ++ statementBytes letter (each (rowStatement (variableBy st row)) (keep (memberFlag st (masks .members)) (members st)))
   apps-parts letter masks = rw (preds-whole (masks .preds), funcs-whole (masks .funcs), each-append, each-append, statements-append, statements-append)
 
-  pub domains-are : (letter : ℕ) (mask : Mask) → statementBytes letter (chosenStatements st row (record { place = placeA; mask = mask; kind = funcDomain; omitted = 1 })) ≡ statementBytes letter (domainsBy st (variablesIn st row) mask)
+  pub domains-are : (letter : ℕ) (mask : Mask)
+      → statementBytes letter (chosenStatements st row (record { place = placeA; mask = mask; kind = funcDomain; omitted = 1 }))
+      ≡ statementBytes letter (domainsBy st (variablesIn st row) mask)
   unfolding chosenStatements domainsBy partStatement
   domains-are letter mask = ap (statementBytes letter) (each-same _ _ domain (flagged mask (st .funcRows)))
     where
-      domain : (r : Row) → partStatement (variableBy st row) funcDomain 1 r ≡ record { kind = funcDomain; symbol = r .symbol; variables = each (variableBy st row) (butLast (r .elements)) }
+      domain : (r : Row) → partStatement (variableBy st row) funcDomain 1 r
+          ≡ record { kind = funcDomain; symbol = r .symbol; variables = each (variableBy st row) (butLast (r .elements)) }
       domain r = rw (but-last (r .elements))
 
 pub said-parts : (letter : ℕ) (st : Structure) (variables : List ℕ) (masks : Masks) → statementBytes letter (saidBy st variables masks)

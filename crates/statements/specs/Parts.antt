@@ -1,6 +1,6 @@
 -- Rows and elements as statements.
 use mathlib.Core.List.{List, [], _∷_, _++_}
-use Prim.Native.Nat.{ℕ, _+_, _-_, _*_, _≤_}
+use Prim.Native.Nat.{ℕ, _+_, _-_, _≤_}
 use lib.Dec.{eqb}
 use lib.ListN.{length, take}
 use Rattle.definition.specs.Base.{pick, keep, each, _∈_}
@@ -9,8 +9,6 @@ use Rattle.definition.specs.Rule.{Structure, Element, Row}
 use Rattle.definition.specs.Group.{Statement}
 use Rattle.definition.specs.Names.{numbersOf, variableAt}
 use Rattle.definition.specs.Rows.{members, rowStatement, typeSets}
-use Rattle.definition.specs.Writer.{twoBytes}
-use Rattle.records.specs.Buffer.{headBytes}
 use Rattle.rule.specs.ElementFields.{elementIn}
 use Rattle.rule.specs.Lists.{elsIn}
 use Rattle.rule.specs.declared.lists.Els.{Els}
@@ -18,17 +16,8 @@ use Rattle.flags.specs.declared.Mask.{Mask}
 use Rattle.rule.specs.Structures.{structureIn}
 use Rattle.naming.specs.Variables.{variablesIn}
 use Rattle.statements.specs.Said.{flagged, memberFlag}
-use Rattle.statements.specs.declared.statement.Statement as put
 use Rattle.statements.specs.declared.masks.Chosen.{Chosen}
 use Rattle.rule.specs.Layout.{placeR, placeA}
-
--- A statement that was put together, as the definition's.
-abbrev pub statementOf : put.Statement → Statement
-statementOf x = record { kind = x .kind; symbol = x .symbol; variables = take (x .count) (x .vars) }
-
--- What stands before a statement's variables: the head of its field, its kind, its symbol.
-unfoldable pub statementHead : ℕ → ℕ → ℕ → ℕ → List ℕ
-statementHead letter kind symbol count = headBytes letter (3 + 2 * count) ++ (kind ∷ []) ++ twoBytes symbol
 
 -- The variable of an element, where those of its structure's elements stand in a row.
 abbrev pub variableBy : Structure → List ℕ → ℕ → ℕ
@@ -44,7 +33,8 @@ rowsAt st place = pick (eqb place placeR) (st .predRows) (st .funcRows)
 
 -- A row as a statement of a kind, without its last so many elements.
 unfoldable pub partStatement : (ℕ → ℕ) → ℕ → ℕ → Row → Statement
-partStatement variable kind omitted r = record { kind = kind; symbol = r .symbol; variables = each variable (take (length (r .elements) - omitted) (r .elements)) }
+partStatement variable kind omitted r =
+    record { kind = kind; symbol = r .symbol; variables = each variable (take (length (r .elements) - omitted) (r .elements)) }
 
 -- A symbol and elements as a statement of a kind.
 abbrev pub rowSaid : List ℕ → ℕ → List ℕ → ℕ → ℕ → Els → Statement

@@ -26,7 +26,9 @@ memberFlag st mask r = flagAt mask (placeFrom 0 (lastElement r) (numbersOf st))
 
 -- The flagged R rows, A rows and member rows.
 abbrev pub appsBy : Structure → List ℕ → Masks → List Statement
-appsBy st variables masks = each (rowStatement (variableAt st variables)) (flagged (masks .preds) (st .predRows) ++ flagged (masks .funcs) (st .funcRows) ++ keep (memberFlag st (masks .members)) (members st))
+appsBy st variables masks =
+    each (rowStatement (variableAt st variables))
+    (flagged (masks .preds) (st .predRows) ++ flagged (masks .funcs) (st .funcRows) ++ keep (memberFlag st (masks .members)) (members st))
 
 -- These, and TypeSets of the flagged elements without parents.
 unfoldable pub saidBy : Structure → List ℕ → Masks → List Statement
@@ -34,4 +36,6 @@ saidBy st variables masks = appsBy st variables masks ++ typeSets (variableAt st
 
 -- FuncDomain of each flagged A row.
 unfoldable pub domainsBy : Structure → List ℕ → Mask → List Statement
-domainsBy st variables mask = each (λ (r : Row). record { kind = funcDomain; symbol = r .symbol; variables = each (variableAt st variables) (butLast (r .elements)) }) (flagged mask (st .funcRows))
+domainsBy st variables mask =
+    each (λ (r : Row). record { kind = funcDomain; symbol = r .symbol; variables = each (variableAt st variables) (butLast (r .elements)) })
+    (flagged mask (st .funcRows))

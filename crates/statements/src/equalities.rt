@@ -8,25 +8,26 @@ ghost use Rattle.definition.specs.Group.{Variable};
 ghost use Rattle.definition.specs.Kinds as definition;
 ghost use Rattle.definition.specs.Kinds.{Side, variableIn};
 ghost use Rattle.definition.specs.Limits.{structureLimit, fieldLimit};
-ghost use Rattle.definition.specs.Names.{numbersOf, fiber};
+ghost use Rattle.definition.specs.Names.{fiber};
 ghost use Rattle.definition.specs.Signature.{Signature};
 ghost use Rattle.definition.specs.Writer.{statementField, fieldBytes};
 ghost use Rattle.records.specs.Buffer.{Put, countLimit};
 ghost use Rattle.rule.specs.Elements.{elementNumbers, Elements};
-ghost use Rattle.rows.specs.Kernel.{TypesOf, SideAt, Merged};
-ghost use Rattle.rule.specs.MapFields.{pairsIn, MapIn, KeysIn, Joins};
-ghost use Rattle.rule.specs.Structures.{structureIn, Stands};
+ghost use Rattle.rows.specs.Kernel.{TypesOf, SideAt};
+ghost use Rattle.rows.specs.Morphisms.{sourceIn, targetIn, pairsBy, Between};
+ghost use Rattle.rule.specs.MapFields.{pairsIn, MapIn, KeysIn};
+ghost use Rattle.rule.specs.Structures.{Stands};
 ghost use Rattle.naming.specs.Variables.{GivenOut};
 ghost use Rattle.laws.specs.Bytes.{statementBytes};
 ghost use Rattle.statements.specs.Structures.{sideIn};
-ghost use Rattle.statements.specs.Equalities.{equalityOf, equalitiesAmong, equalitiesOver, TypedVars, KeysGiven};
-use crate::statement::Statement;
-use crate::statement::put_statement;
-use flags::Mask;
+ghost use Rattle.statements.specs.Equalities.{equalityOf, equalitiesAmong, TypedVars, KeysGiven};
 use flags::flag;
+use group::statement::Statement;
+use group::write::put_statement;
 use records::fields::place;
 use records::fields::short;
 use records::write::past;
+use rows::morphism::Morphism;
 use rule::elements::Found;
 use rule::elements::element_count;
 use rule::elements::element_number;
@@ -141,7 +142,8 @@ fn put_among(
 ) -> usize
     requires { ⌜ from ≤ countLimit ⌝ }
     requires { ⌜ TypedVars (now vars) count (length (now types)) ⌝ }
-    ensures { λ r. ⌜ Put (now (out .entry)) (now (out .exit)) (statementBytes letter (equalitiesAmong (now (types .entry)) (take count (now (vars .entry))))) from r ⌝ }
+    ensures { λ r. ⌜ Put (now (out .entry)) (now (out .exit))
+        (statementBytes letter (equalitiesAmong (now (types .entry)) (take count (now (vars .entry))))) from r ⌝ }
 {
     // Nothing of them fits: their length is enough.
     if out.len() <= from {
@@ -180,63 +182,37 @@ fn put_fiber(
     put_among(out, from, letter, types, &vars, fiber.count)
 }
 
-// Those of every element of the target, in the elements' order; only one that is flagged is the image of several keys.
-fn put_kernel_pairs(
-    out: &mut [u8],
-    from: usize,
-    letter: u8,
-    s: &[u8],
-    index: &[u16; RULE_INDEX],
-    src: usize,
-    tgt: usize,
-    row: &[u16; FIELDS],
-    m: Map,
-    types: &[u8],
-    merged: Mask,
-) -> usize
-    requires { ⌜ from ≤ countLimit ⌝ }
-    requires { ⌜ Stands (now s) (now index) src × Stands (now s) (now index) tgt ⌝ }
-    requires { ⌜ MapIn (now s) m × KeysGiven (now s) src m (now row) (length (now types)) ⌝ }
-    requires { ⌜ Merged merged (structureIn (now s) tgt) (pairsIn (now s) m) ⌝ }
-    ensures { λ r. ⌜ Put (now (out .entry)) (now (out .exit)) (statementBytes letter (equalitiesOver (variableIn (sideIn (now (s .entry)) src (now (row .entry))))
-        (pairsIn (now (s .entry)) m) (now (types .entry)) (numbersOf (structureIn (now (s .entry)) tgt)))) from r ⌝ }
-{
-    let count = element_count(index, tgt);
-    let mut at = from;
-    let mut j: usize = 0;
-    while j < count {
-        if flag(merged, j) {
-            let e = element_number(s, index, tgt, j);
-            at = put_fiber(out, at, letter, s, index, src, row, m, types, e);
-        }
-        j += 1;
-    }
-    at
-}
-
-// An Equality for each kernel pair, by image; `row` has the variables of the source's elements, by their places, and `merged` flags the
-// images of several keys.
+// An Equality for each kernel pair, by image in the order of the target's elements; only one that is flagged is the image of several
+// keys. `row` has the variables of the source's elements, by their places.
 pub fn put_equalities(
     out: &mut [u8],
     from: usize,
     letter: u8,
     s: &[u8],
     index: &[u16; RULE_INDEX],
-    src: usize,
-    tgt: usize,
+    m: Morphism,
     row: &[u16; FIELDS],
-    m: Map,
     types: &[u8],
-    merged: Mask,
 ) -> usize
     requires { ⌜ from ≤ countLimit ⌝ }
-    requires { ⌜ Stands (now s) (now index) src × Stands (now s) (now index) tgt ⌝ }
-    requires { ⌜ MapIn (now s) m × Joins (now s) src tgt m ⌝ }
-    requires { ⌜ GivenOut (structureIn (now s) src) (now row) (length (now types)) ⌝ }
-    requires { ⌜ Merged merged (structureIn (now s) tgt) (pairsIn (now s) m) ⌝ }
-    ensures { λ r. ⌜ ((sig : Signature) (table : List Variable) (target : Side) → TypesOf table (now (types .entry)) → target .structure ≡ structureIn (now (s .entry)) tgt
-        → Put (now (out .entry)) (now (out .exit)) (statementBytes letter (definition.equalities sig table (sideIn (now (s .entry)) src (now (row .entry))) target (pairsIn (now (s .entry)) m))) from r) ⌝ }
+    requires { ⌜ Between (now s) (now index) m ⌝ }
+    requires { ⌜ GivenOut (sourceIn (now s) m) (now row) (length (now types)) ⌝ }
+    ensures { λ r. ⌜ ((sig : Signature) (table : List Variable) (target : Side)
+        → TypesOf table (now (types .entry)) → target .structure ≡ targetIn (now (s .entry)) m
+        → Put (now (out .entry)) (now (out .exit))
+            (statementBytes letter (definition.equalities table (sideIn (now (s .entry)) (m .source) (now (row .entry))) target (pairsBy (now (s .entry)) m)))
+            from r) ⌝ }
     ensures { λ r. ⌜ r ≤ countLimit ⌝ }
 {
-    put_kernel_pairs(out, from, letter, s, index, src, tgt, row, m, types, merged)
+    let count = element_count(index, m.target);
+    let mut at = from;
+    let mut j: usize = 0;
+    while j < count {
+        if flag(m.merged, j) {
+            let e = element_number(s, index, m.target, j);
+            at = put_fiber(out, at, letter, s, index, m.source, row, m.map, types, e);
+        }
+        j += 1;
+    }
+    at
 }

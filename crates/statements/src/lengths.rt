@@ -15,10 +15,10 @@ use crate::masks::Chosen;
 use crate::masks::Masks;
 use crate::masks::flagged_funcs;
 use crate::masks::flagged_preds;
-use crate::statement::counted;
 use flags::Mask;
 use flags::flag;
 use flags::none_set;
+use group::write::counted;
 use rule::elements::element_count;
 use rule::elements::read_element;
 use rule::ids::RULE_INDEX;
@@ -36,7 +36,8 @@ fn section_length(
 ) -> usize
     requires { ⌜ (from ≤ countLimit) × Chooses chosen ⌝ }
     requires { ⌜ Stands (now s) (now index) k ⌝ }
-    ensures { λ r. ⌜ ((letter : ℕ) (row : List ℕ) → r ≡ capped (from + length (statementBytes letter (chosenStatements (structureIn (now (s .entry)) k) row chosen)))) ⌝ }
+    ensures { λ r. ⌜ ((letter : ℕ) (row : List ℕ)
+        → r ≡ capped (from + length (statementBytes letter (chosenStatements (structureIn (now (s .entry)) k) row chosen)))) ⌝ }
     ensures { λ r. ⌜ r ≤ countLimit ⌝ }
 {
     let section = section_of(index, k, chosen.place);
@@ -66,7 +67,8 @@ pub fn rows_length(
 ) -> usize
     requires { ⌜ (from ≤ countLimit) × Chooses chosen ⌝ }
     requires { ⌜ Stands (now s) (now index) k ⌝ }
-    ensures { λ r. ⌜ ((letter : ℕ) (row : List ℕ) → r ≡ capped (from + length (statementBytes letter (chosenStatements (structureIn (now (s .entry)) k) row chosen)))) ⌝ }
+    ensures { λ r. ⌜ ((letter : ℕ) (row : List ℕ)
+        → r ≡ capped (from + length (statementBytes letter (chosenStatements (structureIn (now (s .entry)) k) row chosen)))) ⌝ }
     ensures { λ r. ⌜ r ≤ countLimit ⌝ }
 {
     // No flag is set: nothing is said, and the section need not be gone along.
@@ -98,7 +100,8 @@ fn elements_length(
 ) -> usize
     requires { ⌜ from ≤ countLimit ⌝ }
     requires { ⌜ Stands (now s) (now index) k ⌝ }
-    ensures { λ r. ⌜ ((letter : ℕ) (row : List ℕ) → r ≡ capped (from + (length (statementBytes letter (membersSaid (structureIn (now (s .entry)) k) row members))
+    ensures { λ r. ⌜ ((letter : ℕ) (row : List ℕ)
+        → r ≡ capped (from + (length (statementBytes letter (membersSaid (structureIn (now (s .entry)) k) row members))
         + length (statementBytes letter (typesSaid (structureIn (now (s .entry)) k) row (flagged free (structureIn (now (s .entry)) k .elements))))))) ⌝ }
     ensures { λ r. ⌜ r ≤ countLimit ⌝ }
 {
@@ -121,7 +124,7 @@ fn elements_length(
     at
 }
 
-// Where ends what a structure says.
+// Where the statements of a structure would end, written from a position on.
 pub fn said_length(
     from: usize,
     s: &[u8],
@@ -131,7 +134,9 @@ pub fn said_length(
 ) -> usize
     requires { ⌜ from ≤ countLimit ⌝ }
     requires { ⌜ Stands (now s) (now index) k ⌝ }
-    ensures { λ r. ⌜ ((letter : ℕ) (row : List ℕ) → r ≡ capped (from + length (statementBytes letter (saidBy (structureIn (now (s .entry)) k) (variablesIn (structureIn (now (s .entry)) k) row) masks)))) ⌝ }
+    ensures { λ r. ⌜ ((letter : ℕ) (row : List ℕ)
+        → r ≡ capped (from + length
+        (statementBytes letter (saidBy (structureIn (now (s .entry)) k) (variablesIn (structureIn (now (s .entry)) k) row) masks)))) ⌝ }
     ensures { λ r. ⌜ r ≤ countLimit ⌝ }
 {
     let behind_preds = rows_length(from, s, index, k, flagged_preds(masks.preds));

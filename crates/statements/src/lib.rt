@@ -4,5 +4,4 @@ pub mod lengths;
 pub mod masks;
 pub mod members;
 pub mod sections;
-pub mod statement;
 pub mod writer;

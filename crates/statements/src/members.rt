@@ -10,12 +10,12 @@ ghost use Rattle.laws.specs.Bytes.{statementBytes};
 ghost use Rattle.statements.specs.Said.{flagged};
 ghost use Rattle.statements.specs.Parts.{elementSaid, membersSaid, typeSetOf, typesSaid};
 use crate::sections::vars_of;
-use crate::statement::Statement;
-use crate::statement::put_statement;
-use crate::statement::put_statement_head;
 use flags::Mask;
 use flags::flag;
 use flags::none_set;
+use group::statement::Statement;
+use group::write::put_statement;
+use group::write::put_statement_head;
 use records::fields::wide;
 use records::write::past;
 use records::write::put_num;
@@ -47,7 +47,8 @@ fn put_element(
 ) -> usize
     requires { ⌜ (from ≤ countLimit) × (i < countAt (now index) k) ⌝ }
     requires { ⌜ Stands (now s) (now index) k ⌝ }
-    ensures { λ r. ⌜ Put (now (out .entry)) (now (out .exit)) (fieldBytes (statementField letter (elementSaid (now (s .entry)) (now (index .entry)) k (now (row .entry)) kind i))) from r ⌝ }
+    ensures { λ r. ⌜ Put (now (out .entry)) (now (out .exit))
+        (fieldBytes (statementField letter (elementSaid (now (s .entry)) (now (index .entry)) k (now (row .entry)) kind i))) from r ⌝ }
 {
     let e = read_element(s, index, k, i);
     let ty = e.ty;
@@ -81,7 +82,8 @@ pub fn put_members(
 ) -> usize
     requires { ⌜ from ≤ countLimit ⌝ }
     requires { ⌜ Stands (now s) (now index) k ⌝ }
-    ensures { λ r. ⌜ Put (now (out .entry)) (now (out .exit)) (statementBytes letter (membersSaid (structureIn (now (s .entry)) k) (now (row .entry)) mask)) from r ⌝ }
+    ensures { λ r. ⌜ Put (now (out .entry)) (now (out .exit)) (statementBytes letter (membersSaid (structureIn (now (s .entry)) k) (now (row .entry)) mask))
+        from r ⌝ }
 {
     // No flag is set: nothing is said, and the members need not be sorted.
     if none_set(mask) {
@@ -122,7 +124,9 @@ fn put_type_set(
 ) -> usize
     requires { ⌜ (from ≤ countLimit) × (i < countAt (now index) k) ⌝ }
     requires { ⌜ Stands (now s) (now index) k ⌝ }
-    ensures { λ r. ⌜ Put (now (out .entry)) (now (out .exit)) (statementBytes letter (typesSaid (structureIn (now (s .entry)) k) (now (row .entry)) (elementIn (now (s .entry)) (now (index .entry)) k i ∷ []))) from r ⌝ }
+    ensures { λ r. ⌜ Put (now (out .entry)) (now (out .exit))
+        (statementBytes letter (typesSaid (structureIn (now (s .entry)) k) (now (row .entry)) (elementIn (now (s .entry)) (now (index .entry)) k i ∷ [])))
+        from r ⌝ }
 {
     let e = read_element(s, index, k, i);
     if e.parents != 0 {
@@ -146,7 +150,9 @@ pub fn put_type_sets(
 ) -> usize
     requires { ⌜ from ≤ countLimit ⌝ }
     requires { ⌜ Stands (now s) (now index) k ⌝ }
-    ensures { λ r. ⌜ Put (now (out .entry)) (now (out .exit)) (statementBytes letter (typesSaid (structureIn (now (s .entry)) k) (now (row .entry)) (flagged mask (structureIn (now (s .entry)) k .elements)))) from r ⌝ }
+    ensures { λ r. ⌜ Put (now (out .entry)) (now (out .exit))
+        (statementBytes letter (typesSaid (structureIn (now (s .entry)) k) (now (row .entry)) (flagged mask (structureIn (now (s .entry)) k .elements))))
+        from r ⌝ }
 {
     // No flag is set: nothing is said, and the elements need not be gone along.
     if none_set(mask) {

@@ -12,9 +12,9 @@ ghost use Rattle.laws.specs.Bytes.{statementBytes};
 ghost use Rattle.statements.specs.Parts.{variableBy, NamedIn, rowSaid, chosenStatements, Chooses};
 use crate::lengths::rows_length;
 use crate::masks::Chosen;
-use crate::statement::put_statement_head;
 use flags::flag;
 use flags::none_set;
+use group::write::put_statement_head;
 use records::write::past;
 use records::write::put_num;
 use records::write::rest_at;
@@ -135,7 +135,8 @@ fn put_section(
 ) -> usize
     requires { ⌜ (from ≤ countLimit) × Chooses chosen ⌝ }
     requires { ⌜ Stands (now s) (now index) k ⌝ }
-    ensures { λ r. ⌜ Put (now (out .entry)) (now (out .exit)) (statementBytes letter (chosenStatements (structureIn (now (s .entry)) k) (now (row .entry)) chosen)) from r ⌝ }
+    ensures { λ r. ⌜ Put (now (out .entry)) (now (out .exit))
+        (statementBytes letter (chosenStatements (structureIn (now (s .entry)) k) (now (row .entry)) chosen)) from r ⌝ }
 {
     let section = section_of(index, k, chosen.place);
     let end = section.to;
@@ -168,7 +169,8 @@ pub fn put_rows(
 ) -> usize
     requires { ⌜ (from ≤ countLimit) × Chooses chosen ⌝ }
     requires { ⌜ Stands (now s) (now index) k ⌝ }
-    ensures { λ r. ⌜ Put (now (out .entry)) (now (out .exit)) (statementBytes letter (chosenStatements (structureIn (now (s .entry)) k) (now (row .entry)) chosen)) from r ⌝ }
+    ensures { λ r. ⌜ Put (now (out .entry)) (now (out .exit))
+        (statementBytes letter (chosenStatements (structureIn (now (s .entry)) k) (now (row .entry)) chosen)) from r ⌝ }
 {
     // Nothing of them fits: their length is enough.
     if out.len() <= from {

@@ -32,7 +32,8 @@ pub fn put_flat_rel_apps(
 ) -> usize
     requires { ⌜ from ≤ countLimit ⌝ }
     requires { ⌜ Stands (now s) (now index) k ⌝ }
-    ensures { λ r. ⌜ Put (now (out .entry)) (now (out .exit)) (statementBytes letter (appsBy (structureIn (now (s .entry)) k) (variablesIn (structureIn (now (s .entry)) k) (now (row .entry))) masks)) from r ⌝ }
+    ensures { λ r. ⌜ Put (now (out .entry)) (now (out .exit))
+        (statementBytes letter (appsBy (structureIn (now (s .entry)) k) (variablesIn (structureIn (now (s .entry)) k) (now (row .entry))) masks)) from r ⌝ }
 {
     let behind_preds = put_rows(
         out,
@@ -70,7 +71,8 @@ pub fn put_said(
 ) -> usize
     requires { ⌜ from ≤ countLimit ⌝ }
     requires { ⌜ Stands (now s) (now index) k ⌝ }
-    ensures { λ r. ⌜ Put (now (out .entry)) (now (out .exit)) (statementBytes letter (saidBy (structureIn (now (s .entry)) k) (variablesIn (structureIn (now (s .entry)) k) (now (row .entry))) masks)) from r ⌝ }
+    ensures { λ r. ⌜ Put (now (out .entry)) (now (out .exit))
+        (statementBytes letter (saidBy (structureIn (now (s .entry)) k) (variablesIn (structureIn (now (s .entry)) k) (now (row .entry))) masks)) from r ⌝ }
 {
     // Nothing of it fits: its length is enough.
     if out.len() <= from {
@@ -93,7 +95,9 @@ pub fn put_domains(
 ) -> usize
     requires { ⌜ from ≤ countLimit ⌝ }
     requires { ⌜ Stands (now s) (now index) k ⌝ }
-    ensures { λ r. ⌜ Put (now (out .entry)) (now (out .exit)) (statementBytes letter (domainsBy (structureIn (now (s .entry)) k) (variablesIn (structureIn (now (s .entry)) k) (now (row .entry))) mask)) from r ⌝ }
+    ensures { λ r. ⌜ Put (now (out .entry)) (now (out .exit))
+        (statementBytes letter (domainsBy (structureIn (now (s .entry)) k) (variablesIn (structureIn (now (s .entry)) k) (now (row .entry))) mask)) from r ⌝
+        }
 {
     let domains = Chosen {
         place: PLACE_A,

@@ -1,11 +1,13 @@
--- A written group is bytes: each number in it is below 256.
+-- A written group is bytes: each number in it is below 256. Contents are names, whose bytes are at most 126, kinds, and numbers below
+-- 65,536 as two bytes; letters are constants; and no length passes 65,535, since the whole record does not.
 use Prim.Native.Nat.{ℕ, zero, suc, _/_, _%_, _≤_, _<_}
 use native.Mathlib.Omega.{arith}
 use native.Mathlib.Nat.{mod-lt, div-lt-iff-lt-mul}
 use mathlib.Core.Path.{_≡_, refl}
 use mathlib.Core.Logic.{⊎-elim}
 use mathlib.Core.Bool.{true}
-use mathlib.Core.List.{List, [], _∷_, List·Memᴰ·head, List·Memᴰ·tail, List·Memᴰ·not-nil, List·Memᴰ·cases-cons, List·Memᴰ·append-cases}
+use mathlib.Core.List.{List, [], _∷_, List·Memᴰ·head, List·Memᴰ·tail, List·Memᴰ·not-nil, List·Memᴰ·cases-cons, List·Memᴰ·append-cases,
+    List·Memᴰ·eq-of-singleton}
 use lib.Dec.{leb, ltb}
 use lib.ListN.{length, length-append}
 use borrow.Author.Tests.{leb-true, ltb-true}
@@ -94,7 +96,10 @@ module _ (sig : Signature) (g : Group) (good : GoodGroup sig g) where
   variable-small v p = record {
       letter-small = omega arith;
       content-small = λ b m. ⊎-elim
-          (λ t. number-bytes (v .type ∷ []) (λ n i. ⊎-elim (λ q. let x = p .type-in in let y = good .small .types-few in omega arith) (λ z. absurd (List·Memᴰ·not-nil z)) (List·Memᴰ·cases-cons i)) b t)
+          (λ t. number-bytes (v .type ∷ [])
+              (λ n i.
+                  let q = List·Memᴰ·eq-of-singleton i in let x = p .type-in in let y = good .small .types-few in
+                  omega arith) b t)
           (λ n. name-bytes (v .name) (p .name-good) b n)
           (List·Memᴰ·append-cases (twoBytes (v .type)) m);
     }
@@ -104,8 +109,14 @@ module _ (sig : Signature) (g : Group) (good : GoodGroup sig g) where
   rule-small r p f m = ⊎-elim
       (λ q. rw q record { letter-small = omega arith; content-small = name-bytes (r .name) (p .name-good) })
       (λ t. ⊎-elim
-          (λ a. let w = mem-each (statementField letterB) (r .premise) a in rw (w .2) (statement-small letterB (omega arith) premiseKinds (kinds-small premiseKinds refl) (w .0) (p .premise-good (w .0) (w .1))))
-          (λ b. let w = mem-each (statementField letterH) (r .conclusion) b in rw (w .2) (statement-small letterH (omega arith) conclusionKinds (kinds-small conclusionKinds refl) (w .0) (p .conclusion-good (w .0) (w .1))))
+          (λ a.
+              let w = mem-each (statementField letterB) (r .premise) a in
+              let k = kinds-small premiseKinds refl in
+              rw (w .2) (statement-small letterB (omega arith) premiseKinds k (w .0) (p .premise-good (w .0) (w .1))))
+          (λ b.
+              let w = mem-each (statementField letterH) (r .conclusion) b in
+              let k = kinds-small conclusionKinds refl in
+              rw (w .2) (statement-small letterH (omega arith) conclusionKinds k (w .0) (p .conclusion-good (w .0) (w .1))))
           (List·Memᴰ·append-cases (each (statementField letterB) (r .premise)) t))
       (List·Memᴰ·cases-cons m)
 

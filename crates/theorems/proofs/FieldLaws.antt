@@ -1,4 +1,5 @@
--- Fields in their places, of one letter, in blocks, and without faults: laws for any letter and any grammar.
+-- Fields in their places, of one letter, in blocks, and without faults: laws for any letter and any grammar. They are asked of lists made
+-- by `each` and `joined`, as a writer makes them; `Steps` says that letters follow each other as a grammar has it, to a possible end.
 use Prim.Native.Nat.{ℕ, _+_, _<_}
 use native.Mathlib.Omega.{arith}
 use mathlib.Core.Path.{_≡_, refl, _∙_}
@@ -74,7 +75,8 @@ blocks-skip letter [] fs e = refl
 blocks-skip letter (x ∷ xs) fs e = go (eqb (x .letter) letter) (λ t. blocks-skip letter xs fs t) e
   where
     go : (b : Bool) → (withLetter letter xs ≡ [] → blocks letter (xs ++ fs) ≡ blocks letter fs)
-        → consIf b x (withLetter letter xs) ≡ [] → pick b (record { head = x; body = upTo letter (xs ++ fs) } ∷ blocks letter (xs ++ fs)) (blocks letter (xs ++ fs)) ≡ blocks letter fs
+        → consIf b x (withLetter letter xs) ≡ []
+        → pick b (record { head = x; body = upTo letter (xs ++ fs) } ∷ blocks letter (xs ++ fs)) (blocks letter (xs ++ fs)) ≡ blocks letter fs
     go true ih e = let z : _≡_ {A = ℕ} 0 1 = cc in absurd (omega arith)
     go false ih e = ih e
 
@@ -84,4 +86,5 @@ pub faults-none : {A : Type 0} (check : ℕ → Option Field → Field → Optio
 unfolding faultFrom each
 faults-none check f [] before last h = refl
 faults-none check f (x ∷ xs) before last h =
-    rw (h before last x (omega arith) (List·Memᴰ·head refl)) (faults-none check f xs (before + 1) (some (f x)) (λ n l a k m. h n l a (omega arith) (List·Memᴰ·tail m)))
+    rw (h before last x (omega arith) (List·Memᴰ·head refl))
+        (faults-none check f xs (before + 1) (some (f x)) (λ n l a k m. h n l a (omega arith) (List·Memᴰ·tail m)))

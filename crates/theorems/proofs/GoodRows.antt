@@ -1,5 +1,6 @@
--- Statements of a sound structure's rows and elements are good.
-use Prim.Native.Nat.{ℕ, zero, suc, _-_, _<_}
+-- Statements of a sound structure's rows and elements are good: a row's symbol and columns are its field's, its variables those of
+-- elements that the structure has.
+use Prim.Native.Nat.{ℕ, zero, suc, _<_}
 use native.Mathlib.Omega.{arith}
 use mathlib.Core.Path.{_≡_, refl}
 use mathlib.Core.Logic.{⊎-elim}
@@ -39,7 +40,8 @@ module _ (sig : Signature) (st : Structure) (sound : SoundStructure sig st) wher
     variables-below els h v m = let r = mem-each variable els m in rw (r .2) (below (r .0) (h (r .0) (r .1)))
 
     -- A row of a predicate or a function.
-    of-kind : (k : ℕ) → k < 2 → (r : Row) → r .kind ≡ k → SoundRow (symbolCount sig k) (arity sig k) (numbersOf st) r → GoodStatement sig kinds count (rowStatement variable r)
+    of-kind : (k : ℕ) → k < 2 → (r : Row) → r .kind ≡ k → SoundRow (symbolCount sig k) (arity sig k) (numbersOf st) r
+        → GoodStatement sig kinds count (rowStatement variable r)
     unfolding rowStatement
     of-kind k l r q s = record {
         kind-in = rw q (three k (omega arith));
@@ -51,11 +53,15 @@ module _ (sig : Signature) (st : Structure) (sound : SoundStructure sig st) wher
 
     pred-good : {r : Row} → r ∈ st .predRows → GoodStatement sig kinds count (rowStatement variable r)
     unfolding symbolCount arity
-    pred-good {r} m = let s = sound .preds-sound r m in of-kind predicate (omega arith) r (s .0) (record { symbol-in = s .1 .symbol-in; elements-in = s .1 .elements-in; columns-count = s .1 .columns-count })
+    pred-good {r} m =
+        let s = sound .preds-sound r m in
+        of-kind predicate (omega arith) r (s .0) (record { symbol-in = s .1 .symbol-in; elements-in = s .1 .elements-in; columns-count = s .1 .columns-count })
 
     func-good : {r : Row} → r ∈ st .funcRows → GoodStatement sig kinds count (rowStatement variable r)
     unfolding symbolCount arity
-    func-good {r} m = let s = sound .funcs-sound r m in of-kind function (omega arith) r (s .0) (record { symbol-in = s .2 .symbol-in; elements-in = s .2 .elements-in; columns-count = s .2 .columns-count })
+    func-good {r} m =
+        let s = sound .funcs-sound r m in
+        of-kind function (omega arith) r (s .0) (record { symbol-in = s .2 .symbol-in; elements-in = s .2 .elements-in; columns-count = s .2 .columns-count })
 
     member-good : (x : Element) → x ∈ st .elements → empty (x .parents) ≡ false → GoodStatement sig kinds count (rowStatement variable (memberRow x))
     unfolding rowStatement memberRow symbolCount arity

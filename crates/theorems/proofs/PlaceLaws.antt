@@ -1,4 +1,5 @@
--- Where a record's fields stand in its bytes.
+-- Where a record's fields stand in its bytes: one behind the other, each with three bytes more than its content, so that counting the
+-- bytes of the fields before a rule's first conclusion gives its place.
 use Prim.Native.Nat.{ℕ, zero, suc, _+_, _*_}
 use native.Mathlib.Omega.{arith}
 use mathlib.Core.Path.{_≡_, refl, _∙_}
@@ -33,7 +34,8 @@ behind-three n = omega arith
 -- A record's fields stand one behind the other.
 stand-from : (g : Grammar) (bytes : List ℕ) (k behind at : ℕ) (s : List ℕ) → drop at bytes ≡ s → StandAt bytes at (placed g behind (cut k s) .fields)
 unfolding placed cut
-stand-from g bytes zero behind at s e = tt
+stand-from g bytes zero behind at [] e = tt
+stand-from g bytes zero behind at (l ∷ s) e = tt
 stand-from g bytes (suc k) behind at [] e = tt
 stand-from g bytes (suc k) behind at (l ∷ []) e = tt
 stand-from g bytes (suc k) behind at (l ∷ h ∷ []) e = tt
@@ -63,7 +65,8 @@ unfolding fieldsOf
 fields-stand g behind bytes = stand-from g bytes (length bytes) behind 0 bytes refl
 
 -- The first conclusion behind a rule's name stands where it is sought.
-first-conclusion : (bytes : List ℕ) (fs : List Field) (at : ℕ) (f : Field) (hs : List Field) → withLetter letterH (upTo letterU fs) ≡ f ∷ hs → StandAt bytes at fs
+first-conclusion : (bytes : List ℕ) (fs : List Field) (at : ℕ) (f : Field) (hs : List Field) → withLetter letterH (upTo letterU fs) ≡ f ∷ hs
+    → StandAt bytes at fs
     → FieldAt bytes (conclusionAt zero fs at) f
 unfolding withLetter keep upTo conclusionAt
 first-conclusion bytes [] at f hs e h = let z : _≡_ {A = ℕ} 0 1 = cc in absurd (omega arith)
@@ -75,7 +78,8 @@ first-conclusion bytes (x ∷ xs) at f hs e h = go (eqb (x .letter) letterU) (λ
     there false ih e = ih e
 
     go : (b : Bool) → (withLetter letterH (upTo letterU xs) ≡ f ∷ hs → FieldAt bytes (conclusionAt zero xs (at + fieldSize x)) f)
-        → withLetter letterH (pick b [] (x ∷ upTo letterU xs)) ≡ f ∷ hs → FieldAt bytes (pick (eqb (x .letter) letterH) at (conclusionAt zero xs (at + fieldSize x))) f
+        → withLetter letterH (pick b [] (x ∷ upTo letterU xs)) ≡ f ∷ hs
+        → FieldAt bytes (pick (eqb (x .letter) letterH) at (conclusionAt zero xs (at + fieldSize x))) f
     go true ih e = let z : _≡_ {A = ℕ} 0 1 = cc in absurd (omega arith)
     go false ih e = there (eqb (x .letter) letterH) ih e
 
@@ -85,7 +89,8 @@ pub conclusion-stands : (bytes : List ℕ) (fs : List Field) (position at : ℕ)
     → FieldAt bytes (conclusionAt (suc position) fs at) f
 unfolding blocks conclusionAt
 conclusion-stands bytes [] position at b f hs p e h = let z : _≡_ {A = ℕ} 0 1 = cc in absurd (omega arith)
-conclusion-stands bytes (x ∷ xs) position at b f hs p e h = go (eqb (x .letter) letterU) position (λ i. conclusion-stands bytes xs i (at + fieldSize x) b f hs) p
+conclusion-stands bytes (x ∷ xs) position at b f hs p e h =
+    go (eqb (x .letter) letterU) position (λ i. conclusion-stands bytes xs i (at + fieldSize x) b f hs) p
   where
     go : (u : Bool) (i : ℕ)
         → ((j : ℕ) → getElem? (blocks letterU xs) j ≡ some b → withLetter letterH (b .body) ≡ f ∷ hs → StandAt bytes (at + fieldSize x) xs

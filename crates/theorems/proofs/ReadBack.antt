@@ -1,4 +1,5 @@
--- A good group, written, is read as itself.
+-- A good group, written, is read as itself. In three steps: its bytes are cut into its fields, all in their places (`Steps`); what the
+-- fields of each letter mean is what was written (the `..-back` laws); and no field has a fault (the `..-pass` laws).
 use Prim.Native.Nat.{ℕ, suc, _+_, _*_, _≤_, _<_}
 use native.Mathlib.Omega.{arith}
 use native.Mathlib.Nat.{mul-add-mod-self-left}
@@ -14,12 +15,15 @@ use Rattle.definition.specs.Limits.{groupBytes, variableLimit, ruleLimit}
 use Rattle.definition.specs.Letters.{letterG, letterW, letterU, letterB, letterH, start, member}
 use Rattle.definition.specs.Records.{Field, Block, numberAt, follows, withLetter, upTo, blocks, faultFrom, faultAmong, odd, readPart}
 use Rattle.definition.specs.Signature.{Signature, symbolCount, typeParents, named}
-use Rattle.definition.specs.Group.{Variable, Statement, FlatRule, Group, groupGrammar, variableOf, statementOf, premiseKinds, conclusionKinds, titleFault, variableFault, flatRuleFault, badColumns, statementFault, flatRulesFault, groupFault, flatRuleOf, groupOf, titleField, groupPart, readGroup}
+use Rattle.definition.specs.Group.{Variable, Statement, FlatRule, Group, groupGrammar, variableOf, statementOf, premiseKinds,
+    conclusionKinds, titleFault, variableFault, flatRuleFault, badColumns, statementFault, flatRulesFault, groupFault, flatRuleOf, groupOf,
+    titleField, groupPart, readGroup}
 use Rattle.definition.specs.Writer.{numberBytes, variableField, statementField, flatRuleFields, groupFields, groupBytesOf}
 use Rattle.laws.proofs.Lists.{mem-has, mem-all, length-each}
 use Rattle.theorems.proofs.Good.{GoodStatement, GoodVariable, GoodRule, GoodGroup}
 use Rattle.laws.proofs.Numbers.{numbers-front, numbers-written, length-numbers-written, fields-written, with-append}
-use Rattle.theorems.proofs.FieldLaws.{with-each, with-each-none, with-joined-none, each-back, Steps, placed-whole, steps-each, upto-skip, blocks-skip, faults-none}
+use Rattle.theorems.proofs.FieldLaws.{with-each, with-each-none, with-joined-none, each-back, Steps, placed-whole, steps-each,
+    upto-skip, blocks-skip, faults-none}
 
 -- A variable's field means the variable.
 pub variable-back : (v : Variable) → variableOf (variableField v) ≡ v
@@ -53,8 +57,10 @@ rules-placed (r ∷ rs) behind to stop = (
 )
   where
     conclusion : (b : ℕ) → follows (groupGrammar .places) b letterH ≡ true → Steps groupGrammar b (joined flatRuleFields rs)
-        → Steps groupGrammar letterH (joined flatRuleFields rs) → Steps groupGrammar b (each (statementField letterH) (r .conclusion) ++ joined flatRuleFields rs)
-    conclusion b to here there = steps-each groupGrammar letterH b (statementField letterH) (λ s. refl) to refl (r .conclusion) (joined flatRuleFields rs) here there
+        → Steps groupGrammar letterH (joined flatRuleFields rs)
+        → Steps groupGrammar b (each (statementField letterH) (r .conclusion) ++ joined flatRuleFields rs)
+    conclusion b to here there =
+        steps-each groupGrammar letterH b (statementField letterH) (λ s. refl) to refl (r .conclusion) (joined flatRuleFields rs) here there
 
 -- A group's fields are a whole record.
 group-placed : (g : Group) → Steps groupGrammar start (groupFields g)
@@ -73,16 +79,19 @@ group-part g = rw (fields-written (groupFields g)) (placed-whole groupGrammar st
 -- Behind a rule's name are its premise, of B, and its conclusion, of H.
 premise-fields : (r : FlatRule) → withLetter letterB (ruleBody r) ≡ each (statementField letterB) (r .premise)
 unfolding statementField
-premise-fields r = rw (with-append letterB, with-each letterB (statementField letterB) (λ s. refl), with-each-none letterB (statementField letterH) (λ s. refl), append-nil)
+premise-fields r =
+    rw (with-append letterB, with-each letterB (statementField letterB) (λ s. refl), with-each-none letterB (statementField letterH) (λ s. refl), append-nil)
 
 conclusion-fields : (r : FlatRule) → withLetter letterH (ruleBody r) ≡ each (statementField letterH) (r .conclusion)
 unfolding statementField
-conclusion-fields r = rw (with-append letterH, with-each-none letterH (statementField letterB) (λ s. refl), with-each letterH (statementField letterH) (λ s. refl))
+conclusion-fields r =
+    rw (with-append letterH, with-each-none letterH (statementField letterB) (λ s. refl), with-each letterH (statementField letterH) (λ s. refl))
 
 -- There is no other field, nor in rules one of a letter that is not U, B or H.
 body-without : (letter : ℕ) → eqb letterB letter ≡ false → eqb letterH letter ≡ false → (r : FlatRule) → withLetter letter (ruleBody r) ≡ []
 unfolding statementField
-body-without letter b h r = rw (with-append letter, with-each-none letter (statementField letterB) (λ s. b), with-each-none letter (statementField letterH) (λ s. h))
+body-without letter b h r =
+    rw (with-append letter, with-each-none letter (statementField letterB) (λ s. b), with-each-none letter (statementField letterH) (λ s. h))
 
 rules-without : (letter : ℕ) → eqb letterU letter ≡ false → eqb letterB letter ≡ false → eqb letterH letter ≡ false → (rs : List FlatRule)
     → withLetter letter (joined flatRuleFields rs) ≡ []
@@ -142,12 +151,17 @@ title-back g = refl
 
 pub group-back : (g : Group) → groupOf (groupFields g) ≡ g
 unfolding groupOf
-group-back g = rw (title-back g, variable-fields g, group-blocks g, each-back variableOf variableField variable-back (g .variables), each-back flatRuleOf ruleBlock rule-back (g .rules))
+group-back g =
+    let variables = each-back variableOf variableField variable-back (g .variables) in
+    let rules = each-back flatRuleOf ruleBlock rule-back (g .rules) in
+    rw (title-back g, variable-fields g, group-blocks g, variables, rules)
 
 -- A good statement's field passes, as premise or conclusion: its length, its columns, and all of it.
 statement-length : (letter : ℕ) (s : Statement) → length (statementField letter s .content) ≡ 2 * suc (length (s .variables)) + 1
 unfolding statementField
-statement-length letter s = let e : length (numberBytes (s .symbol ∷ s .variables)) ≡ 2 * suc (length (s .variables)) = length-numbers-written (s .symbol ∷ s .variables) in omega arith
+statement-length letter s =
+    let e : length (numberBytes (s .symbol ∷ s .variables)) ≡ 2 * suc (length (s .variables)) = length-numbers-written (s .symbol ∷ s .variables) in
+    omega arith
 
 columns-good : (sig : Signature) (kinds : List ℕ) (count : ℕ) (s : Statement) → GoodStatement sig kinds count s → badColumns sig s ≡ false
 unfolding badColumns
@@ -163,10 +177,12 @@ unfolding statementFault lowest
 statement-passes sig kinds count letter s h before last = rw (statement-back letter s, size, numbered, columns-good sig kinds count s h)
   where
     size : (not (odd (length (statementField letter s .content))) || ltb (length (statementField letter s .content)) 3) ≡ false
-    size = rw (statement-length letter s, mul-add-mod-self-left 2 (suc (length (s .variables))) 1) (le-ltb (2 * suc (length (s .variables)) + 1) 3 (omega arith))
+    size =
+        rw (statement-length letter s, mul-add-mod-self-left 2 (suc (length (s .variables))) 1) (le-ltb (2 * suc (length (s .variables)) + 1) 3 (omega arith))
 
     numbered : (not (has (s .kind) kinds) || not (ltb (s .symbol) (symbolCount sig (s .kind))) || not (named count (s .variables))) ≡ false
-    numbered = rw (mem-has _ _ (h .kind-in), lt-ltb _ _ (h .symbol-in), mem-all (λ (n : ℕ). ltb n count) (s .variables) (λ v m. lt-ltb _ _ (h .variables-in v m)))
+    numbered =
+        rw (mem-has _ _ (h .kind-in), lt-ltb _ _ (h .symbol-in), mem-all (λ (n : ℕ). ltb n count) (s .variables) (λ v m. lt-ltb _ _ (h .variables-in v m)))
 
 -- A good variable's field passes.
 variable-length : (v : Variable) → ltb (length (variableField v .content)) 2 ≡ false
@@ -210,7 +226,9 @@ group-passes sig g h =
     (rules-pass sig (length (g .variables)) (g .rules) 0 (h .rules-good) (omega (arith, h .rules-few)))
   where
     variables : faultFrom (variableFault sig) 0 none (each variableField (g .variables)) ≡ none
-    variables = faults-none (variableFault sig) variableField (g .variables) 0 none (λ n l v k m. variable-passes sig v (h .variables-good v m) n l (omega (arith, h .variables-few)))
+    variables =
+        faults-none (variableFault sig) variableField (g .variables) 0 none
+            (λ n l v k m. variable-passes sig v (h .variables-good v m) n l (omega (arith, h .variables-few)))
 
 -- A good group that is short enough, written, is read as itself.
 pub read-back : (sig : Signature) (g : Group) → GoodGroup sig g → length (groupBytesOf g) ≤ groupBytes → readGroup sig (groupBytesOf g) ≡ accepted g

@@ -1,4 +1,5 @@
--- The readings refuse only with the numbers 1 to 8.
+-- The readings refuse only with the numbers 1 to 8: every field's tests have such numbers, and the first fault of a record is one of a
+-- field (`LowFault`), so that each reading's refusals follow from its definition letter by letter.
 use Prim.Native.Nat.{ℕ, _+_, _≤_}
 use native.Mathlib.Omega.{arith}
 use mathlib.Core.Path.{_≡_, ap}
@@ -11,7 +12,8 @@ use Rattle.definition.specs.Base.{refused, accepted, pick, orElse, lowest}
 use Rattle.definition.specs.Limits.{signatureBytes, ruleBytes, groupBytes}
 use Rattle.definition.specs.Records.{Field, Part, Block, blocks, withLetter, faultFrom, faultAmong, readPart}
 use Rattle.definition.specs.Signature.{Signature, typeFault, symbolFault, signatureFault, signatureOf, signaturePart, readSignature}
-use Rattle.definition.specs.Rule.{headFault, structureFault, elementFault, rowFault, nameFault, mapFault, kindFault, auxiliaryFault, bodyFault, structuresFault, ruleFault, ruleOf, rulePart, readRule}
+use Rattle.definition.specs.Rule.{headFault, structureFault, elementFault, rowFault, nameFault, mapFault, kindFault, auxiliaryFault,
+    bodyFault, structuresFault, ruleFault, ruleOf, rulePart, readRule}
 use Rattle.definition.specs.Group.{titleFault, variableFault, flatRuleFault, statementFault, flatRulesFault, groupFault, groupOf, groupPart, readGroup}
 
 -- A number of a reading's refusal.
@@ -171,14 +173,18 @@ group-low sig fs =
 -- A signature is refused with 1 to 8.
 pub signature-refusal : (bytes : List ℕ) {n : ℕ} → readSignature bytes ≡ refused n → Low n
 unfolding readSignature
-signature-refusal bytes e = read-low (ltb signatureBytes (length bytes)) (signaturePart bytes) _ (signatureOf (signaturePart bytes .fields)) (signature-low (signaturePart bytes .fields)) e
+signature-refusal bytes e =
+    read-low (ltb signatureBytes (length bytes)) (signaturePart bytes) _ (signatureOf (signaturePart bytes .fields))
+        (signature-low (signaturePart bytes .fields)) e
 
 -- A rule is refused with 1 to 8.
 pub rule-refusal : (sig : Signature) (bytes : List ℕ) {n : ℕ} → readRule sig bytes ≡ refused n → Low n
 unfolding readRule
-rule-refusal sig bytes e = read-low (ltb ruleBytes (length bytes)) (rulePart bytes) _ (ruleOf (rulePart bytes .fields)) (rule-low sig (rulePart bytes .fields)) e
+rule-refusal sig bytes e =
+    read-low (ltb ruleBytes (length bytes)) (rulePart bytes) _ (ruleOf (rulePart bytes .fields)) (rule-low sig (rulePart bytes .fields)) e
 
 -- A group is refused with 1 to 8.
 pub group-refusal : (sig : Signature) (bytes : List ℕ) {n : ℕ} → readGroup sig bytes ≡ refused n → Low n
 unfolding readGroup
-group-refusal sig bytes e = read-low (ltb groupBytes (length bytes)) (groupPart bytes) _ (groupOf (groupPart bytes .fields)) (group-low sig (groupPart bytes .fields)) e
+group-refusal sig bytes e =
+    read-low (ltb groupBytes (length bytes)) (groupPart bytes) _ (groupOf (groupPart bytes .fields)) (group-low sig (groupPart bytes .fields)) e

@@ -33,5 +33,8 @@ flatten-numbers signature rule room {n} e = ⊎-elim
     (λ s. ⊎-elim (λ b. inl (rule-refusal (s .0) rule b)) (λ r. inr (rest (s .0) (r .0) (r .1))) (on-refused (readRule (s .0) rule) _ (s .1)))
     (on-refused (readSignature signature) _ e)
   where
-    rest : (sig : Signature) (r : Rule) → onAccepted (walkOf sig r) (λ (state : State). fitted room (groupBytesOf (groupLeft r state))) ≡ refused n → Between 21 31 n
-    rest sig r e = refuses-on (walkOf sig r) _ (refuses-wide (walk-of-refuses sig r) (omega arith) (omega arith)) (λ state. fitted-refuses room (groupBytesOf (groupLeft r state))) .within n e
+    rest : (sig : Signature) (r : Rule) → onAccepted (walkOf sig r) (λ (state : State). fitted room (groupBytesOf (groupLeft r state))) ≡ refused n
+        → Between 21 31 n
+    rest sig r e =
+        refuses-on (walkOf sig r) _ (refuses-wide (walk-of-refuses sig r) (omega arith) (omega arith))
+            (λ state. fitted-refuses room (groupBytesOf (groupLeft r state))) .within n e

@@ -1,4 +1,6 @@
--- Scope's answers: where each comes from, and where the owners stand.
+-- Scope's answers: where each comes from, and where the owners stand. `RuleCase` and `ScopeCase` list what an answer can come from; the
+-- theorems about refusals, 42 and the owners are read off these cases. That the owners' part holds the owners is the place of the first
+-- conclusion's field in the bytes (PlaceLaws).
 use Prim.Native.Nat.{ℕ, zero, suc, _+_, _*_, _≤_, min}
 use native.Mathlib.Omega.{arith}
 use native.Mathlib.Numerals.{add-one}
@@ -11,13 +13,15 @@ use lib.Dec.{eqb, ltb}
 use lib.ListN.{length, take, drop, getElem?, length-drop, take-append-drop}
 use lib.Seq.{drop-drop, length-take-le, take-append-le, drop-append-le}
 use borrow.Author.Tests.{eqb-true, ltb-false}
-use Rattle.definition.specs.Base.{Outcome, refused, accepted, onAccepted, pick, orElse, each, firstOf, _∈_}
+use Rattle.definition.specs.Base.{Outcome, refused, accepted, onAccepted, pick, orElse, orDefault, each, firstOf, _∈_}
 use Rattle.definition.specs.Limits.{groupBytes}
 use Rattle.definition.specs.Letters.{letterU, letterH, equality, start}
 use Rattle.definition.specs.Records.{Field, numbers, blocks, withLetter}
 use Rattle.definition.specs.Signature.{Signature, readSignature, parentModel}
 use Rattle.definition.specs.Group.{Variable, Statement, FlatRule, Group, statementOf, flatRuleOf, groupGrammar, groupOf, groupPart, readGroup}
-use Rattle.definition.specs.Scope.{Scope, global, model, ownerCount, sameVariables, ownersVerdict, sharesModel, conclusionVerdict, related, relationVerdict, premiseVerdict, settle, modelScope, outputScope, conclusionScope, inferScope, scopeOf, conclusionAt, ownersAt, ownersPart, ownersOf}
+use Rattle.definition.specs.Scope.{Scope, global, model, ownerCount, sameVariables, ownersVerdict, sharesModel, conclusionVerdict, related,
+    relationVerdict, premiseVerdict, modelScope, outputScope, conclusionScope, inferScope, scopeOf, conclusionAt, ownersAt, ownersPart,
+    ownersOf}
 use Rattle.laws.proofs.Sound.{read-part, read-within}
 use Rattle.laws.proofs.Numbers.{take-numbers, drop-numbers, length-numbers}
 use Rattle.theorems.proofs.ReadingRefusals.{Low, signature-refusal, group-refusal}
@@ -29,7 +33,8 @@ middle : (k n : ℕ) (s : List ℕ) → s ≡ take k s ++ take n (drop k s) ++ d
 middle k n s = sym (append-assoc (take k s) (take n (drop k s)) (drop n (drop k s)) ∙ rw (take-append-drop n (drop k s)) (take-append-drop k s))
 
 -- The owners are a part of the group's bytes.
-pub owners-part : (signature group : List ℕ) (position : ℕ) → (before : List ℕ) × (behind : List ℕ) × (group ≡ before ++ ownersOf signature group position ++ behind)
+pub owners-part : (signature group : List ℕ) (position : ℕ)
+    → (before : List ℕ) × (behind : List ℕ) × (group ≡ before ++ ownersOf signature group position ++ behind)
 unfolding ownersOf ownersPart
 owners-part signature group position = go (scopeOf signature group position)
   where
@@ -49,7 +54,8 @@ abbrev pub Differs : Outcome Scope → Type 0
 Differs v = (v ≡ accepted global) ⊎ (v ≡ refused 43)
 
 -- So does a comparison of owners, and a conclusion or a relation of the premise that is compared.
-owners-verdict : (table : List Variable) (owners : List ℕ) (count : ℕ) (s : Statement) {v : Outcome Scope} → ownersVerdict table owners count s ≡ some v → Differs v
+owners-verdict : (table : List Variable) (owners : List ℕ) (count : ℕ) (s : Statement) {v : Outcome Scope}
+    → ownersVerdict table owners count s ≡ some v → Differs v
 unfolding ownersVerdict
 owners-verdict table owners count s {v} e = go (ltb (length (s .variables)) count) (sameVariables table (take count (s .variables)) (take count owners)) e
   where
@@ -58,7 +64,8 @@ owners-verdict table owners count s {v} e = go (ltb (length (s .variables)) coun
     go false true e = let z : _≡_ {A = ℕ} 0 1 = cc in absurd (omega arith)
     go false false e = inl (cc)
 
-conclusion-verdict : (sig : Signature) (table : List Variable) (m : ℕ) (owners : List ℕ) (s : Statement) {v : Outcome Scope} → conclusionVerdict sig table m owners s ≡ some v → Differs v
+conclusion-verdict : (sig : Signature) (table : List Variable) (m : ℕ) (owners : List ℕ) (s : Statement) {v : Outcome Scope}
+    → conclusionVerdict sig table m owners s ≡ some v → Differs v
 unfolding conclusionVerdict
 conclusion-verdict sig table m owners s {v} e = go (sharesModel m (parentModel sig (s .kind) (s .symbol))) e
   where
@@ -77,12 +84,14 @@ relation-verdict sig table m owners s (some p) {v} e = go (related sig m p) e
     go false e = inl (cc)
 
 -- A premise settles it so, or it is an Equality and 42.
-premise-verdict : (sig : Signature) (table : List Variable) (m : ℕ) (owners : List ℕ) (s : Statement) {v : Outcome Scope} → premiseVerdict sig table m owners s ≡ some v
+premise-verdict : (sig : Signature) (table : List Variable) (m : ℕ) (owners : List ℕ) (s : Statement) {v : Outcome Scope}
+    → premiseVerdict sig table m owners s ≡ some v
     → ((s .kind ≡ equality) × (v ≡ refused 42)) ⊎ Differs v
 unfolding premiseVerdict
 premise-verdict sig table m owners s {v} e = go (eqb (s .kind) equality) refl e
   where
-    go : (a : Bool) → eqb (s .kind) equality ≡ a → pick a (some (refused 42)) (relationVerdict sig table m owners s (parentModel sig (s .kind) (s .symbol))) ≡ some v
+    go : (a : Bool) → eqb (s .kind) equality ≡ a
+        → pick a (some (refused 42)) (relationVerdict sig table m owners s (parentModel sig (s .kind) (s .symbol))) ≡ some v
         → ((s .kind ≡ equality) × (v ≡ refused 42)) ⊎ Differs v
     go true p e = inl (eqb-true _ _ p, cc)
     go false p e = inr (relation-verdict sig table m owners s (parentModel sig (s .kind) (s .symbol)) e)
@@ -95,7 +104,8 @@ pub data RuleCase (sig : Signature) (r : FlatRule) (answer : Outcome Scope) : Ty
       → answer ≡ accepted (model m (take (ownerCount sig m) (s .variables))) → RuleCase sig r answer
 
 -- So it is where the first conclusion has a model, and for any rule.
-model-case : (sig : Signature) (table : List Variable) (r : FlatRule) (m : ℕ) (s : Statement) (ss : List Statement) → r .conclusion ≡ s ∷ ss → ownerCount sig m ≤ length (s .variables)
+model-case : (sig : Signature) (table : List Variable) (r : FlatRule) (m : ℕ) (s : Statement) (ss : List Statement) → r .conclusion ≡ s ∷ ss
+    → ownerCount sig m ≤ length (s .variables)
     → RuleCase sig r (modelScope sig table r m (take (ownerCount sig m) (s .variables)))
 unfolding modelScope
 model-case sig table r m s ss p few = go _ refl
@@ -103,8 +113,9 @@ model-case sig table r m s ss p few = go _ refl
     owners : List ℕ
     owners = take (ownerCount sig m) (s .variables)
 
-    go : (o : Option (Outcome Scope)) → orElse (firstOf (conclusionVerdict sig table m owners) (r .conclusion)) (firstOf (premiseVerdict sig table m owners) (r .premise)) ≡ o
-        → RuleCase sig r (settle o (accepted (model m owners)))
+    go : (o : Option (Outcome Scope))
+        → orElse (firstOf (conclusionVerdict sig table m owners) (r .conclusion)) (firstOf (premiseVerdict sig table m owners) (r .premise)) ≡ o
+        → RuleCase sig r (orDefault o (accepted (model m owners)))
     go none e = owned m s ss p few refl
     go (some v) e = ⊎-elim
         (λ q. let x = first-mem (conclusionVerdict sig table m owners) (r .conclusion) q in elsewhere (conclusion-verdict sig table m owners (x .0) (x .2)))
@@ -133,7 +144,8 @@ rule-case sig table r = go (r .conclusion) refl
 pub data ScopeCase (signature group : List ℕ) (position : ℕ) (answer : Outcome Scope) : Type 0 where
   unread : (n : ℕ) → Low n → answer ≡ refused n → ScopeCase signature group position answer
   absent : answer ≡ refused 41 → ScopeCase signature group position answer
-  present : (sig : Signature) (g : Group) (r : FlatRule) → readSignature signature ≡ accepted sig → readGroup sig group ≡ accepted g → getElem? (g .rules) position ≡ some r
+  present : (sig : Signature) (g : Group) (r : FlatRule) → readSignature signature ≡ accepted sig → readGroup sig group ≡ accepted g
+      → getElem? (g .rules) position ≡ some r
       → RuleCase sig r answer → ScopeCase signature group position answer
 
 -- Every answer is one of these.
@@ -141,19 +153,19 @@ pub scope-case : (signature group : List ℕ) (position : ℕ) → ScopeCase sig
 unfolding scopeOf inferScope
 scope-case signature group position = first (readSignature signature) refl
   where
-    third : (sig : Signature) (g : Group) (rs : List FlatRule) (i : ℕ) → readSignature signature ≡ accepted sig → readGroup sig group ≡ accepted g
-        → getElem? rs i ≡ getElem? (g .rules) position → ScopeCase signature group position (inferScope sig g rs i)
-    third sig g [] i p q e = absent refl
-    third sig g (r ∷ rs) zero p q e = present sig g r p q (sym e) (rule-case sig (g .variables) r)
-    third sig g (r ∷ rs) (suc i) p q e = third sig g rs i p q e
+    third : (sig : Signature) (g : Group) (o : Option FlatRule) → readSignature signature ≡ accepted sig → readGroup sig group ≡ accepted g
+        → getElem? (g .rules) position ≡ o → ScopeCase signature group position (inferScope sig g o)
+    third sig g none p q e = absent refl
+    third sig g (some r) p q e = present sig g r p q e (rule-case sig (g .variables) r)
 
     second : (sig : Signature) (o : Outcome Group) → readSignature signature ≡ accepted sig → readGroup sig group ≡ o
-        → ScopeCase signature group position (onAccepted o (λ (g : Group). inferScope sig g (g .rules) position))
+        → ScopeCase signature group position (onAccepted o (λ (g : Group). inferScope sig g (getElem? (g .rules) position)))
     second sig (refused n) p q = unread n (group-refusal sig group q) refl
-    second sig (accepted g) p q = third sig g (g .rules) position p q refl
+    second sig (accepted g) p q = third sig g (getElem? (g .rules) position) p q refl
 
     first : (o : Outcome Signature) → readSignature signature ≡ o
-        → ScopeCase signature group position (onAccepted o (λ (sig : Signature). onAccepted (readGroup sig group) (λ (g : Group). inferScope sig g (g .rules) position)))
+        → ScopeCase signature group position (onAccepted o (λ (sig : Signature).
+            onAccepted (readGroup sig group) (λ (g : Group). inferScope sig g (getElem? (g .rules) position))))
     first (refused n) p = unread n (signature-refusal signature p) refl
     first (accepted sig) p = second sig (readGroup sig group) p refl
 
@@ -224,7 +236,8 @@ rule-stands sig group position g r s ss p q c =
     let rules : each flatRuleOf (blocks letterU (groupPart group .fields)) ≡ g .rules = ap (λ (h : Group). h .rules) (group-read-of sig group p) in
     let b = getelem-each flatRuleOf (blocks letterU (groupPart group .fields)) position {b = r} (rw rules q) in
     let f = each-cons statementOf (withLetter letterH (b .0 .body)) {b = s} {bs = ss} (ap (λ (h : FlatRule). h .conclusion) (b .2) ∙ c) in
-    (f .0, f .3, rw add-one (conclusion-stands group (groupPart group .fields) position 0 (b .0) (f .0) (f .1) (b .1) (f .2) (fields-stand groupGrammar start group)))
+    let stand = fields-stand groupGrammar start group in
+    (f .0, f .3, rw add-one (conclusion-stands group (groupPart group .fields) position 0 (b .0) (f .0) (f .1) (b .1) (f .2) stand))
 
 -- A statement's first variables stand behind its kind and symbol.
 variables-stand : (f : Field) (rest : List ℕ) (count : ℕ) → 1 ≤ count → count ≤ length (statementOf f .variables)
@@ -236,7 +249,8 @@ variables-stand f rest count one few =
     let room : 3 + 2 * count ≤ length c = omega (arith, length-drop 1 c, length-drop 1 (numbers (drop 1 c)), length-numbers (drop 1 c)) in
     let held : 2 * count ≤ length (drop 3 c) = omega (arith, length-drop 3 c) in
     let three : 3 ≤ length c = omega arith in
-    let e : take (2 * count) (drop 3 (c ++ rest)) ≡ take (2 * count) (drop 3 c) = rw (drop-append-le 3 c rest three) (take-append-le (2 * count) (drop 3 c) rest held) in
+    let e : take (2 * count) (drop 3 (c ++ rest)) ≡ take (2 * count) (drop 3 c) =
+        rw (drop-append-le 3 c rest three) (take-append-le (2 * count) (drop 3 c) rest held) in
     let d : numbers (drop 3 c) ≡ drop 1 (numbers (drop 1 c)) = ap numbers (sym (drop-drop 2 1 c)) ∙ sym (drop-numbers 1 (drop 1 c)) in
     (rw (e, ← (take-numbers count (drop 3 c)), d), rw e (length-take-le (2 * count) (drop 3 c) held))
 

@@ -1,4 +1,5 @@
--- The theorems about flatten: what it writes, what it refuses with, and demand 3.
+-- The theorems about flatten: what it writes, what it refuses with, and demand 3. What it wrote is the group that the walk left (`Wrote`);
+-- that group is good since the walk keeps its state good, so it reads back as itself, and demand 3 is that state's.
 use Prim.Native.Nat.{ℕ, _≤_, _<_, min}
 use native.Mathlib.Omega.{arith}
 use mathlib.Core.Path.{_≡_, refl, ap, sym, _∙_}
@@ -18,7 +19,8 @@ use Rattle.definition.specs.Names.{variableAt}
 use Rattle.definition.specs.Walk.{State, Reached, structureAt, initialState, walkedKinds, walkOf}
 use Rattle.definition.specs.Writer.{groupBytesOf}
 use Rattle.definition.specs.Flatten.{groupLeft, fitted, flattenOf}
-use Rattle.definition.specs.Demands.{IsReached, Occurs, Bound, ExactKeys, NoTrailingDigit, endsInDigit, variablesAt, variableGot, printedName, DifferentNames, Demand3}
+use Rattle.definition.specs.Demands.{IsReached, Occurs, Bound, ExactKeys, NoTrailingDigit, endsInDigit, variablesAt, variableGot,
+    printedName, DifferentNames, Demand3}
 use Rattle.laws.specs.Sound.{SoundRule}
 use Rattle.theorems.proofs.Good.{GoodGroup}
 use Rattle.laws.proofs.Sound.{sound-signature}
@@ -45,7 +47,8 @@ fitted-is : (room : ℕ) (xs : List ℕ) {bytes : List ℕ} → fitted room xs �
 unfolding fitted
 fitted-is room xs {bytes} e = go (ltb (min room answerBytes) (length xs)) refl e
   where
-    go : (b : Bool) → ltb (min room answerBytes) (length xs) ≡ b → pick b (refused 31) (accepted xs) ≡ accepted bytes → (xs ≡ bytes) × (length xs ≤ min room answerBytes)
+    go : (b : Bool) → ltb (min room answerBytes) (length xs) ≡ b → pick b (refused 31) (accepted xs) ≡ accepted bytes
+        → (xs ≡ bytes) × (length xs ≤ min room answerBytes)
     go true q e = let z : _≡_ {A = ℕ} 0 1 = cc in absurd (omega arith)
     go false q e = (cc, ltb-false _ _ q)
 
@@ -56,7 +59,17 @@ wrote signature rule room e =
     let s = on-accepted (readSignature signature) _ e in let r = on-accepted (readRule (s .0) rule) _ (s .2) in
     let w = on-accepted (walkOf (s .0) (r .0)) _ (r .2) in let f = fitted-is room _ (w .2) in
     let l = ap length (f .0) in
-    record { sig = s .0; read = r .0; state = w .0; signature-is = s .1; rule-is = r .1; walk-is = w .1; bytes-are = f .0; in-room = omega (arith, f .1); in-answer = omega (arith, f .1) }
+    record {
+      sig = s .0;
+      read = r .0;
+      state = w .0;
+      signature-is = s .1;
+      rule-is = r .1;
+      walk-is = w .1;
+      bytes-are = f .0;
+      in-room = omega (arith, f .1);
+      in-answer = omega (arith, f .1);
+    }
 
 module _ (signature rule : List ℕ) (room : ℕ) {bytes : List ℕ} (w : Wrote signature rule room bytes) where
   sound : SoundRule (w .sig) (w .read)
@@ -134,11 +147,8 @@ module _ (signature rule : List ℕ) (room : ℕ) {bytes : List ℕ} (w : Wrote 
       let ne = walked .good .table-names _ be in let nd = walked .good .table-names _ bd in
       let few = variables-few in
       let p : nameOf t (s .0 .variables) e ≡ nameOf t (s .0 .variables) d = sym (printed-is t e (s .1)) ∙ q ∙ printed-is t d (s .1) in
-      g .distinct e d i j (name-tells (ne .0) (nd .0) _ _ (omega arith) (omega arith) (base-plain h (ne .0) (ne .1)) (base-plain h (nd .0) (nd .1)) (sym (ne .2) ∙ p ∙ nd .2))
-
--- A read record is one.
-accepted-one : {A : Type 0} {o : Outcome A} {a b : A} → o ≡ accepted a → o ≡ accepted b → a ≡ b
-accepted-one p q = cc
+      g .distinct e d i j
+          (name-tells (ne .0) (nd .0) _ _ (omega arith) (omega arith) (base-plain h (ne .0) (ne .1)) (base-plain h (nd .0) (nd .1)) (sym (ne .2) ∙ p ∙ nd .2))
 
 left-rules : (r : Rule) (state : State) {f : FlatRule} → f ∈ groupLeft r state .rules → f ∈ state .rules
 unfolding groupLeft
@@ -146,23 +156,15 @@ left-rules r state m = m
 
 -- Demand 3, whole.
 pub demand-3 : (signature rule : List ℕ) (room : ℕ) {bytes : List ℕ} → flattenOf signature rule room ≡ accepted bytes → Demand3 signature rule bytes
-demand-3 signature rule room {bytes} e = record { bound = bound; names = names }
-  where
-    w : Wrote signature rule room bytes
-    w = wrote signature rule room e
-    bound : (sig : Signature) (r : Rule) (g : Group)
-        → readSignature signature ≡ accepted sig → readRule sig rule ≡ accepted r → readGroup sig bytes ≡ accepted g
-        → ExactKeys r → (f : FlatRule) → f ∈ g .rules → Bound f
-    bound sig r g a b c keys f m =
-        let s : sig ≡ w .sig = accepted-one a (w .signature-is) in
-        let q : g ≡ groupLeft (w .read) (w .state) = accepted-one (rw s at c) (reads-back signature rule room w) in
-        rules-bound signature rule room w f (left-rules (w .read) (w .state) (rw q at m))
-    names : (sig : Signature) (r : Rule) (g : Group) (state : State)
-        → readSignature signature ≡ accepted sig → readRule sig rule ≡ accepted r → readGroup sig bytes ≡ accepted g → walkOf sig r ≡ accepted state
-        → ExactKeys r → NoTrailingDigit r → DifferentNames r state g
-    names sig r g state a b c d keys plain =
-        let s : sig ≡ w .sig = accepted-one a (w .signature-is) in
-        let q : g ≡ groupLeft (w .read) (w .state) = accepted-one (rw s at c) (reads-back signature rule room w) in
-        let u : r ≡ w .read = accepted-one (rw s at b) (w .rule-is) in
-        let t : state ≡ w .state = accepted-one (rw (s, u) at d) (w .walk-is) in
-        rw (u, t, q) (names-differ signature rule room w (rw u at plain))
+demand-3 signature rule room {bytes} e = let w = wrote signature rule room e in record {
+    sig = w .sig;
+    read = w .read;
+    state = w .state;
+    group = groupLeft (w .read) (w .state);
+    signature-is = w .signature-is;
+    rule-is = w .rule-is;
+    walk-is = w .walk-is;
+    group-is = reads-back signature rule room w;
+    bound = λ keys f m. rules-bound signature rule room w f (left-rules (w .read) (w .state) m);
+    names = λ keys plain. names-differ signature rule room w plain;
+  }

@@ -1,4 +1,6 @@
--- What the walk keeps of its state.
+-- What the walk keeps of its state (`StateGood`): its variables are good and print as a base and their number; its rules are good and
+-- bound; in each reached structure every element's variable occurs in the statements, and different elements have different variables
+-- (`SlotGood`). Reaching one more structure keeps all of it (`reach-good`), and it holds at the start (`initial-good`).
 use Prim.Native.Nat.{ℕ, zero, suc, _+_, _-_, _*_, _≤_, _<_}
 use native.Mathlib.Omega.{arith}
 use native.Mathlib.Decide.{ℕ-discrete, decLt}
@@ -20,7 +22,8 @@ use Rattle.definition.specs.Records.{badName}
 use Rattle.definition.specs.Names.{decimal, numbersOf, variableAt, nameFor, el, baseName, numbered, newVariable, newVariables}
 use Rattle.definition.specs.Rows.{rowsOf, rowStatement, typeSets}
 use Rattle.definition.specs.Kinds.{Side, variableIn, Emitted, Step, initialStatements}
-use Rattle.definition.specs.Walk.{State, Reached, structureAt, noStructure, groupName, anonymousRule, namedRules, sideOf, reach, untouched, nothingTaken, initialState}
+use Rattle.definition.specs.Walk.{State, Reached, structureAt, noStructure, groupName, anonymousRule, namedRules, sideOf, reach, untouched,
+    nothingTaken, initialState}
 use Rattle.definition.specs.Demands.{Occurs, Bound}
 use Rattle.laws.proofs.Lists.{bool-cases, keep-mem, mem-each, each-mem, length-each, first-mem, picked, mem-at}
 use Rattle.laws.specs.Numbering.{fresh}
@@ -36,7 +39,8 @@ use Rattle.laws.proofs.ByteForm.{named-length}
 
 -- A base of names: `el`, or a V or I name of a structure.
 abbrev pub BaseOf : Rule → List ℕ → Type 0
-BaseOf rule base = (base ≡ el) ⊎ ((st : Structure) × (st ∈ rule .structures) × (n : Name) × ((n ∈ st .variableNames) ⊎ (n ∈ st .identifierNames)) × (base ≡ n .name))
+BaseOf rule base =
+    (base ≡ el) ⊎ ((st : Structure) × (st ∈ rule .structures) × (n : Name) × ((n ∈ st .variableNames) ⊎ (n ∈ st .identifierNames)) × (base ≡ n .name))
 
 -- A reached structure, over so many variables.
 pub record SlotGood (sig : Signature) (rule : Rule) (count t : ℕ) (r : Reached) : Type 0 where
@@ -59,14 +63,16 @@ pub record StateGood (sig : Signature) (rule : Rule) (state : State) : Type 0 wh
   pub slots-long : length (state .slots) ≡ length (rule .structures)
   pub slots-good : (t : ℕ) (r : Reached) → getD (state .slots) t none ≡ some r → SlotGood sig rule (length (state .variables)) t r
   pub table-good : (v : Variable) → v ∈ state .variables → GoodVariable sig v
-  pub table-names : (i : ℕ) → i < length (state .variables) → (base : List ℕ) × BaseOf rule base × (getD (state .variables) i noVariable .name ≡ base ++ decimal i)
+  pub table-names : (i : ℕ) → i < length (state .variables)
+      → (base : List ℕ) × BaseOf rule base × (getD (state .variables) i noVariable .name ≡ base ++ decimal i)
   pub rules-good : (f : FlatRule) → f ∈ state .rules → GoodRule sig (length (state .variables)) f
   pub rules-bound : (f : FlatRule) → f ∈ state .rules → Bound f
   pub variables-few : length (state .variables) ≤ fieldLimit * reachedCount (state .slots)
   pub rules-few : length (state .rules) ≤ reachedCount (state .slots)
 
 -- More variables leave good what was good.
-pub statement-more : {sig : Signature} {kinds : List ℕ} {count more : ℕ} {s : Statement} → GoodStatement sig kinds count s → count ≤ more → GoodStatement sig kinds more s
+pub statement-more : {sig : Signature} {kinds : List ℕ} {count more : ℕ} {s : Statement} → GoodStatement sig kinds count s → count ≤ more
+    → GoodStatement sig kinds more s
 statement-more g h = record {
     kind-in = g .kind-in;
     symbol-in = g .symbol-in;
@@ -94,7 +100,8 @@ some-one : {A : Type 0} {a b : A} → some a ≡ some b → a ≡ b
 some-one e = cc
 
 -- Reaching a structure counts one more.
-reached-more : (xs : List (Option Reached)) (t : ℕ) (r : Reached) → t < length xs → getD xs t none ≡ none → reachedCount (set xs t (some r)) ≡ 1 + reachedCount xs
+reached-more : (xs : List (Option Reached)) (t : ℕ) (r : Reached) → t < length xs → getD xs t none ≡ none
+    → reachedCount (set xs t (some r)) ≡ 1 + reachedCount xs
 unfolding reachedCount
 reached-more [] t r h e = absurd (omega arith)
 reached-more (none ∷ xs) zero r h e = refl
@@ -130,11 +137,15 @@ base-fine sig rule sound base (inr w) =
     let h : badName 1 nameBytes (w .2 .name) ≡ false = ⊎-elim (λ a. s .variables-sound (w .2) a) (λ b. s .identifiers-sound (w .2) b) (w .3) in
     rw (w .4) (fine 1 nameBytes (w .2 .name) h)
 
-new-good : (sig : Signature) (rule : Rule) → SoundRule sig rule → (st : Structure) → st ∈ rule .structures → (k : ℕ) (e : Element) → e ∈ st .elements → GoodVariable sig (newVariable st k e)
+new-good : (sig : Signature) (rule : Rule) → SoundRule sig rule → (st : Structure) → st ∈ rule .structures → (k : ℕ) (e : Element) → e ∈ st .elements
+    → GoodVariable sig (newVariable st k e)
 unfolding newVariable
 new-good sig rule sound st m k e i = record {
     type-in = sound .structures-sound st m .elements-sound e i .type-in;
-    name-good = not-bad 1 groupNameBytes _ (fine-within _ (fine-append (baseName st (e .number)) (decimal k) (base-fine sig rule sound _ (base-in rule st m (e .number))) (fine-decimal k)) (omega arith) (omega arith));
+    name-good =
+        let base = base-fine sig rule sound _ (base-in rule st m (e .number)) in
+        let whole = fine-append (baseName st (e .number)) (decimal k) base (fine-decimal k) in
+        not-bad 1 groupNameBytes _ (fine-within _ whole (omega arith) (omega arith));
   }
 
 group-fine : (sig : Signature) (rule : Rule) → SoundRule sig rule → Fine 1 nameBytes (groupName rule)
@@ -142,7 +153,9 @@ unfolding groupName badName all
 group-fine sig rule sound = go (rule .name) (fine 0 nameBytes (rule .name) (sound .name-sound))
   where
     go : (name : List ℕ) → Fine 0 nameBytes name → Fine 1 nameBytes (pick (empty name) (anonymousRule ++ decimal (rule .index)) name)
-    go [] f = fine-within _ (fine-append anonymousRule (decimal (rule .index)) (fine 1 15 anonymousRule refl) (fine-decimal (rule .index))) (omega arith) (omega arith)
+    go [] f =
+        fine-within _ (fine-append anonymousRule (decimal (rule .index)) (fine 1 15 anonymousRule refl) (fine-decimal (rule .index))) (omega arith)
+            (omega arith)
     go (x ∷ xs) f = record { long = omega arith; short = f .short; bytes = f .bytes }
 
 pub group-name-good : (sig : Signature) (rule : Rule) → SoundRule sig rule → GoodName (groupName rule)
@@ -158,9 +171,10 @@ named-mem group count (e ∷ es) m = ⊎-elim (λ q. (e, List·Memᴰ·head refl
 
 rule-name-good : (sig : Signature) (rule : Rule) → SoundRule sig rule → (k : ℕ) → GoodName (groupName rule ++ (underscore ∷ decimal k))
 unfolding badName all
-rule-name-good sig rule sound k = not-bad 1 groupNameBytes _ (fine-within _
-    (fine-append (groupName rule) ((underscore ∷ []) ++ decimal k) (group-fine sig rule sound) (fine-append (underscore ∷ []) (decimal k) (fine 1 1 (underscore ∷ []) refl) (fine-decimal k)))
-    (omega arith) (omega arith))
+rule-name-good sig rule sound k =
+    let counted = fine-append (underscore ∷ []) (decimal k) (fine 1 1 (underscore ∷ []) refl) (fine-decimal k) in
+    let whole = fine-append (groupName rule) ((underscore ∷ []) ++ decimal k) (group-fine sig rule sound) counted in
+    not-bad 1 groupNameBytes _ (fine-within _ whole (omega arith) (omega arith))
 
 -- What elements may take over: variables given out, none twice.
 pub record Taken (rule : Rule) (state : State) (t : ℕ) (taken : ℕ → Option ℕ) : Type 0 where
@@ -168,7 +182,8 @@ pub record Taken (rule : Rule) (state : State) (t : ℕ) (taken : ℕ → Option
   pub taken-once : (e d v : ℕ) → e ∈ numbersOf (structureAt rule t) → d ∈ numbersOf (structureAt rule t) → taken e ≡ some v → taken d ≡ some v → e ≡ d
 
 -- Reaching a structure keeps the state good.
-module _ (sig : Signature) (rule : Rule) (sound : SoundRule sig rule) (state : State) (good : StateGood sig rule state) (t : ℕ) (inside : t < length (rule .structures))
+module _ (sig : Signature) (rule : Rule) (sound : SoundRule sig rule) (state : State) (good : StateGood sig rule state) (t : ℕ)
+    (inside : t < length (rule .structures))
     (taken : ℕ → Option ℕ) (known : Taken rule state t taken) where
   abbrev st : Structure
   st = structureAt rule t
@@ -205,8 +220,16 @@ module _ (sig : Signature) (rule : Rule) (sound : SoundRule sig rule) (state : S
       go : (a : Option ℕ) → taken e ≡ a → (b : Option ℕ) → taken d ≡ b → e ≡ d
       go (some v) p (some w) q =
           let x : v ≡ w = sym (variable-taken st next taken e m p) ∙ h ∙ variable-taken st next taken d k q in known .taken-once e d v m k p (rw x q)
-      go (some v) p none q = let x = variable-taken st next taken e m p in let y = variable-new st next taken d k q in let b = known .taken-below e v m p in absurd (omega (arith, y .0))
-      go none p (some w) q = let x = variable-taken st next taken d k q in let y = variable-new st next taken e m p in let b = known .taken-below d w k q in absurd (omega (arith, y .0))
+      go (some v) p none q =
+          let x = variable-taken st next taken e m p in
+          let y = variable-new st next taken d k q in
+          let b = known .taken-below e v m p in
+          absurd (omega (arith, y .0))
+      go none p (some w) q =
+          let x = variable-taken st next taken d k q in
+          let y = variable-new st next taken e m p in
+          let b = known .taken-below d w k q in
+          absurd (omega (arith, y .0))
       go none p none q = new-differ st next taken e d m k p q h
 
   module _ (fits : getD (state .slots) t none ≡ none) (step : Step) (done : StepGood sig (sideOf st next taking) countOf step) where
@@ -229,24 +252,29 @@ module _ (sig : Signature) (rule : Rule) (sound : SoundRule sig rule) (state : S
         new = record { variables = numbered next taking; statements = step .statements }
         go : Dec (u ≡ t) → SlotGood sig rule countOf u r
         go (yes q) =
-            let s : getD (set (state .slots) t (some new)) t none ≡ some new = getD-set-same (state .slots) t (some new) none (omega (arith, good .slots-long)) in
+            let s : getD (set (state .slots) t (some new)) t none ≡ some new =
+                getD-set-same (state .slots) t (some new) none (omega (arith, good .slots-long)) in
             let w : new ≡ r = some-one (sym s ∙ (rw q at h)) in rw (q, ← w) slot-good
         go (no q) = slot-more (good .slots-good u r (sym (getD-set-other (state .slots) t u (some new) none q) ∙ h)) (omega arith)
 
     abbrev newOnes : List Variable
     newOnes = newVariables st next (st .elements) taking
 
-    name-new : (k : ℕ) → k < length newOnes → (base : List ℕ) × BaseOf rule base × (getD (state .variables ++ newOnes) (next + k) noVariable .name ≡ base ++ decimal (next + k))
+    name-new : (k : ℕ) → k < length newOnes
+        → (base : List ℕ) × BaseOf rule base × (getD (state .variables ++ newOnes) (next + k) noVariable .name ≡ base ++ decimal (next + k))
     unfolding newVariable
     name-new k h = let r = new-at st next (st .elements) taking k h noVariable in
-        (baseName st (r .0 .number), base-in rule st st-in (r .0 .number), ap (λ (v : Variable). v .name) (getD-append-add (state .variables) newOnes k noVariable ∙ r .2))
+        let same = getD-append-add (state .variables) newOnes k noVariable ∙ r .2 in
+        (baseName st (r .0 .number), base-in rule st st-in (r .0 .number), ap (λ (v : Variable). v .name) same)
 
     table-after : (i : ℕ) → i < countOf → (base : List ℕ) × BaseOf rule base × (getD (after .variables) i noVariable .name ≡ base ++ decimal i)
     unfolding reach
     table-after i h = go (decLt i next)
       where
         go : Dec (i < next) → (base : List ℕ) × BaseOf rule base × (getD (state .variables ++ newOnes) i noVariable .name ≡ base ++ decimal i)
-        go (yes b) = let r = good .table-names i b in (r .0, r .1, ap (λ (v : Variable). v .name) (List·getD-append (state .variables) newOnes noVariable i b) ∙ r .2)
+        go (yes b) =
+            let r = good .table-names i b in
+            (r .0, r .1, ap (λ (v : Variable). v .name) (List·getD-append (state .variables) newOnes noVariable i b) ∙ r .2)
         go (no b) = let k : next + (i - next) ≡ i = omega arith in rw k at (name-new (i - next) (omega (arith, new-count)))
 
     pub reach-good : StateGood sig rule after
@@ -267,7 +295,9 @@ module _ (sig : Signature) (rule : Rule) (sound : SoundRule sig rule) (state : S
             (List·Memᴰ·append-cases (state .rules) m);
         variables-few = rw (after-count, reached-more (state .slots) t _ (omega (arith, good .slots-long)) fits)
             (omega (arith, good .variables-few, fresh-few taking, taking-long, sound .structures-sound st st-in .elements-few));
-        rules-few = rw (length-append, named-length, reached-more (state .slots) t _ (omega (arith, good .slots-long)) fits) (omega (arith, good .rules-few, done .emitted-few));
+        rules-few =
+            rw (length-append, named-length, reached-more (state .slots) t _ (omega (arith, good .slots-long)) fits)
+                (omega (arith, good .rules-few, done .emitted-few));
       }
 
 -- Nothing reached, nothing wrong.
@@ -344,7 +374,9 @@ module _ (sig : Signature) (rule : Rule) (sound : SoundRule sig rule) where
 
   pub initial-good : StateGood sig rule (initialState rule)
   unfolding initialState sideOf
-  initial-good = rw taking-none (reach-good sig rule sound (untouched rule) (untouched-good sig rule) 0 (sound .structures-some) takesNone none-known (none-at (rule .structures) 0)
+  initial-good =
+      rw taking-none
+          (reach-good sig rule sound (untouched rule) (untouched-good sig rule) 0 (sound .structures-some) takesNone none-known (none-at (rule .structures) 0)
       (record { statements = initialStatements firstSide; emitted = [] })
       record {
         statements-good = first-statements;

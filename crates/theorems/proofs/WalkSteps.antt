@@ -1,4 +1,5 @@
--- The walk over all its maps keeps the state good, and reaches every target.
+-- The walk over all its maps keeps the state good, and reaches every target. One map's facts come from the state before it and from the
+-- rule's soundness (`map-good`, by StepLaws); the fold over the walked kinds only hands the state on.
 use Prim.Native.Nat.{ℕ, zero, suc, _+_, _≤_, _<_}
 use native.Mathlib.Omega.{arith}
 use native.Mathlib.Decide.{ℕ-discrete}
@@ -18,7 +19,8 @@ use Rattle.definition.specs.Group.{Variable}
 use Rattle.definition.specs.Names.{numbersOf, variableAt, carriedKey, overMap, carried, numbered}
 use Rattle.definition.specs.Rows.{inImage}
 use Rattle.definition.specs.Kinds.{Step, typeIn, mapStep}
-use Rattle.definition.specs.Walk.{State, Reached, structureAt, noStructure, mapOfPair, pairsBetween, ofPair, completed, walkedKinds, sideOf, reach, takenOver, walkMap, walkFrom, walkOf, initialState, unmappedAuxiliary, unmappedKind}
+use Rattle.definition.specs.Walk.{State, Reached, structureAt, noStructure, mapOfPair, pairsBetween, ofPair, completed, walkedKinds,
+    sideOf, reach, takenOver, walkMap, walkFrom, walkOf, initialState, unmappedAuxiliary, unmappedKind}
 use Rattle.laws.proofs.Lists.{and-left, and-right, and-true, never, mem-keep, keep-mem, mem-joined, joined-mem, first-mem, picked, length-each, mem-at}
 use Rattle.laws.specs.Sound.{SoundRule}
 use Rattle.theorems.proofs.Good.{GoodVariable}
@@ -45,7 +47,8 @@ pairs-good sig rule sound s t = go (pairsBetween (rule .maps) s t) refl
         record { keys-in = λ p i. rw b at (m .keys-in p (rw (q .1) i)); keys-ascend = rw (q .1) at (m .keys-ascend) }
 
 -- The types of the variables given out.
-table-type : (sig : Signature) (table : List Variable) → ((v : Variable) → v ∈ table → GoodVariable sig v) → (v : ℕ) → v < length table → typeIn table v < length (sig .types)
+table-type : (sig : Signature) (table : List Variable) → ((v : Variable) → v ∈ table → GoodVariable sig v) → (v : ℕ) → v < length table
+    → typeIn table v < length (sig .types)
 unfolding typeIn
 table-type sig table h v b = h _ (mem-at table v _ b) .type-in
 
@@ -90,7 +93,6 @@ module _ (sig : Signature) (rule : Rule) (sound : SoundRule sig rule) (state : S
       (sideOf tgt (length (state .variables)) (each taken (numbersOf tgt))) pairs (source .statements) count
   unfolding sideOf
   facts = record {
-      source-sound = sound .structures-sound src (mem-at (rule .structures) (k .source) noStructure source-in);
       target-sound = sound .structures-sound tgt (mem-at (rule .structures) (k .target) noStructure target-in);
       keys-in = fit .keys-in;
       table-below = omega arith;
@@ -103,14 +105,17 @@ module _ (sig : Signature) (rule : Rule) (sound : SoundRule sig rule) (state : S
     }
     where
       image-carried : (e : ℕ) → e ∈ numbersOf tgt → inImage pairs e ≡ true
-          → (key : ℕ) × (key ∈ numbersOf src) × (variableAt tgt (numbered (length (state .variables)) (each taken (numbersOf tgt))) e ≡ variableAt src (source .variables) key)
+          → (key : ℕ) × (key ∈ numbersOf src)
+          × (variableAt tgt (numbered (length (state .variables)) (each taken (numbersOf tgt))) e ≡ variableAt src (source .variables) key)
       image-carried e m h = go (carriedKey pairs e) refl
         where
           go : (o : Option ℕ) → carriedKey pairs e ≡ o
-              → (key : ℕ) × (key ∈ numbersOf src) × (variableAt tgt (numbered (length (state .variables)) (each taken (numbersOf tgt))) e ≡ variableAt src (source .variables) key)
+              → (key : ℕ) × (key ∈ numbersOf src)
+              × (variableAt tgt (numbered (length (state .variables)) (each taken (numbersOf tgt))) e ≡ variableAt src (source .variables) key)
           go none q = never h (not-carried pairs e q)
           go (some key) q = let r = carried-pair pairs e q in
-              (key, Memᴰ·cast (r .2) (fit .keys-in (r .0) (r .1)), variable-taken tgt (length (state .variables)) taken e m (ap (overMap (variableAt src (source .variables))) q))
+              let v = variable-taken tgt (length (state .variables)) taken e m (ap (overMap (variableAt src (source .variables))) q) in
+              (key, Memᴰ·cast (r .2) (fit .keys-in (r .0) (r .1)), v)
 
   -- The map's step leads to a good state.
   pub map-good : (step : Step)
@@ -139,7 +144,8 @@ unfolding walkMap
 map-accepted sig rule state k pairs none b e = let z : _≡_ {A = ℕ} 0 1 = cc in absurd (omega arith)
 map-accepted sig rule state k pairs (some source) (some r) e = let z : _≡_ {A = ℕ} 0 1 = cc in absurd (omega arith)
 map-accepted sig rule state k pairs (some source) none {next} e =
-    let r = on-accepted (stepOf sig rule state k pairs source) (λ (step : Step). accepted (reach rule state (k .target) (takenOver rule k pairs source) step)) e in
+    let r =
+        on-accepted (stepOf sig rule state k pairs source) (λ (step : Step). accepted (reach rule state (k .target) (takenOver rule k pairs source) step)) e in
     (source, refl, refl, r .0, r .1, accepted-one (r .2))
   where
     accepted-one : {x : State} → accepted x ≡ accepted next → x ≡ next
@@ -149,9 +155,11 @@ map-accepted sig rule state k pairs (some source) none {next} e =
 abbrev pub Still : State → State → Type 0
 Still before after = (t : ℕ) (r : Reached) → getD (before .slots) t none ≡ some r → getD (after .slots) t none ≡ some r
 
-still-reach : (rule : Rule) (state : State) (t : ℕ) (taken : List (Option ℕ)) (step : Step) → getD (state .slots) t none ≡ none → Still state (reach rule state t taken step)
+still-reach : (rule : Rule) (state : State) (t : ℕ) (taken : List (Option ℕ)) (step : Step) → getD (state .slots) t none ≡ none
+    → Still state (reach rule state t taken step)
 unfolding reach
-still-reach rule state t taken step fits u r h = getD-set-other (state .slots) t u _ none (λ q. let z : _≡_ {A = ℕ} 0 1 = clash (sym fits ∙ (rw q at h)) in absurd (omega arith)) ∙ h
+still-reach rule state t taken step fits u r h =
+    getD-set-other (state .slots) t u _ none (λ q. let z : _≡_ {A = ℕ} 0 1 = clash (sym fits ∙ (rw q at h)) in absurd (omega arith)) ∙ h
   where
     clash : none ≡ some r → _≡_ {A = ℕ} 0 1
     clash e = cc
@@ -183,7 +191,9 @@ walk-good sig rule sound (k ∷ ks) ins state good {final} e =
         (λ (next : State). walkFrom sig rule next ks) e in
     let m = map-accepted sig rule state k (pairsOf rule k) _ _ (o .1) in
     let b = ins k (List·Memᴰ·head refl) in
-    let g : StateGood sig rule (o .0) = rw (← (m .5)) (map-good sig rule sound state good k (b .0) (b .1) (pairsOf rule k) (pairs-good sig rule sound (k .source) (k .target)) (m .0) (m .1) (m .2) (m .3) (m .4)) in
+    let g : StateGood sig rule (o .0) =
+        let fit = pairs-good sig rule sound (k .source) (k .target) in
+        rw (← (m .5)) (map-good sig rule sound state good k (b .0) (b .1) (pairsOf rule k) fit (m .0) (m .1) (m .2) (m .3) (m .4)) in
     let w = walk-good sig rule sound ks (λ j i. ins j (List·Memᴰ·tail i)) (o .0) g (o .2) in
     let s : Still state (o .0) = rw (← (m .5)) (still-reach rule state (k .target) _ (m .3) (m .2)) in
     record {
@@ -228,7 +238,8 @@ module _ (rule : Rule) where
 
   pub walked-mem : (k : Kind) → k ∈ all → Inside rule k → k ∈ walkedKinds rule
   unfolding walkedKinds
-  walked-mem k m h = joined-mem (λ (t : ℕ). joined (λ (s : ℕ). keep (ofPair s t) all) places) places (span-mem _ 0 (k .target) (omega arith) (omega (arith, h .1)))
+  walked-mem k m h =
+      joined-mem (λ (t : ℕ). joined (λ (s : ℕ). keep (ofPair s t) all) places) places (span-mem _ 0 (k .target) (omega arith) (omega (arith, h .1)))
       (joined-mem (λ (s : ℕ). keep (ofPair s (k .target)) all) places (span-mem _ 0 (k .source) (omega arith) (omega (arith, h .0)))
         (keep-mem (ofPair (k .source) (k .target)) all m (and-true _ _ (eq-eqb (k .source) (k .source) refl) (eq-eqb (k .target) (k .target) refl))))
 

@@ -15,7 +15,8 @@ use Rattle.laws.specs.KindTable.{kindsOf, Once}
 use Rattle.walk.specs.Tables.{Tables, unreached, sourceAt, kindOn, pairsOn}
 use Rattle.walk.specs.Walks.{Walking}
 use Rattle.walk.specs.Left.{into, leftOf, left, Going}
-use Rattle.walk.specs.Went.{Met, wholeWalk}
+use Rattle.walk.specs.Went.{Met, GoingTo, wholeWalk}
+use Rattle.walk.specs.declared.walk.Visit.{Visit}
 use Rattle.walk.proofs.Reaching.{news-none, emitted-none}
 use Rattle.walk.proofs.Mapping.{kindFrom, walked}
 
@@ -38,7 +39,8 @@ all-of s (suc n) h = let z : suc n - 0 ≡ suc n = omega arith in rw z
 
 pub left-all : (s : List ℕ) → Once (ruleAt s .kinds) → 1 ≤ length (ruleAt s .structures) → walkedKinds (ruleAt s) ≡ left s 0 0
 unfolding kindOn
-left-all s once h = let z : length (ruleAt s .structures) - 0 ≡ length (ruleAt s .structures) = omega arith in walked-table (ruleAt s) once ∙ all-of s (length (ruleAt s .structures)) h ∙ rw z
+left-all s once h = let z : length (ruleAt s .structures) - 0 ≡ length (ruleAt s .structures) = omega arith in
+    walked-table (ruleAt s) once ∙ all-of s (length (ruleAt s .structures)) h ∙ rw z
 
 -- One source on.
 into-on : (s : List ℕ) (n t u : ℕ) → u < n → into s n t u ≡ kindsOf u t (kindOn s u t) ++ into s n t (suc u)
@@ -49,7 +51,8 @@ of-on : (s : List ℕ) (n k t u : ℕ) → u < n → leftOf s n (suc k) t u ≡ 
 unfolding leftOf
 of-on s n k t u h = rw (into-on s n t u h, append-assoc)
 
-pub left-on : (s : List ℕ) (t u : ℕ) → t < length (ruleAt s .structures) → u < length (ruleAt s .structures) → left s t u ≡ kindsOf u t (kindOn s u t) ++ left s t (suc u)
+pub left-on : (s : List ℕ) (t u : ℕ) → t < length (ruleAt s .structures) → u < length (ruleAt s .structures)
+    → left s t u ≡ kindsOf u t (kindOn s u t) ++ left s t (suc u)
 left-on s t u h l =
     let n : ℕ = length (ruleAt s .structures) in
     let e : n - t ≡ suc (n - suc t) = omega arith in
@@ -91,18 +94,25 @@ module _ {sig : Signature} {s types : List ℕ} {tb : Tables} {next t u : ℕ} (
   }
 
 -- The map of a kind.
-module _ {sig : Signature} {s types : List ℕ} {tb : Tables} {next t u number : ℕ} (g : Going sig s tb types next t u) (met : Met s u t number) where
-  whole-is : wholeWalk sig s ≡ onAccepted (walked sig s (g .state) u t (met .kind)) (λ (next : State). walkFrom sig (ruleAt s) next (left s t (suc u)))
-  whole-is = g .rest ∙ ap (walkFrom sig (ruleAt s) (g .state)) (left-on s t u (met .target-in) (met .source-in) ∙ rw (met .on))
-      ∙ walk-on sig s (g .state) u t (met .kind) (left s t (suc u))
+module _ {sig : Signature} {s index types : List ℕ} {tb : Tables} {v : Visit} (g : GoingTo sig s tb types v) (met : Met s index v) where
+  abbrev source : ℕ
+  source = v .morphism .source
+
+  abbrev target : ℕ
+  target = v .morphism .target
+
+  whole-is : wholeWalk sig s ≡ onAccepted (walked sig s (g .state) source target (met .kind)) (λ (next : State). walkFrom sig (ruleAt s) next (left s
+      target (suc source)))
+  whole-is = g .rest ∙ ap (walkFrom sig (ruleAt s) (g .state)) (left-on s target source (met .target-in) (met .source-in) ∙ rw (met .on))
+      ∙ walk-on sig s (g .state) source target (met .kind) (left s target (suc source))
 
   -- A refusal ends the walk.
-  pub stop : {n : ℕ} → walked sig s (g .state) u t (met .kind) ≡ refused n → wholeWalk sig s ≡ refused n
+  pub stop : {n : ℕ} → walked sig s (g .state) source target (met .kind) ≡ refused n → wholeWalk sig s ≡ refused n
   stop r = whole-is ∙ rw r
 
   -- A structure is reached.
-  pub go-on : {tb′ : Tables} {types′ : List ℕ} {next′ : ℕ} {state′ : State} → walked sig s (g .state) u t (met .kind) ≡ accepted state′
-      → Walking sig s tb′ types′ next′ t state′ → Going sig s tb′ types′ next′ t (suc u)
+  pub go-on : {tb′ : Tables} {types′ : List ℕ} {next′ : ℕ} {state′ : State} → walked sig s (g .state) source target (met .kind) ≡ accepted state′
+      → Walking sig s tb′ types′ next′ target state′ → Going sig s tb′ types′ next′ target (suc source)
   go-on {state′ = state′} r w = record { state = state′; walking = w; rest = whole-is ∙ rw r }
 
 -- The next target: nothing has reached it yet.

@@ -15,7 +15,8 @@ use Rattle.laws.proofs.Lists.{mem-each}
 use Rattle.laws.proofs.Fibers.{kernel-in}
 use Rattle.rule.specs.Structures.{structureIn}
 use Rattle.naming.specs.Variables.{GivenOut}
-use Rattle.walk.specs.Tables.{Tables, unreached, sourceAt, rowAt, masksOf, masksAt, mergedAt, pairsOn, Keyed, reachedBy, equalitiesAt, saidAt, domainsAt, ownAt, concludedAt, statementsOf, statementsAt, before, maskIn}
+use Rattle.walk.specs.Tables.{Tables, unreached, sourceAt, rowAt, masksOf, masksAt, mergedAt, pairsOn, Keyed, reachedBy, equalitiesAt, saidAt}
+use Rattle.walk.specs.Tables.{domainsAt, ownAt, concludedAt, statementsOf, statementsAt, before, maskIn}
 use Rattle.flags.specs.Flags.{Held}
 use Rattle.laws.proofs.Choices.{each-alike}
 
@@ -25,11 +26,12 @@ unfolding typeIn
 type-stays table news v h = ap (λ (x : Variable). x .type) (List·getD-append table news (record { type = 0; name = [] }) v h)
 
 -- Equalities stay.
-pub equalities-stay : (sig : Signature) (table news : List Variable) (source target : Side) (pairs : List Pair) → ((p : Pair) → p ∈ pairs → variableIn source (p .key) < length table)
-    → equalities sig (table ++ news) source target pairs ≡ equalities sig table source target pairs
+pub equalities-stay : (sig : Signature) (table news : List Variable) (source target : Side) (pairs : List Pair)
+    → ((p : Pair) → p ∈ pairs → variableIn source (p .key) < length table)
+    → equalities (table ++ news) source target pairs ≡ equalities table source target pairs
 unfolding equalities kernelVariables
 equalities-stay sig table news source target pairs h =
-    each-alike _ _ (kernelVariables sig table source target pairs)
+    each-alike _ _ (kernelVariables source target pairs)
     (λ p m.
         let r = mem-each (λ (q : Pair). record { key = variableIn source (q .key); image = variableIn source (q .image) }) _ m in
         let k = kernel-in pairs (target .structure) (r .1) in
@@ -75,7 +77,8 @@ module _ (tb : Tables) (t u : ℕ) (ms : List Held) (row : List ℕ) where
   merged-same h = ap (λ (r : List Held). maskIn r 4) (getD-set-same (tb .masks) t ms [] h)
 
 -- A structure reached before stays as it was.
-module _ (sig : Signature) (s : List ℕ) (keyed : Keyed s) (table news : List Variable) (tb : Tables) (t u : ℕ) (ms : List Held) (row : List ℕ) (k : ℕ) (d : k ≡ t → ⊥) (e : sourceAt tb k ≡ t → ⊥)
+module _ (sig : Signature) (s : List ℕ) (keyed : Keyed s) (table news : List Variable) (tb : Tables) (t u : ℕ) (ms : List Held) (row : List ℕ) (k : ℕ)
+    (d : k ≡ t → ⊥) (e : sourceAt tb k ≡ t → ⊥)
     (given : GivenOut (structureIn s (sourceAt tb k)) (rowAt tb (sourceAt tb k)) (length table)) where
   abbrev more : Tables
   more = grown tb t u ms row

@@ -37,7 +37,8 @@ no-bytes = refl
 take-few : (count : ℕ) (row : List ℕ) → length (take count row) ≤ count
 take-few count row = rw (length-take count row) (omega arith)
 
-pub fresh-room : (first : ℕ) (row : List ℕ) {more count : ℕ} → more ≡ fresh (keptIn first count row) → count ≤ fieldLimit → first + fieldLimit ≤ variableLimit → first + more < 65536
+pub fresh-room : (first : ℕ) (row : List ℕ) {more count : ℕ} → more ≡ fresh (keptIn first count row) → count ≤ fieldLimit
+    → first + fieldLimit ≤ variableLimit → first + more < 65536
 unfolding keptIn
 fresh-room first row {more} {count} e c h =
     let k = fresh-few (keptIn first count row) in
@@ -48,7 +49,8 @@ pub count-small : {s index : List ℕ} {t count : ℕ} → Laid s index t → co
 count-small l c = let a = elements-are l in let b = element-few l in omega arith
 
 -- How many are new in a structure.
-pub new-count : (st : Structure) (first : ℕ) (row : List ℕ) → length (st .elements) ≤ length row → length (newIn st first row) ≡ fresh (keptIn first (length (st .elements)) row)
+pub new-count : (st : Structure) (first : ℕ) (row : List ℕ) → length (st .elements) ≤ length row
+    → length (newIn st first row) ≡ fresh (keptIn first (length (st .elements)) row)
 unfolding newIn
 new-count st first row h = new-length st first (st .elements) (keptIn first (length (st .elements)) row) (sym (kept-length first (length (st .elements)) row h))
 
@@ -88,7 +90,9 @@ module _ {out₀ out s index : List ℕ} {tb : Tables} {from at number t n : ℕ
   row-long b = g .rows t inside (rw read at b)
 
   -- What the writer of its variables asks.
-  pub naming-asks : getD (tb .sources) t 0 < unreached → (at ≤ countLimit) × (Laid s index t × ((number + fieldLimit ≤ variableLimit) × (length (structureIn s t .elements) ≤ length (getD (tb .vars) t []))))
+  pub naming-asks : getD (tb .sources) t 0 < unreached
+      → (at ≤ countLimit) ×
+      (Laid s index t × ((number + fieldLimit ≤ variableLimit) × (length (structureIn s t .elements) ≤ length (getD (tb .vars) t []))))
   naming-asks b = (omega (arith, w .put .size), (laid, ((let f = w .few in let k = g .few in let i = inside in omega arith), row-long b)))
 
   pub naming-pass : unreached ≤ getD (tb .sources) t 0 → Naming out₀ out s tb from at number (t + 1)

@@ -23,6 +23,7 @@ use Rattle.naming.specs.Variables.{GivenOut, newIn}
 use Rattle.laws.specs.Steps.{emitted}
 use Rattle.walk.specs.Tables.{Tables, unreached, sourceAt, concludedAt, before, newsTo, emittedTo}
 use Rattle.walk.specs.Walks.{ReachedAt, Tie, Ties}
+use Rattle.walk.specs.declared.walk.Visit.{Visit}
 use Rattle.walk.proofs.Walkable.{Walkable}
 use Rattle.walk.proofs.Growing.{grown, source-other, source-same, row-other, row-same, merged-other, own-stays, concluded-stays, before-stays}
 
@@ -31,11 +32,13 @@ pub given-more : {st : Structure} {row : List ℕ} {n m : ℕ} → n ≤ m → G
 given-more h g = record { below = λ e i. let l = g .below e i in omega arith }
 
 -- The structure of a slot that is there.
-pub is-reached : {sig : Signature} {table : List Variable} {s : List ℕ} {tb : Tables} {slots : List (Option Reached)} → Ties sig table s tb slots → (u : ℕ) → sourceAt tb u < unreached
+pub is-reached : {sig : Signature} {table : List Variable} {s : List ℕ} {tb : Tables} {slots : List (Option Reached)} → Ties sig table s tb slots → (u : ℕ)
+    → sourceAt tb u < unreached
     → (r : Reached) × (getD slots u none ≡ some r) × ReachedAt sig table s tb slots u r
 is-reached {sig} {table} {s} {tb} {slots} w u h = go (ℕ-in u)
   where
-    at : (o : Option Reached) → getD slots u none ≡ o → Tie sig table s tb slots u o → (r : Reached) × (getD slots u none ≡ some r) × ReachedAt sig table s tb slots u r
+    at : (o : Option Reached) → getD slots u none ≡ o → Tie sig table s tb slots u o
+        → (r : Reached) × (getD slots u none ≡ some r) × ReachedAt sig table s tb slots u r
     at none e q = absurd (omega arith)
     at (some r) e q = (r, e, q)
     ℕ-in : (u : ℕ) → Dec (u < length (ruleAt s .structures))
@@ -54,8 +57,14 @@ pub emitted-none : (sig : Signature) (s : List ℕ) (tb : Tables) (state : State
 unfolding emittedTo
 emitted-none sig s tb state t e = rw (e, append-nil)
 
-module _ {sig : Signature} {s index : List ℕ} {tb : Tables} {types : List ℕ} {next t u number : ℕ} (o : Walkable sig s index tb types next t u number)
+module _ {sig : Signature} {s index : List ℕ} {tb : Tables} {types : List ℕ} {v : Visit} (o : Walkable sig s index tb types v)
     (news : List Variable) (ms : List Held) (row : List ℕ) (r : Reached) where
+  abbrev source : ℕ
+  source = v .morphism .source
+
+  abbrev target : ℕ
+  target = v .morphism .target
+
   abbrev table : List Variable
   table = o .going .state .variables
 
@@ -66,12 +75,12 @@ module _ {sig : Signature} {s index : List ℕ} {tb : Tables} {types : List ℕ}
   w = o .going .walking .ties
 
   abbrev more : Tables
-  more = grown tb t u ms row
+  more = grown tb target source ms row
 
   abbrev slots′ : List (Option Reached)
-  slots′ = set slots t (some r)
+  slots′ = set slots target (some r)
 
-  apart : (k : ℕ) → sourceAt tb k < unreached → k ≡ t → ⊥
+  apart : (k : ℕ) → sourceAt tb k < unreached → k ≡ target → ⊥
   apart k h e = let q : sourceAt tb k ≡ unreached = rw e (o .free) in omega arith
 
   -- Another structure that was reached is as it was.
@@ -79,49 +88,51 @@ module _ {sig : Signature} {s index : List ℕ} {tb : Tables} {types : List ℕ}
   other-stays k q a =
       let d = apart k (a .source-in) in
       let e = apart (sourceAt tb k) (a .source-reached) in
-      let x : sourceAt more k ≡ sourceAt tb k = source-other tb t u ms row k d in
+      let x : sourceAt more k ≡ sourceAt tb k = source-other tb target source ms row k d in
       let g = is-reached w (sourceAt tb k) (a .source-reached) .2 .given in
       let l : length table ≤ length (table ++ news) = rw length-append (omega arith) in
       record {
         source-in = rw x (a .source-in);
         source-down = λ h. rw x (a .source-down h);
-        source-reached = rw (x, source-other tb t u ms row (sourceAt tb k) e) (a .source-reached);
+        source-reached = rw (x, source-other tb target source ms row (sourceAt tb k) e) (a .source-reached);
         row-long = a .row-long;
-        variables = rw (row-other tb t u ms row k d) (a .variables);
-        given = rw (row-other tb t u ms row k d) (given-more l (a .given));
-        merged = λ h. rw (x, merged-other tb t u ms row k d) (a .merged h);
-        statements = rw (before-stays slots tb t u ms row r k d e, own-stays sig s (o .ground .keyed) table news tb t u ms row k d e g) (a .statements);
+        variables = rw (row-other tb target source ms row k d) (a .variables);
+        given = rw (row-other tb target source ms row k d) (given-more l (a .given));
+        merged = λ h. rw (x, merged-other tb target source ms row k d) (a .merged h);
+        statements = rw (before-stays slots tb target source ms row r k d e, own-stays sig s (o .ground .keyed) table news tb target source ms row k
+            d e g) (a .statements);
       }
 
-  tie-stays : (k : ℕ) → (k ≡ t → ⊥) → (o : Option Reached) → Tie sig table s tb slots k o → Tie sig (table ++ news) s more slots′ k o
-  tie-stays k d none a = source-other tb t u ms row k d ∙ a
+  tie-stays : (k : ℕ) → (k ≡ target → ⊥) → (o : Option Reached) → Tie sig table s tb slots k o → Tie sig (table ++ news) s more slots′ k o
+  tie-stays k d none a = source-other tb target source ms row k d ∙ a
   tie-stays k d (some q) a = other-stays k q a
 
-  pub ties-grow : ReachedAt sig (table ++ news) s more slots′ t r → Ties sig (table ++ news) s more slots′
+  pub ties-grow : ReachedAt sig (table ++ news) s more slots′ target r → Ties sig (table ++ news) s more slots′
   ties-grow new = record {
-    sources-long = length-set (tb .sources) t u ∙ w .sources-long;
-    masks-long = length-set (tb .masks) t ms ∙ w .masks-long;
-    vars-long = length-set (tb .vars) t row ∙ w .vars-long;
-    slots-long = length-set slots t (some r) ∙ w .slots-long;
-    each-one = λ k h. go k h (ℕ-discrete k t);
-    others = λ k h. let i = o .met .target-in in source-other tb t u ms row k (λ e. omega arith) ∙ w .others k h;
+    sources-long = length-set (tb .sources) target source ∙ w .sources-long;
+    masks-long = length-set (tb .masks) target ms ∙ w .masks-long;
+    vars-long = length-set (tb .vars) target row ∙ w .vars-long;
+    slots-long = length-set slots target (some r) ∙ w .slots-long;
+    each-one = λ k h. go k h (ℕ-discrete k target);
+    others = λ k h. let i = o .met .target-in in source-other tb target source ms row k (λ e. omega arith) ∙ w .others k h;
   }
     where
-      go : (k : ℕ) → k < length (ruleAt s .structures) → Dec (k ≡ t) → Tie sig (table ++ news) s more slots′ k (getD slots′ k none)
-      go k h (yes e) = let l = w .slots-long in let i = o .met .target-in in rw (e, getD-set-same slots t (some r) none (omega arith)) new
-      go k h (no d) = rw (getD-set-other slots t k (some r) none d) (tie-stays k d (getD slots k none) (w .each-one k h))
+      go : (k : ℕ) → k < length (ruleAt s .structures) → Dec (k ≡ target) → Tie sig (table ++ news) s more slots′ k (getD slots′ k none)
+      go k h (yes e) = let l = w .slots-long in let i = o .met .target-in in rw (e, getD-set-same slots target (some r) none (omega arith)) new
+      go k h (no d) = rw (getD-set-other slots target k (some r) none d) (tie-stays k d (getD slots k none) (w .each-one k h))
 
   -- The new variables, and the rules, of the structures before it.
-  pub news-stay : (m : ℕ) → m ≤ t → newsTo s more m ≡ newsTo s tb m
+  pub news-stay : (m : ℕ) → m ≤ target → newsTo s more m ≡ newsTo s tb m
   unfolding newsTo
   news-stay zero h = refl
-  news-stay (suc m) h = rw (news-stay m (omega arith), source-other tb t u ms row m (λ e. omega arith), row-other tb t u ms row m (λ e. omega arith))
+  news-stay (suc m) h = rw (news-stay m (omega arith), source-other tb target source ms row m (λ e. omega arith), row-other tb target source ms row m
+      (λ e. omega arith))
 
-  pub emitted-stay : (m : ℕ) → m ≤ t → emittedTo sig (table ++ news) s more slots′ m ≡ emittedTo sig table s tb slots m
+  pub emitted-stay : (m : ℕ) → m ≤ target → emittedTo sig (table ++ news) s more slots′ m ≡ emittedTo sig table s tb slots m
   unfolding emittedTo
   emitted-stay zero h = refl
   emitted-stay (suc m) h =
-      rw (emitted-stay m (omega arith), source-other tb t u ms row m (λ e. omega arith)) (go (ltb (sourceAt tb m) unreached) refl)
+      rw (emitted-stay m (omega arith), source-other tb target source ms row m (λ e. omega arith)) (go (ltb (sourceAt tb m) unreached) refl)
     where
       go : (b : Bool) → ltb (sourceAt tb m) unreached ≡ b
           → emittedTo sig table s tb slots m ++ pick b (each (emitted (before slots′ more m)) (concludedAt sig (table ++ news) s more m)) []
@@ -132,18 +143,20 @@ module _ {sig : Signature} {s index : List ℕ} {tb : Tables} {types : List ℕ}
           let x = apart m (a .2 .source-in) in
           let y = apart (sourceAt tb m) (a .2 .source-reached) in
           let g = is-reached w (sourceAt tb m) (a .2 .source-reached) .2 .given in
-          rw (before-stays slots tb t u ms row r m x y, concluded-stays sig s (o .ground .keyed) table news tb t u ms row m x y g)
+          rw (before-stays slots tb target source ms row r m x y, concluded-stays sig s (o .ground .keyed) table news tb target source ms row m x y g)
 
   -- And with it.
-  pub news-grown : t < structureLimit → u < unreached → newsTo s more (suc t) ≡ newsTo s tb t ++ newIn (structureIn s t) (length (newsTo s tb t)) row
+  pub news-grown : target < structureLimit → source < unreached → newsTo s more (suc target)
+      ≡ newsTo s tb target ++ newIn (structureIn s target) (length (newsTo s tb target)) row
   unfolding newsTo
   news-grown h l =
       let a = w .sources-long in let b = w .vars-long in
-      rw (news-stay t (omega arith), source-same tb t u ms row (omega arith), row-same tb t u ms row (omega arith), lt-ltb u unreached l)
+      rw (news-stay target (omega arith), source-same tb target source ms row (omega arith), row-same tb target source ms row (omega arith), lt-ltb
+          source unreached l)
 
-  pub emitted-grown : t < structureLimit → u < unreached → emittedTo sig (table ++ news) s more slots′ (suc t)
-      ≡ emittedTo sig table s tb slots t ++ each (emitted (before slots′ more t)) (concludedAt sig (table ++ news) s more t)
+  pub emitted-grown : target < structureLimit → source < unreached → emittedTo sig (table ++ news) s more slots′ (suc target)
+      ≡ emittedTo sig table s tb slots target ++ each (emitted (before slots′ more target)) (concludedAt sig (table ++ news) s more target)
   unfolding emittedTo
   emitted-grown h l =
       let a = w .sources-long in
-      rw (emitted-stay t (omega arith), source-same tb t u ms row (omega arith), lt-ltb u unreached l)
+      rw (emitted-stay target (omega arith), source-same tb target source ms row (omega arith), lt-ltb source unreached l)

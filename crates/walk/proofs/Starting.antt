@@ -34,7 +34,8 @@ use Rattle.naming.proofs.Placed.{length-numbers-of}
 use Rattle.naming.proofs.Reached.{new-row, types-more}
 use Rattle.statements.specs.Said.{flaggedFrom, memberFlag, saidBy}
 use Rattle.laws.specs.Numbering.{fresh}
-use Rattle.walk.specs.Tables.{Tables, unreached, sourceAt, rowAt, masksOf, allMasks, noMasks, masksAt, reachedBy, ownBy, saidAt, ownAt, concludedBy, concludedAt, before, newsTo, emittedTo}
+use Rattle.walk.specs.Tables.{Tables, unreached, sourceAt, rowAt, masksOf, allMasks, noMasks, masksAt, reachedBy, ownBy, saidAt, ownAt}
+use Rattle.walk.specs.Tables.{concludedBy, concludedAt, before, newsTo, emittedTo}
 use Rattle.walk.specs.Walks.{ReachedAt, Tie, Ties, Walking}
 use Rattle.walk.proofs.Stepping.{numbered-given}
 
@@ -58,11 +59,13 @@ members-flagged st h = keep-all _ (members st) (λ r m.
     let p = place-in (lastElement r) (numbersOf st) i in
     let l = length-numbers-of st in all-flag (placeFrom 0 (lastElement r) (numbersOf st)) (omega arith))
 
-pub said-all : (st : Structure) → FewRows st → (variables : List ℕ) → saidBy st variables (masksOf allMasks) ≡ initialStatements (record { structure = st; variables = variables })
+pub said-all : (st : Structure) → FewRows st → (variables : List ℕ)
+    → saidBy st variables (masksOf allMasks) ≡ initialStatements (record { structure = st; variables = variables })
 unfolding saidBy initialStatements rowsOf
 said-all st f variables =
     let p = f .preds in let q = f .funcs in let e = f .elements in
-    rw (all-held, flagged-all 0 (st .predRows) (omega arith), flagged-all 0 (st .funcRows) (omega arith), flagged-all 0 (st .elements) (omega arith), members-flagged st e)
+    rw (all-held, flagged-all 0 (st .predRows) (omega arith), flagged-all 0 (st .funcRows) (omega arith), flagged-all 0 (st .elements) (omega arith),
+        members-flagged st e)
 
 getD-default : (n k a : ℕ) → getD (replicate n a) k a ≡ a
 getD-default zero k a = refl
@@ -127,7 +130,8 @@ module _ (sig : Signature) (s : List ℕ) (rows : FewRows (structureIn s 0)) (so
       default k = getD-default structureLimit k unreached
 
   abbrev after : Reached
-  after = record { variables = numbered 0 (nothingTaken st); statements = initialStatements (record { structure = st; variables = numbered 0 (nothingTaken st) }) }
+  after = record { variables = numbered 0 (nothingTaken st); statements =
+      initialStatements (record { structure = st; variables = numbered 0 (nothingTaken st) }) }
 
   abbrev slots : List (Option Reached)
   slots = set (each (λ (x : Structure). none) (ruleAt s .structures)) 0 (some after)
@@ -155,7 +159,8 @@ module _ (sig : Signature) (s : List ℕ) (rows : FewRows (structureIn s 0)) (so
 
   first-one : ReachedAt sig news s tb slots 0 after
   first-one =
-      let c : 0 + fresh (nothingTaken st) ≡ length news = zero-add (fresh (nothingTaken st)) ∙ sym (new-length st 0 (st .elements) (nothingTaken st) (sym (length-nothing st))) in
+      let c : 0 + fresh (nothingTaken st) ≡ length news =
+          zero-add (fresh (nothingTaken st)) ∙ sym (new-length st 0 (st .elements) (nothingTaken st) (sym (length-nothing st))) in
       record {
         source-in = rw first-source (omega arith);
         source-down = λ h. absurd (omega arith);

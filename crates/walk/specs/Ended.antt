@@ -5,12 +5,12 @@ use mathlib.Core.Option.{some}
 use mathlib.Core.Path.{_≡_}
 use Prim.Native.Nat.{ℕ, _≤_, _<_}
 use lib.ListN.{length}
-use Rattle.definition.specs.Base.{accepted, pick}
+use Rattle.definition.specs.Base.{accepted, pick, given}
 use Rattle.definition.specs.Limits.{structureLimit, variableLimit, symbolLimit}
 use Rattle.definition.specs.Rule.{MorphismKind, readRule}
 use Rattle.definition.specs.Group.{Variable}
 use Rattle.definition.specs.Signature.{Signature, readSignature}
-use Rattle.definition.specs.Walk.{State, groupName, namedRules, pairsBetween, found, completed}
+use Rattle.definition.specs.Walk.{State, groupName, namedRules, pairsBetween, completed}
 use Rattle.signature.specs.Index.{signatureAt, Indexed}
 use Rattle.signature.specs.declared.ids.Counts.{Counts}
 use Rattle.rule.specs.Answers as rule
@@ -36,7 +36,7 @@ pub record Ground (sig : Signature) (s index : List ℕ) : Type 0 where
   pub sounds : (k : ℕ) → k < length (ruleAt s .structures) → SoundAt sig s index k
   pub few : length (ruleAt s .structures) ≤ structureLimit
   pub some-one : 0 < length (ruleAt s .structures)
-  pub mapped : (u t : ℕ) (kind : MorphismKind) → kindOn s u t ≡ some kind → found (pairsBetween (ruleAt s .maps) u t) ≡ true
+  pub mapped : (u t : ℕ) (kind : MorphismKind) → kindOn s u t ≡ some kind → given (pairsBetween (ruleAt s .maps) u t) ≡ true
   pub keyed : Keyed s
   pub once : Once (ruleAt s .kinds)
   pub headed : Headed s
@@ -73,7 +73,8 @@ pub record Reaching (s : List ℕ) (tb : Tables) (t : ℕ) : Type 0 where
 
 -- The number of the kind by which it was reached: where the table has the rule's kinds, it says that kind.
 pub record ReachedBy (r : ℕ) (kinds : List (List ℕ)) (sources : List ℕ) (t : ℕ) : Type 0 where
-  pub is : (s : List ℕ) (tb : Tables) → tb .sources ≡ sources → Tabled kinds (completed (ruleAt s .maps) (ruleAt s .kinds) (ruleAt s .auxiliaries)) → length sources ≡ structureLimit
+  pub is : (s : List ℕ) (tb : Tables) → tb .sources ≡ sources → Tabled kinds (completed (ruleAt s .maps) (ruleAt s .kinds) (ruleAt s .auxiliaries))
+      → length sources ≡ structureLimit
       → sourceAt tb t < unreached → t < structureLimit → kindIn r ≡ reachedBy s tb t
 
 -- Whether it was reached by a map that emits a rule: it has one conclusion, or none.

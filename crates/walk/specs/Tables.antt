@@ -109,7 +109,7 @@ reachedBy s tb t = pick (eqb t 0) none (kindOn s (sourceAt tb t) t)
 
 -- Its equalities, statements and domains, as the tables have them.
 unfoldable pub equalitiesAt : Signature → List Variable → List ℕ → Tables → ℕ → List Statement
-equalitiesAt sig table s tb t = equalities sig table (sideIn s (sourceAt tb t) (rowAt tb (sourceAt tb t))) (sideIn s t (rowAt tb t)) (pairsOn s (sourceAt tb t) t)
+equalitiesAt sig table s tb t = equalities table (sideIn s (sourceAt tb t) (rowAt tb (sourceAt tb t))) (sideIn s t (rowAt tb t)) (pairsOn s (sourceAt tb t) t)
 
 unfoldable pub saidAt : List ℕ → Tables → ℕ → List Statement
 saidAt s tb t = saidBy (structureIn s t) (variablesIn (structureIn s t) (rowAt tb t)) (masksAt tb t)
@@ -136,7 +136,8 @@ before slots tb t = pick (eqb t 0) [] (statementsAt slots (sourceAt tb t))
 
 -- The rule that the map into a structure emits, by the number of rules before it and its conclusion.
 abbrev pub emittedRule : List ℕ → List (Option Reached) → Tables → ℕ → ℕ → List Statement → FlatRule
-emittedRule s slots tb t count conclusion = record { name = groupName (ruleAt s) ++ (underscore ∷ decimal count); premise = before slots tb t; conclusion = conclusion }
+emittedRule s slots tb t count conclusion =
+    record { name = groupName (ruleAt s) ++ (underscore ∷ decimal count); premise = before slots tb t; conclusion = conclusion }
 
 -- The new variables of the first structures, and the rules that they emit.
 unfoldable pub newsTo : List ℕ → Tables → ℕ → List Variable

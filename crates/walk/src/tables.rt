@@ -19,8 +19,8 @@ use statements::masks::Masks;
 // The source of a structure that no map has reached yet.
 pub const UNREACHED: u8 = STRUCTURES as u8;
 
-// A mask for each sort of what a structure says: R rows, A rows, members, TypeSets; and one of its elements that are images of several
-// keys, of the map that reached it.
+// For each structure five masks: which of its R rows, A rows, member rows and TypeSets it adds to its source's statements, and which of
+// its elements several keys of the map that reached it were sent to.
 pub const SORTS: usize = 5;
 
 // The place of each.

@@ -10,14 +10,14 @@ use mathlib.Core.List.{List, [], _++_}
 use lib.Dec.{eqb}
 use lib.ListN.{length, getD}
 use borrow.Author.Tests.{eq-eqb, ne-eqb}
-use Rattle.definition.specs.Base.{pick, orDefault, each, joined}
+use Rattle.definition.specs.Base.{pick, orDefault, each, joined, given}
 use Rattle.definition.specs.Limits.{structureLimit}
 use Rattle.definition.specs.Letters.{letterB}
 use Rattle.definition.specs.Rule.{Pair, MorphismKind}
 use Rattle.definition.specs.Group.{Variable, Statement}
 use Rattle.definition.specs.Signature.{Signature}
 use Rattle.definition.specs.Kinds.{Side, equalities}
-use Rattle.definition.specs.Walk.{Reached, pairsBetween, found, completed}
+use Rattle.definition.specs.Walk.{Reached, pairsBetween, completed}
 use Rattle.definition.specs.Writer.{recordBytes}
 use Rattle.laws.proofs.ByteForm.{statements-append}
 use Rattle.records.specs.Buffer.{Put, countLimit}
@@ -34,7 +34,8 @@ use Rattle.statements.specs.Said.{saidBy}
 use Rattle.statements.specs.Structures.{sideIn}
 use Rattle.statements.specs.declared.masks.Masks.{Masks}
 use Rattle.plan.specs.Table.{kindIn, entryAt, Tabled}
-use Rattle.walk.specs.Tables.{Tables, unreached, sourceAt, rowAt, masksOf, masksAt, mergedAt, kindOn, pairsOn, ownBy, reachedBy, equalitiesAt, saidAt, ownAt, statementsOf, statementsAt, before, maskIn}
+use Rattle.walk.specs.Tables.{Tables, unreached, sourceAt, rowAt, masksOf, masksAt, mergedAt, kindOn, pairsOn, ownBy, reachedBy, equalitiesAt, saidAt}
+use Rattle.walk.specs.Tables.{ownAt, statementsOf, statementsAt, before, maskIn}
 use Rattle.walk.specs.Walks.{ReachedAt}
 use Rattle.walk.specs.Ended.{Ended, Reaching, ReachedBy}
 use Rattle.walk.proofs.Numbers.{source-read}
@@ -47,15 +48,18 @@ pub reached-first : {r : ℕ} {kinds : List (List ℕ)} {sources : List ℕ} {t 
 unfolding kindIn reachedBy
 reached-first {r} {kinds} {sources} {t} e q = record { is = go }
   where
-    go : (s : List ℕ) (tb : Tables) → tb .sources ≡ sources → Tabled kinds (completed (ruleAt s .maps) (ruleAt s .kinds) (ruleAt s .auxiliaries)) → length sources ≡ structureLimit
+    go : (s : List ℕ) (tb : Tables) → tb .sources ≡ sources → Tabled kinds (completed (ruleAt s .maps) (ruleAt s .kinds) (ruleAt s .auxiliaries))
+        → length sources ≡ structureLimit
         → sourceAt tb t < unreached → t < structureLimit → kindIn r ≡ reachedBy s tb t
     go s tb _ _ _ _ _ = rw (e, eq-eqb t 0 q)
 
-pub reached-later : {r u : ℕ} {kinds : List (List ℕ)} {sources : List ℕ} {t : ℕ} → (t ≡ 0 → ⊥) → u ≡ getD sources t 0 → r ≡ entryAt kinds u t → ReachedBy r kinds sources t
+pub reached-later : {r u : ℕ} {kinds : List (List ℕ)} {sources : List ℕ} {t : ℕ} → (t ≡ 0 → ⊥) → u ≡ getD sources t 0 → r ≡ entryAt kinds u t
+    → ReachedBy r kinds sources t
 unfolding reachedBy kindOn
 reached-later {r} {u} {kinds} {sources} {t} d q e = record { is = go }
   where
-    go : (s : List ℕ) (tb : Tables) → tb .sources ≡ sources → Tabled kinds (completed (ruleAt s .maps) (ruleAt s .kinds) (ruleAt s .auxiliaries)) → length sources ≡ structureLimit
+    go : (s : List ℕ) (tb : Tables) → tb .sources ≡ sources → Tabled kinds (completed (ruleAt s .maps) (ruleAt s .kinds) (ruleAt s .auxiliaries))
+        → length sources ≡ structureLimit
         → sourceAt tb t < unreached → t < structureLimit → kindIn r ≡ reachedBy s tb t
     go s tb x k l h i =
         let y : length (tb .sources) ≡ structureLimit = ap length x ∙ l in
@@ -151,7 +155,7 @@ module _ {s index types : List ℕ} {kinds : List (List ℕ)} {tb : Tables} {t :
   kind-is b = b .is s tb refl (e .tabled) (e .finished .ties .sources-long) (h .reached) place-small
 
   abbrev Mapped : Type 0
-  Mapped = (0 < t) × (found (pairsBetween (ruleAt s .maps) (getD (tb .sources) t 0) t) ≡ true)
+  Mapped = (0 < t) × (given (pairsBetween (ruleAt s .maps) (getD (tb .sources) t 0) t) ≡ true)
 
   mapped : {kind : ℕ} → ReachedBy kind kinds (tb .sources) t → kind < 4 → Mapped
   mapped {kind} b l =
@@ -190,12 +194,13 @@ module _ {s index types : List ℕ} {kinds : List (List ℕ)} {tb : Tables} {t :
   pub map-put : (letter : ℕ) {from r u : ℕ} {out₀ out row : List ℕ} {ps : List Pair} → u ≡ getD (tb .sources) t 0 → row ≡ getD (tb .vars) u []
       → orDefault (pairsBetween (ruleAt s .maps) u t) [] ≡ ps
       → ((sig : Signature) (table : List Variable) (target : Side) → TypesOf table types → target .structure ≡ structureIn s t
-          → Put out₀ out (statementBytes letter (equalities sig table (sideIn s u row) target ps)) from r)
+          → Put out₀ out (statementBytes letter (equalities table (sideIn s u row) target ps)) from r)
       → Put out₀ out (statementBytes letter eqs) from r
   unfolding equalitiesAt rowAt pairsOn
-  map-put letter {from} {r} {u} {out₀} {out} {row} {ps} q x o p = of-map (p (e .sig) (e .state .variables) (sideIn s t (rowAt tb t)) (e .finished .types-are) refl)
+  map-put letter {from} {r} {u} {out₀} {out} {row} {ps} q x o p =
+      of-map (p (e .sig) (e .state .variables) (sideIn s t (rowAt tb t)) (e .finished .types-are) refl)
     where
-      of-map : Put out₀ out (statementBytes letter (equalities (e .sig) (e .state .variables) (sideIn s u row) (sideIn s t (rowAt tb t)) ps)) from r
+      of-map : Put out₀ out (statementBytes letter (equalities (e .state .variables) (sideIn s u row) (sideIn s t (rowAt tb t)) ps)) from r
           → Put out₀ out (statementBytes letter eqs) from r
       of-map p = rw (← source-is, ← q, o, ← x) p
 
@@ -219,7 +224,8 @@ module _ {s index types : List ℕ} {kinds : List (List ℕ)} {tb : Tables} {t :
   unfolding ownAt
   own-both {kind} b q p = rw (own-both-by kind (reachedBy s tb t) eqs (saidAt s tb t) q (kind-is b)) p
 
-  pub own-only : {kind from r : ℕ} {out₀ out row : List ℕ} {ms : Masks} → ReachedBy kind kinds (tb .sources) t → (kind ≡ 1 → ⊥) → (kind ≡ 0 → ⊥) → (kind ≡ 3 → ⊥)
+  pub own-only : {kind from r : ℕ} {out₀ out row : List ℕ} {ms : Masks} → ReachedBy kind kinds (tb .sources) t → (kind ≡ 1 → ⊥) → (kind ≡ 0 → ⊥)
+      → (kind ≡ 3 → ⊥)
       → row ≡ getD (tb .vars) t [] → ms ≡ masksOf (getD (tb .masks) t [])
       → Put out₀ out (statementBytes letterB (saidBy (structureIn s t) (variablesIn (structureIn s t) row) ms)) from r
       → Put out₀ out (statementBytes letterB own) from r

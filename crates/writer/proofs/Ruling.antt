@@ -10,27 +10,29 @@ use lib.Dec.{ltb}
 use lib.ListN.{length, getD, length-append}
 use borrow.Author.Tests.{lt-ltb, le-ltb}
 use Rattle.definition.specs.Base.{pick, each, joined}
-use Rattle.definition.specs.Letters.{letterU, letterB, letterH, underscore}
+use Rattle.definition.specs.Letters.{letterB, letterH, underscore}
 use Rattle.definition.specs.Limits.{structureLimit}
 use Rattle.definition.specs.Rule.{MorphismKind}
 use Rattle.definition.specs.Group.{Statement, FlatRule}
 use Rattle.definition.specs.Kinds.{Emitted}
 use Rattle.definition.specs.Names.{decimal}
 use Rattle.definition.specs.Walk.{groupName, namedRules}
-use Rattle.definition.specs.Writer.{recordBytes, flatRuleFields}
+use Rattle.definition.specs.Writer.{fieldBytes, recordBytes, flatRuleFields}
 use Rattle.laws.proofs.Lists.{joined-append}
 use Rattle.laws.proofs.ByteForm.{rule-bytes, named-append}
-use Rattle.records.specs.Buffer.{Put, countLimit, headBytes}
-use Rattle.records.proofs.Tail.{nothing, then, field-bytes}
+use Rattle.records.specs.Buffer.{Put, countLimit}
+use Rattle.records.proofs.Tail.{nothing, then}
 use Rattle.rule.specs.Lookup.{ruleAt}
 use Rattle.rule.specs.Structures.{structureIn}
 use Rattle.naming.specs.Variables.{variablesIn}
 use Rattle.statements.specs.Said.{domainsBy}
 use Rattle.plan.specs.Table.{kindIn}
-use Rattle.walk.specs.Tables.{Tables, unreached, sourceAt, rowAt, masksAt, reachedBy, concludedBy, concludedAt, equalitiesAt, saidAt, domainsAt, statementsAt, before, emittedRule, emittedTo, maskIn}
+use Rattle.walk.specs.Tables.{Tables, unreached, sourceAt, rowAt, masksAt, reachedBy, concludedBy, concludedAt, equalitiesAt, saidAt, domainsAt}
+use Rattle.walk.specs.Tables.{statementsAt, before, emittedTo, maskIn}
 use Rattle.walk.specs.Ended.{Ended, Reaching, ReachedBy, Emits}
 use Rattle.laws.specs.Bytes.{statementBytes}
 use Rattle.laws.specs.Steps.{emitted}
+use Rattle.writer.specs.Rules.{nameField, bodyBytes}
 use Rattle.writer.proofs.Premises.{those-before, source-is, kind-is}
 use Rattle.walk.proofs.Numbers.{source-read}
 use Rattle.flags.specs.declared.Mask.{Mask}
@@ -112,7 +114,8 @@ module _ {s index types : List ℕ} {kinds : List (List ℕ)} {tb : Tables} {t :
 
   pub rows-put : {out₀ out : List ℕ} {from r k : ℕ} {conclusion : List Statement} → ReachedBy k kinds (tb .sources) t → (k ≡ 1 → ⊥)
       → concludedOf e t ≡ conclusion ∷ []
-      → Put out₀ out (statementBytes letterH (domainsBy (structureIn s t) (variablesIn (structureIn s t) (getD (tb .vars) t [])) (maskIn (getD (tb .masks) t []) 1))) from r
+      → Put out₀ out (statementBytes letterH
+          (domainsBy (structureIn s t) (variablesIn (structureIn s t) (getD (tb .vars) t [])) (maskIn (getD (tb .masks) t []) 1))) from r
       → Put out₀ out (statementBytes letterH conclusion) from r
   unfolding concludedAt domainsAt masksAt rowAt
   rows-put {k = k} {conclusion = conclusion} w d z p =
@@ -120,17 +123,14 @@ module _ {s index types : List ℕ} {kinds : List (List ℕ)} {tb : Tables} {t :
       let b : conclusion ≡ domainsAt s tb t = by-domains (masksAt tb t .funcs) eqs (saidAt s tb t) (domainsAt s tb t) k d a in
       rw b p
 
-  -- The whole rule.
-  pub rule-put : {out₀ out₁ out₂ out₃ out₄ : List ℕ} {from a₁ a₂ a₃ a₄ u len : ℕ} (count : ℕ) (conclusion : List Statement) → 0 < t
-      → len ≡ length (groupName (ruleAt s) ++ (underscore ∷ decimal count)) → Put out₀ out₁ (headBytes letterU len) from a₁
-      → Put out₁ out₂ (groupName (ruleAt s) ++ (underscore ∷ decimal count)) a₁ a₂
-      → u ≡ getD (tb .sources) t 0 → Put out₂ out₃ (statementBytes letterB (statementsAt (e .state .slots) u)) a₂ a₃
-      → Put out₃ out₄ (statementBytes letterH conclusion) a₃ a₄
-      → Put out₀ out₄ (recordBytes (flatRuleFields (emittedRule s (e .state .slots) tb t count conclusion))) from a₄
+  -- The statements of the rule.
+  pub body-put : {out₀ out₁ out₂ : List ℕ} {from a₁ a₂ u : ℕ} (conclusion : List Statement) → 0 < t
+      → u ≡ getD (tb .sources) t 0 → Put out₀ out₁ (statementBytes letterB (statementsAt (e .state .slots) u)) from a₁
+      → Put out₁ out₂ (statementBytes letterH conclusion) a₁ a₂ → Put out₀ out₂ (bodyBytes (e .state .slots) tb t conclusion) from a₂
   unfolding before
-  rule-put {u = u} count conclusion h l p q v b c =
+  body-put {u = u} conclusion h v b c =
       let y : u ≡ sourceAt tb t = v ∙ source-is e x in
-      rw (rule-bytes, field-bytes, those-before (e .state .slots) tb t (λ i. omega arith), ← y) (then (then (rw l at p) q) (then b c))
+      rw (those-before (e .state .slots) tb t (λ i. omega arith), ← y) (then b c)
 
 -- The rules of the first structures were put, and are so many.
 unfoldable pub rulesTo : {s index types : List ℕ} {kinds : List (List ℕ)} {tb : Tables} → Ended s index types kinds tb → ℕ → List Emitted
@@ -182,7 +182,8 @@ module _ {s index types : List ℕ} {kinds : List (List ℕ)} {tb : Tables} (e :
   unfolding each
   rules-one t h c = rules-more t h ∙ rw c
 
-pub ruling-start : (out s index types : List ℕ) (kinds : List (List ℕ)) (tb : Tables) (from : ℕ) → from ≤ countLimit → Ruling out out s index types kinds tb from from 0 1
+pub ruling-start : (out s index types : List ℕ) (kinds : List (List ℕ)) (tb : Tables) (from : ℕ) → from ≤ countLimit
+    → Ruling out out s index types kinds tb from from 0 1
 unfolding namedRules joined
 ruling-start out s index types kinds tb from h = record {
     put = λ e. rw (rules-first e) (nothing out from h);
@@ -224,15 +225,17 @@ module _ {out₀ out s index types : List ℕ} {kinds : List (List ℕ)} {tb : T
       → length (concludedOf e t) ≡ pick b 1 0
   concludes d y e = y .is (e .sig) (e .state .variables) s tb refl refl (e .tabled) (e .finished .ties .sources-long) (rw read at d) ruling-few
 
-  pub ruling-silent : {b : Bool} → getD (tb .sources) t 0 < unreached → Emits b kinds (tb .sources) (tb .masks) t → b ≡ false → Ruling out₀ out s index types kinds tb from at count (t + 1)
+  pub ruling-silent : {b : Bool} → getD (tb .sources) t 0 < unreached → Emits b kinds (tb .sources) (tb .masks) t → b ≡ false
+      → Ruling out₀ out s index types kinds tb from at count (t + 1)
   ruling-silent d y f = same-rules (λ e. rules-silent e t (rw read at d) (none-of _ (rw f at (concludes d y e))))
 
-  pub ruling-next : {out′ : List ℕ} {b : Bool} {r : ℕ} → getD (tb .sources) t 0 < unreached → Emits b kinds (tb .sources) (tb .masks) t → b ≡ true
+  pub ruling-next : {named out′ : List ℕ} {b : Bool} {a r : ℕ} → getD (tb .sources) t 0 < unreached → Emits b kinds (tb .sources) (tb .masks) t → b ≡ true
+      → Put out named (fieldBytes (nameField s count)) at a
       → ((e : Ended s index types kinds tb) (conclusion : List Statement) → concludedOf e t ≡ conclusion ∷ []
-        → Put out out′ (recordBytes (flatRuleFields (emittedRule s (e .state .slots) tb t count conclusion))) at r)
+          → Put named out′ (bodyBytes (e .state .slots) tb t conclusion) a r)
       → r ≤ countLimit → Ruling out₀ out′ s index types kinds tb from r (count + 1) (t + 1)
-  ruling-next {out′} {b} {r} d y f p l = record {
-      put = λ e. let o = one e in rw (more e, named-one _ count _ _ (w .so-many e)) (then (w .put e) (p e (o .0) (o .1)));
+  ruling-next {named} {out′} {b} {a} {r} d y f q p l = record {
+      put = λ e. let o = one e in rw (more e, named-one _ count _ _ (w .so-many e), rule-bytes) (then (w .put e) (then q (p e (o .0) (o .1))));
       so-many = λ e. let q = w .so-many e in rw (more e, length-append) (omega arith);
       few = let q = w .few in omega arith;
       small = l;
@@ -244,7 +247,8 @@ module _ {out₀ out s index types : List ℕ} {kinds : List (List ℕ)} {tb : T
       more e = rules-one e t (rw read at d) (one e .1)
 
 -- All of them.
-pub ruling-all : {out₀ out s index types : List ℕ} {kinds : List (List ℕ)} {tb : Tables} {from at count t n : ℕ} → Ruling out₀ out s index types kinds tb from at count t
+pub ruling-all : {out₀ out s index types : List ℕ} {kinds : List (List ℕ)} {tb : Tables} {from at count t n : ℕ}
+    → Ruling out₀ out s index types kinds tb from at count t
     → n ≡ length (ruleAt s .structures) → t ≤ n → n ≤ t → (e : Ended s index types kinds tb) → Put out₀ out (ruleBytes (e .state .rules)) from at
 unfolding rulesTo
 ruling-all {s = s} {t = t} {n = n} w m a b e = let q : length (ruleAt s .structures) ≡ t = omega arith in rw (e .finished .rules, q) (w .put e)

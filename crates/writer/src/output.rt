@@ -12,15 +12,13 @@ use crate::lengths::rules_length;
 use crate::rules::put_rules;
 use crate::variables::put_all_variables;
 use flags::Held;
+use group::write::put_group_head;
 use naming::writer::group_name_length;
 use naming::writer::put_group_name;
-use records::write::put_field_head;
 use rule::ids::FIELDS;
 use rule::ids::RULE_INDEX;
 use rule::ids::STRUCTURES;
 use walk::tables::SORTS;
-
-const LETTER_G: u8 = b'G';
 
 // The group.
 pub fn put_group(
@@ -36,11 +34,12 @@ pub fn put_group(
 ) -> usize
     requires { ⌜ n ≡ length (ruleAt (now s) .structures) ⌝ }
     requires { ⌜ Ended (now s) (now index) (now types) (now kinds) (tables (now sources) (now masks) (now vars)) ⌝ }
-    ensures { λ r. ⌜ ((e : Ended (now (s .entry)) (now (index .entry)) (now (types .entry)) (now (kinds .entry)) (tables (now (sources .entry)) (now (masks .entry)) (now (vars .entry))))
+    ensures { λ r. ⌜ ((e : Ended (now (s .entry)) (now (index .entry)) (now (types .entry)) (now (kinds .entry))
+        (tables (now (sources .entry)) (now (masks .entry)) (now (vars .entry))))
         → Put (now (out .entry)) (now (out .exit)) (groupBytesOf (groupLeft (ruleAt (now (s .entry))) (e .state))) 0 r) ⌝ }
     ensures { λ r. ⌜ r ≤ countLimit ⌝ }
 {
-    let head = put_field_head(out, 0, LETTER_G, group_name_length(s));
+    let head = put_group_head(out, 0, group_name_length(s));
     let named = put_group_name(out, head, s);
     let varied = put_all_variables(out, named, s, index, n, sources, vars);
     // Nothing of the rules fits: they are only counted.

@@ -6,23 +6,26 @@ ghost use lib.ListN.{length, getD};
 ghost use Rattle.definition.specs.Base.{joined};
 ghost use Rattle.definition.specs.Group as definition;
 ghost use Rattle.definition.specs.Letters.{letterH};
-ghost use Rattle.definition.specs.Writer.{recordBytes, flatRuleFields};
+ghost use Rattle.definition.specs.Writer.{fieldBytes, recordBytes, flatRuleFields};
 ghost use Rattle.definition.specs.Limits.{structureLimit};
 ghost use Rattle.records.specs.Buffer.{Put, countLimit};
 ghost use Rattle.rule.specs.Lookup.{ruleAt};
-ghost use Rattle.walk.specs.Tables.{tables, concludedAt, emittedRule};
+ghost use Rattle.rule.specs.Structures.{Headed};
+ghost use Rattle.walk.specs.Tables.{tables, concludedAt};
 ghost use Rattle.walk.specs.Ended.{Ended, Reaching, Emits};
 ghost use Rattle.laws.specs.Bytes.{statementBytes};
+ghost use Rattle.writer.specs.Rules.{nameField, bodyBytes};
 use crate::premise::put_both;
 use crate::premise::put_premise;
 use crate::premise::reached_by;
 use flags::Held;
 use flags::none_set;
+use group::ids::LETTER_H;
+use group::write::put_rule_head;
 use naming::writer::put_rule_name;
 use naming::writer::rule_name_length;
 use plan::table::NON_SURJ_THEN;
 use plan::table::SURJ_THEN;
-use records::write::put_field_head;
 use rule::ids::FIELDS;
 use rule::ids::RULE_INDEX;
 use rule::ids::STRUCTURES;
@@ -32,8 +35,6 @@ use walk::tables::SORTS;
 use walk::tables::UNREACHED;
 use walk::tables::mask_at;
 use walk::tables::place;
-
-const LETTER_U: u8 = b'U';
 
 // Does the map that reached a structure emit a rule? SurjThen does; NonSurjThen does where it has a new element.
 pub fn emits(kinds: &[[u8; STRUCTURES]; STRUCTURES], sources: &[u8; STRUCTURES], masks: &[[Held; SORTS]; STRUCTURES], t: usize) -> bool
@@ -66,33 +67,32 @@ pub fn put_conclusion(
     requires { ⌜ from ≤ countLimit ⌝ }
     requires { ⌜ Ended (now s) (now index) (now types) (now kinds) (tables (now sources) (now masks) (now vars)) ⌝ }
     requires { ⌜ Reaching (now s) (tables (now sources) (now masks) (now vars)) t ⌝ }
-    ensures { λ r. ⌜ ((e : Ended (now (s .entry)) (now (index .entry)) (now (types .entry)) (now (kinds .entry)) (tables (now (sources .entry)) (now (masks .entry)) (now (vars .entry))))
+    ensures { λ r. ⌜ ((e : Ended (now (s .entry)) (now (index .entry)) (now (types .entry)) (now (kinds .entry))
+        (tables (now (sources .entry)) (now (masks .entry)) (now (vars .entry))))
         (conclusion : List definition.Statement)
-        → concludedAt (e .sig) (e .state .variables) (now (s .entry)) (tables (now (sources .entry)) (now (masks .entry)) (now (vars .entry))) t ≡ conclusion ∷ []
+        → concludedAt (e .sig) (e .state .variables) (now (s .entry)) (tables (now (sources .entry)) (now (masks .entry)) (now (vars .entry))) t
+            ≡ conclusion ∷ []
         → Put (now (out .entry)) (now (out .exit)) (statementBytes letterH conclusion) from r) ⌝ }
     ensures { λ r. ⌜ r ≤ countLimit ⌝ }
 {
     let kind = reached_by(kinds, sources, t);
     if kind == SURJ_THEN {
-        return put_both(
-            out,
-            from,
-            b'H',
-            s,
-            index,
-            kinds,
-            sources,
-            masks,
-            vars,
-            types,
-            t,
-        );
+        return put_both(out, from, LETTER_H, s, index, sources, masks, vars, types, t);
     }
-    put_domains(out, from, b'H', s, index, t, &vars[t], mask_at(masks, t, FUNCS))
+    put_domains(out, from, LETTER_H, s, index, t, &vars[t], mask_at(masks, t, FUNCS))
 }
 
-// A rule: its name, the statements of the map's source, and the conclusion.
-fn put_rule(
+// The U field of a rule, by the number of rules before it.
+fn put_name_field(out: &mut [u8], from: usize, s: &[u8], count: u16) -> usize
+    requires { ⌜ (from ≤ countLimit) × Headed (now s) ⌝ }
+    ensures { λ r. ⌜ Put (now (out .entry)) (now (out .exit)) (fieldBytes (nameField (now (s .entry)) count)) from r ⌝ }
+{
+    let head = put_rule_head(out, from, rule_name_length(s, count));
+    put_rule_name(out, head, s, count)
+}
+
+// Its statements: those of the map's source, and the conclusion.
+fn put_body(
     out: &mut [u8],
     from: usize,
     s: &[u8],
@@ -103,21 +103,21 @@ fn put_rule(
     vars: &[[u16; FIELDS]; STRUCTURES],
     types: &[u8],
     t: usize,
-    count: u16,
 ) -> usize
     requires { ⌜ (from ≤ countLimit) × (0 < t) ⌝ }
     requires { ⌜ Ended (now s) (now index) (now types) (now kinds) (tables (now sources) (now masks) (now vars)) ⌝ }
     requires { ⌜ Reaching (now s) (tables (now sources) (now masks) (now vars)) t ⌝ }
-    ensures { λ r. ⌜ ((e : Ended (now (s .entry)) (now (index .entry)) (now (types .entry)) (now (kinds .entry)) (tables (now (sources .entry)) (now (masks .entry)) (now (vars .entry))))
+    ensures { λ r. ⌜ ((e : Ended (now (s .entry)) (now (index .entry)) (now (types .entry)) (now (kinds .entry))
+        (tables (now (sources .entry)) (now (masks .entry)) (now (vars .entry))))
         (conclusion : List definition.Statement)
-        → concludedAt (e .sig) (e .state .variables) (now (s .entry)) (tables (now (sources .entry)) (now (masks .entry)) (now (vars .entry))) t ≡ conclusion ∷ []
-        → Put (now (out .entry)) (now (out .exit)) (recordBytes (flatRuleFields (emittedRule (now (s .entry)) (e .state .slots) (tables (now (sources .entry)) (now (masks .entry)) (now (vars .entry))) t count conclusion))) from r) ⌝ }
+        → concludedAt (e .sig) (e .state .variables) (now (s .entry)) (tables (now (sources .entry)) (now (masks .entry)) (now (vars .entry))) t
+            ≡ conclusion ∷ []
+        → Put (now (out .entry)) (now (out .exit)) (bodyBytes (e .state .slots) (tables (now (sources .entry)) (now (masks .entry)) (now (vars
+            .entry))) t conclusion) from r) ⌝ }
     ensures { λ r. ⌜ r ≤ countLimit ⌝ }
 {
-    let head = put_field_head(out, from, LETTER_U, rule_name_length(s, count));
-    let named = put_rule_name(out, head, s, count);
-    let u = place(sources[t]);
-    let said = put_premise(out, named, s, index, kinds, sources, masks, vars, types, u);
+    let source = place(sources[t]);
+    let said = put_premise(out, from, s, index, kinds, sources, masks, vars, types, source);
     put_conclusion(out, said, s, index, kinds, sources, masks, vars, types, t)
 }
 
@@ -136,7 +136,8 @@ pub fn put_rules(
 ) -> usize
     requires { ⌜ (from ≤ countLimit) × (n ≡ length (ruleAt (now s) .structures)) ⌝ }
     requires { ⌜ Ended (now s) (now index) (now types) (now kinds) (tables (now sources) (now masks) (now vars)) ⌝ }
-    ensures { λ r. ⌜ ((e : Ended (now (s .entry)) (now (index .entry)) (now (types .entry)) (now (kinds .entry)) (tables (now (sources .entry)) (now (masks .entry)) (now (vars .entry))))
+    ensures { λ r. ⌜ ((e : Ended (now (s .entry)) (now (index .entry)) (now (types .entry)) (now (kinds .entry))
+        (tables (now (sources .entry)) (now (masks .entry)) (now (vars .entry))))
         → Put (now (out .entry)) (now (out .exit)) (joined (λ (f : definition.FlatRule). recordBytes (flatRuleFields f)) (e .state .rules)) from r) ⌝ }
     ensures { λ r. ⌜ r ≤ countLimit ⌝ }
 {
@@ -146,7 +147,8 @@ pub fn put_rules(
     while t < n {
         if sources[t] < UNREACHED {
             if emits(kinds, sources, masks, t) {
-                at = put_rule(out, at, s, index, kinds, sources, masks, vars, types, t, k);
+                let named = put_name_field(out, at, s, k);
+                at = put_body(out, named, s, index, kinds, sources, masks, vars, types, t);
                 k += 1;
             }
         }

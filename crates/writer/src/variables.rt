@@ -27,7 +27,8 @@ pub fn put_all_variables(
 ) -> usize
     requires { ⌜ (from ≤ countLimit) × (n ≡ length (ruleAt (now s) .structures)) ⌝ }
     requires { ⌜ Numbered (now s) (now index) (tables (now sources) [] (now vars)) ⌝ }
-    ensures { λ r. ⌜ Put (now (out .entry)) (now (out .exit)) (recordBytes (each variableField (newsTo (now (s .entry)) (tables (now (sources .entry)) [] (now (vars .entry))) n))) from r ⌝ }
+    ensures { λ r. ⌜ Put (now (out .entry)) (now (out .exit))
+        (recordBytes (each variableField (newsTo (now (s .entry)) (tables (now (sources .entry)) [] (now (vars .entry))) n))) from r ⌝ }
 {
     let mut at = from;
     let mut number: u16 = 0;

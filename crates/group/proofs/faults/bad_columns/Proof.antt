@@ -1,21 +1,26 @@
-use borrow.Author.Tests.{eq-eqb, ne-eqb}
-use mathlib.Core.Path.{_∙_}
+use borrow.Author.Tests.{eq-eqb, ne-eqb, eqb-true}
+use mathlib.Core.Path.{_∙_, sym}
+use Rattle.definition.specs.Letters.{member}
+use Rattle.signature.specs.Relations.{kindOf}
 use Rattle.group.proofs.Drawn.{one-column}
 use borrow.Author.Needs.{needs}
 use Rattle.group.proofs.faults.bad_columns.Statement.{statement}
 use Rattle.group.proofs.faults.bad_columns.Tie as tie
 
-arity-requires : tie.Need-arity-requires
-arity-requires c κs = search needs
-
 returns : tie.Need-returns
 returns c = rw (← (c .before .arity .ensures), ne-eqb _ _ (c .if1 .taken))
 
 returns-2 : tie.Need-returns-2
-returns-2 c = rw (← (c .before .before .arity .ensures), eq-eqb _ _ (c .before .if1 .left), eq-eqb _ _ (c .if2 .taken)) (one-column _ _ _ (c .before .if1 .left ∙ rw (c .if2 .taken) at (c .before .before .arity .ensures)))
+returns-2 c =
+    let a = c .before .before .before .arity .ensures in
+    let m = sym (c .before .is-member .ensures) ∙ c .if2 .taken in
+    rw (← a, eq-eqb _ _ (c .before .before .if1 .left), m) (one-column _ _ _ (c .before .before .if1 .left ∙ rw (eqb-true (kindOf
+    (c .before .before .before .before .before .args .rel)) member m) at a))
 
 returns-3 : tie.Need-returns-3
-returns-3 c = rw (← (c .before .before .arity .ensures), eq-eqb _ _ (c .before .if1 .left), ne-eqb _ _ (c .if2 .left))
+returns-3 c = rw (← (c .before .before .before .arity .ensures), eq-eqb _ _ (c .before .before .if1 .left), ← (c .before .is-member .ensures), c .if2 .left)
 
 pub bad-columns-spec : {M : Type 1} → statement M
-bad-columns-spec = tie.close (tie.spec arity-requires returns returns-2 returns-3)
+bad-columns-spec =
+    tie.close
+    (tie.spec (λ c κs. search needs) returns (λ c κs. search needs) returns-2 returns-3)

@@ -14,7 +14,9 @@ returns-3 : tie.Need-returns-3
 returns-3 c = sym (low-kind (c .before .before .args .letter) (c .before .before .args .kind) (omega arith))
 
 returns-4 : tie.Need-returns-4
-returns-4 c = sym (high-kind (c .before .before .args .letter) (c .before .before .args .kind) (omega (arith, c .before .match .rest .0 .1, c .before .match .rest .1)))
+returns-4 c =
+    sym (high-kind (c .before .before .args .letter) (c .before .before .args .kind)
+      (omega (arith, c .before .match .rest .0 .1, c .before .match .rest .1)))
 
 pub may-state-spec : {M : Type 1} → statement M
 may-state-spec = tie.close (tie.spec returns returns-2 returns-3 returns-4)

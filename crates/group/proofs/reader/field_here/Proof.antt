@@ -20,7 +20,9 @@ returns-2 : tie.Need-returns-2
 returns-2 c = here-other (sym (c .before .before .before .before .read-field .ensures .0) ∙ c .before .before .f .given .1) (c .if1 .taken)
 
 returns-3 : tie.Need-returns-3
-returns-3 c = here-is (sym (c .before .before .before .before .read-field .ensures .0) ∙ c .before .before .f .given .1) (c .if1 .left) (rw (c .before .before .f .given .1) at (c .before .before .before .before .read-field .ensures .1))
+returns-3 c =
+    here-is (sym (c .before .before .before .before .read-field .ensures .0) ∙ c .before .before .f .given .1) (c .if1 .left)
+      (rw (c .before .before .f .given .1) at (c .before .before .before .before .read-field .ensures .1))
 
 pub field-here-spec : {M : Type 1} → statement M
 field-here-spec =

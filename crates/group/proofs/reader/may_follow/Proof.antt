@@ -32,7 +32,10 @@ returns-6 c = rw (c .before .match .keys3) (⊎-elim (λ e. rw e) (⊎-elim (λ 
 
 returns-7 : tie.Need-returns-7
 unfolding follows any has
-returns-7 c = rw (c .before .match .keys3, ne-eqb 71 _ (λ e. c .match4 .rest .0 .1 (inl (sym e))), ne-eqb 87 _ (λ e. c .match4 .rest .0 .1 (inr (sym e))), ne-eqb 66 _ (λ e. c .match4 .rest .1 (inl (sym e))), ne-eqb 72 _ (λ e. c .match4 .rest .1 (inr (inl (sym e)))), ne-eqb 85 _ (λ e. c .match4 .rest .1 (inr (inr (sym e)))))
+returns-7 c =
+    rw (c .before .match .keys3, ne-eqb 71 _ (λ e. c .match4 .rest .0 .1 (inl (sym e))), ne-eqb 87 _ (λ e. c .match4 .rest .0 .1 (inr (sym e))),
+      ne-eqb 66 _ (λ e. c .match4 .rest .1 (inl (sym e))), ne-eqb 72 _ (λ e. c .match4 .rest .1 (inr (inl (sym e)))),
+      ne-eqb 85 _ (λ e. c .match4 .rest .1 (inr (inr (sym e)))))
 
 returns-8 : tie.Need-returns-8
 unfolding follows any has
@@ -48,25 +51,17 @@ returns-10 c = rw (c .before .match .keys5) (⊎-elim (λ e. rw e) (⊎-elim (λ
 
 returns-11 : tie.Need-returns-11
 unfolding follows any has
-returns-11 c = rw (c .before .match .keys5, ne-eqb 66 _ (λ e. c .match6 .rest .1 (inl (sym e))), ne-eqb 72 _ (λ e. c .match6 .rest .1 (inr (inl (sym e)))), ne-eqb 85 _ (λ e. c .match6 .rest .1 (inr (inr (sym e)))))
+returns-11 c =
+    rw (c .before .match .keys5, ne-eqb 66 _ (λ e. c .match6 .rest .1 (inl (sym e))), ne-eqb 72 _ (λ e. c .match6 .rest .1 (inr (inl (sym e)))),
+      ne-eqb 85 _ (λ e. c .match6 .rest .1 (inr (inr (sym e)))))
 
 returns-12 : tie.Need-returns-12
 unfolding follows any has
-returns-12 c = rw (ne-eqb 71 _ (λ e. c .match .rest .0 .0 .0 .0 .1 (sym e)), ne-eqb 87 _ (λ e. c .match .rest .0 .0 .0 .1 (sym e)), ne-eqb 85 _ (λ e. c .match .rest .0 .0 .1 (sym e)), ne-eqb 66 _ (λ e. c .match .rest .0 .1 (sym e)), ne-eqb 72 _ (λ e. c .match .rest .1 (sym e)))
+returns-12 c =
+    rw (ne-eqb 71 _ (λ e. c .match .rest .0 .0 .0 .0 .1 (sym e)), ne-eqb 87 _ (λ e. c .match .rest .0 .0 .0 .1 (sym e)),
+      ne-eqb 85 _ (λ e. c .match .rest .0 .0 .1 (sym e)), ne-eqb 66 _ (λ e. c .match .rest .0 .1 (sym e)), ne-eqb 72 _ (λ e. c .match .rest .1 (sym e)))
 
 pub may-follow-spec : {M : Type 1} → statement M
 may-follow-spec =
     tie.close
-    (tie.spec
-    returns
-    returns-2
-    returns-3
-    returns-4
-    returns-5
-    returns-6
-    returns-7
-    returns-8
-    returns-9
-    returns-10
-    returns-11
-    returns-12)
+    (tie.spec returns returns-2 returns-3 returns-4 returns-5 returns-6 returns-7 returns-8 returns-9 returns-10 returns-11 returns-12)

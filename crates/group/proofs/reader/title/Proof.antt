@@ -8,47 +8,27 @@ use Rattle.group.proofs.First.{run-cons-bad, first-fault, first-sound}
 use Rattle.group.proofs.reader.title.Statement.{statement}
 use Rattle.group.proofs.reader.title.Tie as tie
 
-read-field-requires : tie.Need-read-field-requires
-read-field-requires c κs = search needs
-
-enum-known-f : tie.Need-enum-known-f
-enum-known-f c = search needs
-
-enum-told : tie.Need-enum-told
-enum-told c = search needs
-
 returns : tie.Need-returns
 returns c = (λ end f fs r. run-cons-bad r (sym (c .before .before .read-field .ensures .0) ∙ c .enum-told .given .1), tt)
 
 title-fault-requires : tie.Need-title-fault-requires
 title-fault-requires c κs = let a = rw (c .before .f .given .1) at (c .before .before .before .read-field .ensures .1) in omega arith
 
-enum-told-2 : tie.Need-enum-told-2
-enum-told-2 c = search needs
-
-enum-told-3 : tie.Need-enum-told-3
-enum-told-3 c = search needs
-
-drawn-requires : tie.Need-drawn-requires
-drawn-requires c κs = search needs
-
 returns-2 : tie.Need-returns-2
-returns-2 c = (λ end f fs r. first-fault r (sym (c .before .before .before .before .before .before .before .read-field .ensures .0) ∙ c .before .before .before .before .before .f .given .1) (titleFault 0 none) (λ letter. told-drawn (c .before .before .before .title-fault .ensures letter 0 none) (c .before .enum-told3 .given .1) (c .drawn .ensures)), tt)
+returns-2 c =
+    let at-f = c .before .before .before .before .before in let at-read-field = at-f .before .before in
+    (λ end f fs r. first-fault r (sym (at-read-field .read-field .ensures .0) ∙ at-f .f .given .1) (titleFault 0 none)
+      (λ letter. told-drawn (c .before .before .before .title-fault .ensures letter 0 none) (c .before .enum-told3 .given .1) (c .drawn .ensures)), tt)
 
 returns-3 : tie.Need-returns-3
-returns-3 c = (λ end f fs r. first-sound r (sym (c .before .before .before .before .before .before .read-field .ensures .0) ∙ c .before .before .before .before .f .given .1) (titleFault 0 none) (λ letter. told-sound (c .before .before .title-fault .ensures letter 0 none) (c .enum-told2 .given .1)), let a = rw (c .before .before .before .before .f .given .1) at (c .before .before .before .before .before .before .read-field .ensures .1) in (omega arith, omega arith))
+returns-3 c =
+    let at-f = c .before .before .before .before in let at-read-field = at-f .before .before in
+    (λ end f fs r. first-sound r (sym (at-read-field .read-field .ensures .0) ∙ at-f .f .given .1) (titleFault 0 none)
+      (λ letter. told-sound (c .before .before .title-fault .ensures letter 0 none) (c .enum-told2 .given .1)), let a =
+      rw (at-f .f .given .1) at (at-read-field .read-field .ensures .1) in (omega arith, omega arith))
 
 pub title-spec : {M : Type 1} → statement M
 title-spec =
     tie.close
-    (tie.spec
-    read-field-requires
-    enum-known-f
-    enum-told
-    returns
-    title-fault-requires
-    enum-told-2
-    enum-told-3
-    drawn-requires
-    returns-2
-    returns-3)
+    (tie.spec (λ c κs. search needs) (λ c. search needs) (λ c. search needs) returns title-fault-requires (λ c. search needs)
+      (λ c. search needs) (λ c κs. search needs) returns-2 returns-3)

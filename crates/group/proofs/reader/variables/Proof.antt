@@ -1,3 +1,6 @@
+-- Behind `count` W fields (`Listing`): the index holds these, and the first fault of all is that of the W fields left; each entry lies in
+-- the record (`Stored`). A sound field shows `count` below the limit (`few`), so it has room in the index (`listing-next`); a faulty one
+-- answers (`along-fault`). Another letter (`over-none`) or the end (`over-end`) ends them (`listing-over`).
 use Prim.Native.Nat.{_+_, _-_, _≤_, _<_}
 use mathlib.Core.Path.{_≡_}
 use mathlib.Core.Option.{Option, none}
@@ -13,7 +16,8 @@ use Rattle.signature.proofs.Checking.{told-sound, told-drawn}
 use Rattle.group.specs.Answers.{HereAt}
 use Rattle.group.specs.Index.{variablesFrom}
 use Rattle.group.specs.declared.reader.Here.the-variants as here
-use Rattle.group.proofs.Listing.{few-before, some-types, some-length, Stored, stored-start, stored-next, Listing, listing-start, listing-next, listing-over, listing-fault}
+use Rattle.group.proofs.Listing.{few-before, some-types, some-length, Stored, stored-start, stored-next, Listing, listing-start, listing-next}
+use Rattle.group.proofs.Listing.{listing-over, listing-fault}
 use Rattle.group.proofs.Along.{here-told, along-fault, over-end, over-none}
 use borrow.Author.Needs.{needs}
 use native.Mathlib.Omega.{arith}
@@ -21,7 +25,9 @@ use Rattle.group.proofs.reader.variables.Statement.{statement}
 use Rattle.group.proofs.reader.variables.Tie as tie
 
 abbrev Inv-loop : tie.InvT-loop
-Inv-loop s from end types index₀ at₀ count₀ index at count = (from ≤ at) × (at ≤ length s) × Stored s index count × ((sig : Signature) (fs : List Field) → length (sig .types) ≡ types → Run s from end fs → Listing sig s index from end fs at count)
+Inv-loop s from end types index₀ at₀ count₀ index at count =
+    (from ≤ at) × (at ≤ length s) × Stored s index count
+      × ((sig : Signature) (fs : List Field) → length (sig .types) ≡ types → Run s from end fs → Listing sig s index from end fs at count)
 
 abbrev μ-loop : tie.MeasureT-loop
 μ-loop s from end types index₀ at₀ count₀ index at count = end - at
@@ -53,78 +59,52 @@ room c = let f = few c in let l = L c .loop .inv .2 .size in omega arith
 loop-holds : tie.Need-loop-holds Inv-loop μ-loop
 loop-holds c = (search needs, search needs, stored-start (c .before .pre .1), λ sig fs e r. listing-start r)
 
-field-here-requires : tie.Need-field-here-requires Inv-loop μ-loop
-field-here-requires c κs = search needs
-
-enum-known-start : tie.Need-enum-known-start Inv-loop μ-loop
-enum-known-start c = search needs
-
-enum-told : tie.Need-enum-told Inv-loop μ-loop
-enum-told c = search needs
-
 returns : tie.Need-returns Inv-loop μ-loop
-returns c = (λ sig fs e r. let w = c .before .before .before .before .loop .inv .3 sig fs e r in listing-over w (c .before .before .before .before .loop .inv .2) (over-none (w .along) (c .before .before .before .loop-test .taken) (rw (c .enum-told .given .1) at (c .before .before .field-here .ensures))), ((c .before .before .before .before .loop .inv .0, c .before .before .before .before .loop .inv .1), c .before .before .before .before .loop .inv .2 .size))
+returns c =
+    (λ sig fs e r. let w = c .before .before .before .before .loop .inv .3 sig fs e r in
+      listing-over w (c .before .before .before .before .loop .inv .2)
+      (over-none (w .along) (c .before .before .before .loop-test .taken) (rw (c .enum-told .given .1) at (c .before .before .field-here .ensures))),
+      ((c .before .before .before .before .loop .inv .0, c .before .before .before .before .loop .inv .1),
+      c .before .before .before .before .loop .inv .2 .size))
 
 variable-fault-requires : tie.Need-variable-fault-requires Inv-loop μ-loop
 variable-fault-requires c κs = (rw (c .before .start .given .1) at (c .before .before .before .field-here .ensures)) .is .2
 
-enum-told-2 : tie.Need-enum-told-2 Inv-loop μ-loop
-enum-told-2 c = search needs
-
-enum-told-3 : tie.Need-enum-told-3 Inv-loop μ-loop
-enum-told-3 c = search needs
-
-drawn-requires : tie.Need-drawn-requires Inv-loop μ-loop
-drawn-requires c κs = search needs
-
 returns-2 : tie.Need-returns-2 Inv-loop μ-loop
-returns-2 c = let h = rw (c .before .before .before .before .before .start .given .1) at (c .before .before .before .before .before .before .before .field-here .ensures) in (λ sig fs e r. let w = c .before .before .before .before .before .before .before .before .before .loop .inv .3 sig fs e r in listing-fault w (along-fault (w .along) (c .before .before .before .before .before .before .before .before .loop-test .taken) (h .is .0) (λ last. told-drawn (c .before .before .before .variable-fault .ensures sig _ last e) (c .before .enum-told3 .given .1) (c .drawn .ensures))), (tt, c .before .before .before .before .before .before .before .before .before .loop .inv .2 .size))
+returns-2 c =
+    let at-start = c .before .before .before .before .before in let at-field-here = at-start .before .before in
+    let at-loop-test = at-field-here .before in let at-loop = at-loop-test .before in
+    let h = rw (at-start .start .given .1) at (at-field-here .field-here .ensures) in
+      (λ sig fs e r. let w = at-loop .loop .inv .3 sig fs e r in
+      listing-fault w (along-fault (w .along) (at-loop-test .loop-test .taken) (h .is .0)
+      (λ last. told-drawn (c .before .before .before .variable-fault .ensures sig _ last e) (c .before .enum-told3 .given .1) (c .drawn .ensures))),
+      (tt, at-loop .loop .inv .2 .size))
 
 cast-index : tie.Need-cast-index Inv-loop μ-loop
 cast-index c = omega arith
 
-add-index : tie.Need-add-index Inv-loop μ-loop
-add-index c = search needs
-
-mul-index : tie.Need-mul-index Inv-loop μ-loop
-mul-index c = search needs
-
 element-write-index : tie.Need-element-write-index Inv-loop μ-loop
 element-write-index c = omega (arith, few c)
-
-add-count : tie.Need-add-count Inv-loop μ-loop
-add-count c = search needs
 
 loop-less : tie.Need-loop-less Inv-loop μ-loop
 loop-less c = let a = found c .is .1 in omega arith
 
 loop-again : tie.Need-loop-again Inv-loop μ-loop
-loop-again c = let a = found c .is .1 in let b = found c .is .3 in (omega arith, omega arith, stored-next (some-types _) _ (L c .loop .inv .2) (found c .is .0) (fine c (some-types _) (some-length _) none), λ sig fs e r. listing-next (L c .loop .inv .3 sig fs e r) (c .before .before .before .before .before .before .before .loop-test .taken) (room c) (found c .is .0) (fine c sig e))
+loop-again c =
+    let at-loop-test = c .before .before .before .before .before .before .before in
+    let a = found c .is .1 in let b = found c .is .3 in
+      (omega arith, omega arith, stored-next (some-types _) _ (L c .loop .inv .2) (found c .is .0) (fine c (some-types _) (some-length _) none),
+      λ sig fs e r. listing-next (L c .loop .inv .3 sig fs e r) (at-loop-test .loop-test .taken) (room c) (found c .is .0) (fine c sig e))
 
 returns-3 : tie.Need-returns-3 Inv-loop μ-loop
-returns-3 c = (λ sig fs e r. let w = c .before .loop .inv .3 sig fs e r in listing-over w (c .before .loop .inv .2) (over-end (w .along) (c .loop-test .left)), ((c .before .loop .inv .0, c .before .loop .inv .1), c .before .loop .inv .2 .size))
+returns-3 c =
+    (λ sig fs e r. let w = c .before .loop .inv .3 sig fs e r in
+      listing-over w (c .before .loop .inv .2) (over-end (w .along) (c .loop-test .left)),
+      ((c .before .loop .inv .0, c .before .loop .inv .1), c .before .loop .inv .2 .size))
 
 pub variables-spec : {M : Type 1} → statement M
 variables-spec =
     tie.close
-    (tie.spec
-    Inv-loop
-    μ-loop
-    loop-holds
-    field-here-requires
-    enum-known-start
-    enum-told
-    returns
-    variable-fault-requires
-    enum-told-2
-    enum-told-3
-    drawn-requires
-    returns-2
-    cast-index
-    add-index
-    mul-index
-    element-write-index
-    add-count
-    loop-less
-    loop-again
-    returns-3)
+    (tie.spec Inv-loop μ-loop loop-holds (λ c κs. search needs) (λ c. search needs) (λ c. search needs) returns variable-fault-requires
+      (λ c. search needs) (λ c. search needs) (λ c κs. search needs) returns-2 cast-index (λ c. search needs) (λ c. search needs)
+      element-write-index (λ c. search needs) loop-less loop-again returns-3)

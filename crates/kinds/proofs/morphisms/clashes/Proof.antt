@@ -12,16 +12,21 @@ none-set-requires c κs = search needs
 returns : tie.Need-returns
 returns c =
     let none = sym (c .before .none-set .ensures) ∙ c .if1 .taken in
-    λ sig table target t. sym (no-clash sig table _ _ _ (none-merged (c .before .before .before .before .pre .1 .1 .1) none))
+    λ sig table target t. sym (no-clash sig table _ _ _ (none-merged (c .before .before .before .before .pre .0 .merged) none))
 
 key-vars-requires : tie.Need-key-vars-requires
-key-vars-requires c κs = (c .before .before .before .before .before .pre .0 .map-in, (c .before .before .before .before .before .pre .0 .source-at .laid .few, (c .before .before .before .before .before .pre .0 .source-at .laid .elements .elements, keys-in (c .before .before .before .before .before .pre .0 .source-at .laid) (c .before .before .before .before .before .pre .1 .0))))
+key-vars-requires c κs = let w = c .before .before .before .before .before .pre .0 in (w .map-in, (w .source-at .laid .few, (w .source-at .laid
+    .elements .elements, keys-in w)))
 
 kernel-clash-requires : tie.Need-kernel-clash-requires
-kernel-clash-requires c κs = (c .before .before .before .before .before .before .before .pre .0 .map-in, keys-typed (c .before .before .before .before .before .before .before .pre .0 .map-in) (c .before .before .before .before .before .before .before .pre .1 .0) (c .before .before .before .before .before .before .before .pre .1 .1 .0) (c .before .key-vars .ensures _ (side-at (c .before .before .before .before .before .before .before .pre .0 .source-at .laid) _)))
+kernel-clash-requires c κs =
+    let p = c .before .before .before .before .before .before .before .pre in let w = p .0 in
+    (w .map-in, keys-typed w (p .1) (c .before .key-vars .ensures _ (side-at (w .source-at .laid) _)))
 
 returns-2 : tie.Need-returns-2
-returns-2 c = λ sig table target t. c .kernel-clash .ensures sig table _ _ (c .before .before .key-vars .ensures _ (side-at (c .before .before .before .before .before .before .before .before .pre .0 .source-at .laid) _)) t (c .before .before .before .before .before .before .before .before .pre .1 .0 .images)
+returns-2 c = λ sig table target t.
+    let w = c .before .before .before .before .before .before .before .before .pre .0 in
+    c .kernel-clash .ensures sig table _ _ (c .before .before .key-vars .ensures _ (side-at (w .source-at .laid) _)) t (w .joins .images)
 
 pub clashes-spec : {M : Type 1} → statement M
 clashes-spec = tie.close (tie.spec none-set-requires returns key-vars-requires kernel-clash-requires returns-2)

@@ -14,7 +14,9 @@ added-rows-requires : tie.Need-added-rows-requires
 added-rows-requires c κs = search needs
 
 returns-2 : tie.Need-returns-2
-returns-2 c = λ sig table target t. masks-added sig table _ target _ (sym (c .before .before .clashes .ensures sig table target t) ∙ c .before .if1 .left) (c .added-rows .ensures)
+returns-2 c =
+    λ sig table target t. masks-added sig table _ target _ (sym (c .before .before .clashes .ensures sig table target t) ∙ c .before .if1 .left)
+      (c .added-rows .ensures)
 
 pub new-masks-spec : {M : Type 1} → statement M
 new-masks-spec = tie.close (tie.spec clashes-requires returns added-rows-requires returns-2)

@@ -1,11 +1,14 @@
+-- The answer for the whole list is that for its elements from the j-th on (`allFrom`). The flag at an element's place is p of it: unset, it
+-- answers false (`all-stop`); set, those behind it answer (`all-more`); none left is true (`all-done`). The caller says that all are named,
+-- so the return for one that is not found is never reached (`all-named`).
 use borrow.Author.Needs.{needs}
 use Prim.Native.Nat.{ℕ, _-_, _≤_}
 use native.Mathlib.Omega.{arith}
 use mathlib.Core.Bool.{Bool}
 use mathlib.Core.Path.{_≡_, sym, _∙_}
 use lib.ListN.{take}
+use borrow.Author.Tests.{not-true, not-false}
 use Rattle.definition.specs.Base.{all, each, _∈_}
-use Rattle.laws.proofs.Lists.{not-true, not-false}
 use Rattle.records.proofs.Along.{allFrom, all-start}
 use Rattle.rule.proofs.Finding.{numbers-length}
 use Rattle.rule.specs.Elements.{countAt, elementNumbers}
@@ -32,12 +35,6 @@ el-at-requires c κs = (c .before .before .before .pre .0 .1, c .loop-test .take
 find-element-requires : tie.Need-find-element-requires Inv-loop μ-loop
 find-element-requires c κs = (c .before .before .before .before .pre .0 .0, c .before .before .before .before .pre .1)
 
-enum-known-f : tie.Need-enum-known-f Inv-loop μ-loop
-enum-known-f c = search needs
-
-enum-told : tie.Need-enum-told Inv-loop μ-loop
-enum-told c = search needs
-
 returns : tie.Need-returns Inv-loop μ-loop
 returns c = λ p f n.
     let inside = c .before .before .before .before .before .before .before .pre .0 .1 in let h = c .before .before .before .before .loop-test .taken in
@@ -45,7 +42,9 @@ returns c = λ p f n.
     all-named p _ _ (numbers-length _ _ _) f inside h (c .before .before .before .el-at .ensures) n found
 
 array-read-if1 : tie.Need-array-read-if1 Inv-loop μ-loop
-array-read-if1 c = found-few (c .before .before .before .before .before .before .before .before .pre .1) (rw (c .before .f .given .1) at (c .before .before .before .find-element .ensures))
+array-read-if1 c =
+    let at-start = c .before .before .before .before .before .before .before .before in
+    found-few (at-start .pre .1) (rw (c .before .f .given .1) at (c .before .before .before .find-element .ensures))
 
 returns-2 : tie.Need-returns-2 Inv-loop μ-loop
 returns-2 c = λ p f n.
@@ -54,12 +53,6 @@ returns-2 c = λ p f n.
     let h = c .before .before .before .before .before .before .loop-test .taken in let is = c .before .before .before .before .before .el-at .ensures in
     let found = rw (c .before .before .f .given .1) at (c .before .before .before .before .find-element .ensures) in
     sym (before ∙ all-stop p _ _ (numbers-length _ _ _) f inside h is found (not-true _ (c .if1 .taken)))
-
-add-j : tie.Need-add-j Inv-loop μ-loop
-add-j c = search needs
-
-loop-less : tie.Need-loop-less Inv-loop μ-loop
-loop-less c = search needs
 
 loop-again : tie.Need-loop-again Inv-loop μ-loop
 loop-again c = (omega arith, λ p f n.
@@ -75,18 +68,5 @@ returns-3 c = λ p f n. sym (c .before .loop .inv .1 p f n ∙ all-done p (c .be
 pub all-flagged-spec : {M : Type 1} → statement M
 all-flagged-spec =
     tie.close
-    (tie.spec
-    Inv-loop
-    μ-loop
-    loop-holds
-    el-at-requires
-    find-element-requires
-    enum-known-f
-    enum-told
-    returns
-    array-read-if1
-    returns-2
-    add-j
-    loop-less
-    loop-again
-    returns-3)
+    (tie.spec Inv-loop μ-loop loop-holds el-at-requires find-element-requires (λ c. search needs) (λ c. search needs) returns array-read-if1
+      returns-2 (λ c. search needs) (λ c. search needs) loop-again returns-3)

@@ -1,3 +1,6 @@
+-- Before `at` lie `place` rows (`Passed`), none of which yields e: the first row that does is the first among those left (`drop place fs`).
+-- A row with another result is dropped (`seek-miss`); one whose result is e is that first (`seek-found`); at the section's end no row is
+-- left, so none yields e (`seek-end`).
 use Prim.Native.Nat.{ℕ, _-_, _≤_, _<_}
 use native.Mathlib.Omega.{arith}
 use mathlib.Core.List.{List}
@@ -79,14 +82,4 @@ returns-2 c = let inv = c .before .before .before .before .before .before .rows 
 pub yielding-row-spec : {M : Type 1} → statement M
 yielding-row-spec =
     tie.close
-    (tie.spec
-    Inv-rows
-    μ-rows
-    rows-holds
-    read-row-requires
-    row-result-requires
-    add-place
-    rows-less
-    rows-again
-    returns
-    returns-2)
+    (tie.spec Inv-rows μ-rows rows-holds read-row-requires row-result-requires add-place rows-less rows-again returns returns-2)

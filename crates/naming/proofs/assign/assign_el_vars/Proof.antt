@@ -13,7 +13,10 @@ assign-structure-el-vars-requires : tie.Need-assign-structure-el-vars-requires
 assign-structure-el-vars-requires c κs = search needs
 
 returns : tie.Need-returns
-returns c = assigned (c .before .before .before .before .pre .0 .1) (c .before .before .before .before .pre .1 .0 .1) (c .before .before .before .before .pre .1 .1 .0) (search needs) (c .before .element-count .ensures) (c .before .before .carried .ensures) (c .assign-structure-el-vars .ensures)
+returns c =
+    assigned (c .before .before .before .before .pre .0 .1) (c .before .before .before .before .pre .1 .0 .1)
+      (c .before .before .before .before .pre .1 .1 .0) (search needs) (c .before .element-count .ensures) (c .before .before .carried .ensures)
+      (c .assign-structure-el-vars .ensures)
 
 pub assign-el-vars-spec : {M : Type 1} → statement M
 assign-el-vars-spec =

@@ -15,29 +15,11 @@ abbrev μ-loop : tie.MeasureT-loop
 loop-holds : tie.Need-loop-holds Inv-loop μ-loop
 loop-holds c = (search needs, numbering _ _ _)
 
-mul-if1 : tie.Need-mul-if1 Inv-loop μ-loop
-mul-if1 c = search needs
-
-array-read-if1 : tie.Need-array-read-if1 Inv-loop μ-loop
-array-read-if1 c = search needs
-
-mul-vars : tie.Need-mul-vars Inv-loop μ-loop
-mul-vars c = search needs
-
-array-write-vars : tie.Need-array-write-vars Inv-loop μ-loop
-array-write-vars c = search needs
-
-add-number : tie.Need-add-number Inv-loop μ-loop
-add-number c = search needs
-
-add-i : tie.Need-add-i Inv-loop μ-loop
-add-i c = search needs
-
-loop-less : tie.Need-loop-less Inv-loop μ-loop
-loop-less c = search needs
-
 loop-again : tie.Need-loop-again Inv-loop μ-loop
-loop-again c = ⊎-elim (λ w. (search needs, rw (w .1, w .2) (number-new (c .before .before .loop .inv .1) (search needs) (c .before .loop-test .taken) (w .0 .taken)))) (λ w. (search needs, rw (w .1, w .2) (number-kept (c .before .before .loop .inv .1) (search needs) (c .before .loop-test .taken) (w .0 .left)))) (c .if1 .came)
+loop-again c =
+    ⊎-elim (λ w. (search needs, rw (w .1, w .2) (number-new (c .before .before .loop .inv .1) (search needs) (c .before .loop-test .taken) (w .0 .taken))))
+      (λ w. (search needs, rw (w .1, w .2) (number-kept (c .before .before .loop .inv .1) (search needs) (c .before .loop-test .taken) (w .0 .left))))
+      (c .if1 .came)
 
 returns : tie.Need-returns Inv-loop μ-loop
 returns c = number-end (c .before .loop .inv .1) (search needs) (omega arith)
@@ -45,16 +27,5 @@ returns c = number-end (c .before .loop .inv .1) (search needs) (omega arith)
 pub assign-structure-el-vars-spec : {M : Type 1} → statement M
 assign-structure-el-vars-spec =
     tie.close
-    (tie.spec
-    Inv-loop
-    μ-loop
-    loop-holds
-    mul-if1
-    array-read-if1
-    mul-vars
-    array-write-vars
-    add-number
-    add-i
-    loop-less
-    loop-again
-    returns)
+    (tie.spec Inv-loop μ-loop loop-holds (λ c. search needs) (λ c. search needs) (λ c. search needs) (λ c. search needs) (λ c. search needs)
+      (λ c. search needs) (λ c. search needs) loop-again returns)

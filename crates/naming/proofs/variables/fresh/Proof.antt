@@ -14,23 +14,11 @@ abbrev μ-loop : tie.MeasureT-loop
 loop-holds : tie.Need-loop-holds Inv-loop μ-loop
 loop-holds c = (search needs, counting _ _ _)
 
-mul-if1 : tie.Need-mul-if1 Inv-loop μ-loop
-mul-if1 c = search needs
-
-array-read-if1 : tie.Need-array-read-if1 Inv-loop μ-loop
-array-read-if1 c = search needs
-
-add-n : tie.Need-add-n Inv-loop μ-loop
-add-n c = search needs
-
-add-i : tie.Need-add-i Inv-loop μ-loop
-add-i c = search needs
-
-loop-less : tie.Need-loop-less Inv-loop μ-loop
-loop-less c = search needs
-
 loop-again : tie.Need-loop-again Inv-loop μ-loop
-loop-again c = ⊎-elim (λ w. (search needs, rw (w .1) (count-new (c .before .before .loop .inv .1) (search needs) (c .before .loop-test .taken) (w .0 .taken)))) (λ w. (search needs, rw (w .1) (count-kept (c .before .before .loop .inv .1) (search needs) (c .before .loop-test .taken) (w .0 .left)))) (c .if1 .came)
+loop-again c =
+    ⊎-elim (λ w. (search needs, rw (w .1) (count-new (c .before .before .loop .inv .1) (search needs) (c .before .loop-test .taken) (w .0 .taken))))
+      (λ w. (search needs, rw (w .1) (count-kept (c .before .before .loop .inv .1) (search needs) (c .before .loop-test .taken) (w .0 .left))))
+      (c .if1 .came)
 
 returns : tie.Need-returns Inv-loop μ-loop
 returns c = count-end (c .before .loop .inv .1) (search needs) (c .loop-test .left)
@@ -38,14 +26,5 @@ returns c = count-end (c .before .loop .inv .1) (search needs) (c .loop-test .le
 pub fresh-spec : {M : Type 1} → statement M
 fresh-spec =
     tie.close
-    (tie.spec
-    Inv-loop
-    μ-loop
-    loop-holds
-    mul-if1
-    array-read-if1
-    add-n
-    add-i
-    loop-less
-    loop-again
-    returns)
+    (tie.spec Inv-loop μ-loop loop-holds (λ c. search needs) (λ c. search needs) (λ c. search needs) (λ c. search needs) (λ c. search needs)
+      loop-again returns)

@@ -14,21 +14,6 @@ abbrev μ-loop : tie.MeasureT-loop
 loop-holds : tie.Need-loop-holds Inv-loop μ-loop
 loop-holds c = (search needs, flagging _ _ _ (search needs))
 
-mul-flags : tie.Need-mul-flags Inv-loop μ-loop
-mul-flags c = search needs
-
-array-read-flags : tie.Need-array-read-flags Inv-loop μ-loop
-array-read-flags c = search needs
-
-array-write-flags : tie.Need-array-write-flags Inv-loop μ-loop
-array-write-flags c = search needs
-
-add-i : tie.Need-add-i Inv-loop μ-loop
-add-i c = search needs
-
-loop-less : tie.Need-loop-less Inv-loop μ-loop
-loop-less c = search needs
-
 loop-again : tie.Need-loop-again Inv-loop μ-loop
 loop-again c = (search needs, flag-on (c .before .loop .inv .1) (search needs) (c .loop-test .taken))
 
@@ -38,14 +23,5 @@ returns c = flag-end (c .before .loop .inv .1) (search needs) (omega arith)
 pub image-els-spec : {M : Type 1} → statement M
 image-els-spec =
     tie.close
-    (tie.spec
-    Inv-loop
-    μ-loop
-    loop-holds
-    mul-flags
-    array-read-flags
-    array-write-flags
-    add-i
-    loop-less
-    loop-again
-    returns)
+    (tie.spec Inv-loop μ-loop loop-holds (λ c. search needs) (λ c. search needs) (λ c. search needs) (λ c. search needs) (λ c. search needs)
+      loop-again returns)

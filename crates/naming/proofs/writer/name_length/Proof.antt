@@ -17,7 +17,9 @@ cast-result : tie.Need-cast-result
 cast-result c = let e = c .before .base-length .ensures (c .before .before .before .args .s .now) (c .before .before .before .pre) in omega arith
 
 returns : tie.Need-returns
-returns c = let e = c .before .base-length .ensures (c .before .before .before .args .s .now) (c .before .before .before .pre) in (rw length-append (omega arith), omega arith)
+returns c =
+    let e = c .before .base-length .ensures (c .before .before .before .args .s .now) (c .before .before .before .pre) in
+      (rw length-append (omega arith), omega arith)
 
 pub name-length-spec : {M : Type 1} → statement M
 name-length-spec =

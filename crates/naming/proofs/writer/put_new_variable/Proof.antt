@@ -17,7 +17,9 @@ S c = c .before .before .before .before
 
 -- The bytes of the field, by what was read of the element.
 bytes : (c : tie.After-el-base-name) → variableBytes (S c .args .s .now) (c .before .read-element .result .ty .0) (c .el-base-name .result) (S c .args .number)
-    ≡ fieldBytes (variableField (newVariable (structureIn (S c .args .s .now) (S c .args .k)) (S c .args .number) (elementIn (S c .args .s .now) (S c .args .index .now) (S c .args .k) (S c .args .i))))
+    ≡ fieldBytes (variableField
+        (newVariable (structureIn (S c .args .s .now) (S c .args .k)) (S c .args .number)
+        (elementIn (S c .args .s .now) (S c .args .index .now) (S c .args .k) (S c .args .i))))
 bytes c = let e = c .before .read-element .ensures .0 in
     variable-bytes _ _ _ (c .el-base-name .result) (elementIn (S c .args .s .now) (S c .args .index .now) (S c .args .k) (S c .args .i))
     (c .el-base-name .ensures .0) (ap (λ (x : Element). x .number) e) (ap (λ (x : Element). x .type) e)
@@ -25,60 +27,21 @@ bytes c = let e = c .before .read-element .ensures .0 in
 read-element-requires : tie.Need-read-element-requires
 read-element-requires c κs = ((c .before .before .pre .1 .few, c .before .before .pre .0 .1), c .before .before .pre .1 .elements)
 
-el-base-name-requires : tie.Need-el-base-name-requires
-el-base-name-requires c κs = search needs
-
-name-length-requires : tie.Need-name-length-requires
-name-length-requires c κs = search needs
-
-place-requires : tie.Need-place-requires
-place-requires c κs = search needs
-
-add-past : tie.Need-add-past
-add-past c = search needs
-
-past-requires : tie.Need-past-requires
-past-requires c κs = search needs
-
 returns : tie.Need-returns
-returns c = rw (← (bytes (c .before .before .before .before))) (variable-counted _ _ _ _ _ (c .before .before .name-length .ensures .0) (rw (c .before .place .ensures .0) at (c .past .ensures)) (c .before .before .before .if1 .taken))
-
-sub-put-variable : tie.Need-sub-put-variable
-sub-put-variable c = search needs
-
-part-put-variable-start : tie.Need-part-put-variable-start
-part-put-variable-start c = search needs
-
-part-put-variable-end : tie.Need-part-put-variable-end
-part-put-variable-end c = search needs
-
-put-variable-requires : tie.Need-put-variable-requires
-put-variable-requires c κs = search needs
-
-past-requires-2 : tie.Need-past-requires-2
-past-requires-2 c κs = search needs
-
-same-length : tie.Need-same-length
-same-length c = search needs
+returns c =
+    rw (← (bytes (c .before .before .before .before)))
+      (variable-counted _ _ _ _ _ (c .before .before .name-length .ensures .0) (rw (c .before .place .ensures .0) at (c .past .ensures))
+      (c .before .before .before .if1 .taken))
 
 returns-2 : tie.Need-returns-2
-returns-2 c = rw (← (bytes (c .before .before .before .before .before .before))) (lent (omega arith) (c .before .before .before .put-variable .ensures) (c .past2 .ensures) (c .before .before .before .before .before .before .before .before .before .before .pre .0 .0))
+returns-2 c =
+    rw (← (bytes (c .before .before .before .before .before .before)))
+      (lent (omega arith) (c .before .before .before .put-variable .ensures) (c .past2 .ensures)
+      (c .before .before .before .before .before .before .before .before .before .before .pre .0 .0))
 
 pub put-new-variable-spec : {M : Type 1} → statement M
 put-new-variable-spec =
     tie.close
-    (tie.spec
-    read-element-requires
-    el-base-name-requires
-    name-length-requires
-    place-requires
-    add-past
-    past-requires
-    returns
-    sub-put-variable
-    part-put-variable-start
-    part-put-variable-end
-    put-variable-requires
-    past-requires-2
-    same-length
-    returns-2)
+    (tie.spec read-element-requires (λ c κs. search needs) (λ c κs. search needs) (λ c κs. search needs) (λ c. search needs)
+      (λ c κs. search needs) returns (λ c. search needs) (λ c. search needs) (λ c. search needs) (λ c κs. search needs)
+      (λ c κs. search needs) (λ c. search needs) returns-2)

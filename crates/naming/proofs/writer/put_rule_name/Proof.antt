@@ -17,7 +17,10 @@ same-length : tie.Need-same-length
 same-length c = search needs
 
 returns : tie.Need-returns
-returns c = rw append-assoc at (then (then (c .before .before .before .before .before .before .before .before .before .before .put-group-name .ensures) (c .before .before .before .before .before .before .put-byte .ensures)) (c .before .before .put-decimal .ensures))
+returns c =
+    let at-put-byte = c .before .before .before .before .before .before in
+    let at-put-group-name = at-put-byte .before .before .before .before in
+    rw append-assoc at (then (then (at-put-group-name .put-group-name .ensures) (at-put-byte .put-byte .ensures)) (c .before .before .put-decimal .ensures))
 
 pub put-rule-name-spec : {M : Type 1} → statement M
 put-rule-name-spec =

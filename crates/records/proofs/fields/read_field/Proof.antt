@@ -8,51 +8,25 @@ returns : tie.Need-returns
 unfolding fieldAt
 returns c = (simp (lt-ltb _ _ (c .if1 .taken)), tt)
 
-sub-if2 : tie.Need-sub-if2
-sub-if2 c = search needs
-
 returns-2 : tie.Need-returns-2
 unfolding fieldAt
 returns-2 c = (simp (le-ltb _ _ (c .before .if1 .left), lt-ltb _ _ (c .if2 .taken)), tt)
 
-add-two : tie.Need-add-two
-add-two c = search needs
-
-two-requires : tie.Need-two-requires
-two-requires c κs = search needs
-
-add-start : tie.Need-add-start
-add-start c = search needs
-
-sub-if3 : tie.Need-sub-if3
-sub-if3 c = search needs
-
 returns-3 : tie.Need-returns-3
 unfolding fieldAt
-returns-3 c = let e = c .before .two .ensures .0 in (simp (le-ltb _ _ (c .before .before .before .if1 .left), le-ltb _ _ (c .before .before .if2 .left), ← e, lt-ltb _ _ (c .if3 .taken)), tt)
-
-shared-slice-read-t9 : tie.Need-shared-slice-read-t9
-shared-slice-read-t9 c = search needs
-
-add-t7 : tie.Need-add-t7
-add-t7 c = search needs
+returns-3 c =
+    let e = c .before .two .ensures .0 in
+      (simp (le-ltb _ _ (c .before .before .before .if1 .left), le-ltb _ _ (c .before .before .if2 .left), ← e, lt-ltb _ _ (c .if3 .taken)), tt)
 
 returns-4 : tie.Need-returns-4
 unfolding fieldAt
-returns-4 c = let e = c .before .before .two .ensures .0 in (simp (le-ltb _ _ (c .before .before .before .before .if1 .left), le-ltb _ _ (c .before .before .before .if2 .left), ← e, le-ltb _ _ (c .before .if3 .left)), search needs)
+returns-4 c =
+    let e = c .before .before .two .ensures .0 in
+      (simp (le-ltb _ _ (c .before .before .before .before .if1 .left), le-ltb _ _ (c .before .before .before .if2 .left), ← e,
+      le-ltb _ _ (c .before .if3 .left)), search needs)
 
 pub read-field-spec : {M : Type 1} → statement M
 read-field-spec =
     tie.close
-    (tie.spec
-    returns
-    sub-if2
-    returns-2
-    add-two
-    two-requires
-    add-start
-    sub-if3
-    returns-3
-    shared-slice-read-t9
-    add-t7
-    returns-4)
+    (tie.spec returns (λ c. search needs) returns-2 (λ c. search needs) (λ c κs. search needs) (λ c. search needs) (λ c. search needs)
+      returns-3 (λ c. search needs) (λ c. search needs) returns-4)

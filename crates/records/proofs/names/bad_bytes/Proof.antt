@@ -20,26 +20,24 @@ abbrev μ-loop : tie.MeasureT-loop
 loop-holds : tie.Need-loop-holds Inv-loop μ-loop
 loop-holds c = refl
 
-add-b : tie.Need-add-b Inv-loop μ-loop
-add-b c = search needs
-
-shared-slice-read-b : tie.Need-shared-slice-read-b Inv-loop μ-loop
-shared-slice-read-b c = search needs
-
 returns : tie.Need-returns Inv-loop μ-loop
-returns c = ap not (sym (all-start _ _ ∙ c .before .before .before .loop .inv ∙ all-no _ _ (length-stretch _ _ _ (c .before .before .before .before .pre)) (c .before .before .loop-test .taken) (stretch-at _ _ _ _ (c .before .before .loop-test .taken)) (byte-low _ (c .if1 .taken))))
+returns c =
+    ap not (sym (all-start _ _ ∙ c .before .before .before .loop .inv
+      ∙ all-no _ _ (length-stretch _ _ _ (c .before .before .before .before .pre)) (c .before .before .loop-test .taken)
+      (stretch-at _ _ _ _ (c .before .before .loop-test .taken)) (byte-low _ (c .if1 .taken))))
 
 returns-2 : tie.Need-returns-2 Inv-loop μ-loop
-returns-2 c = ap not (sym (all-start _ _ ∙ c .before .before .before .before .loop .inv ∙ all-no _ _ (length-stretch _ _ _ (c .before .before .before .before .before .pre)) (c .before .before .before .loop-test .taken) (stretch-at _ _ _ _ (c .before .before .before .loop-test .taken)) (byte-high _ (c .before .if1 .left) (c .if2 .taken))))
-
-add-i : tie.Need-add-i Inv-loop μ-loop
-add-i c = search needs
-
-loop-less : tie.Need-loop-less Inv-loop μ-loop
-loop-less c = search needs
+returns-2 c =
+    let at-loop-test = c .before .before .before in let at-start = at-loop-test .before .before in
+    ap not (sym (all-start _ _ ∙ c .before .before .before .before .loop .inv
+      ∙ all-no _ _ (length-stretch _ _ _ (at-start .pre)) (at-loop-test .loop-test .taken) (stretch-at _ _ _ _ (at-loop-test .loop-test .taken))
+      (byte-high _ (c .before .if1 .left) (c .if2 .taken))))
 
 loop-again : tie.Need-loop-again Inv-loop μ-loop
-loop-again c = c .before .before .before .before .loop .inv ∙ all-on _ _ (length-stretch _ _ _ (c .before .before .before .before .before .pre)) (c .before .before .before .loop-test .taken) (stretch-at _ _ _ _ (c .before .before .before .loop-test .taken)) (byte-good _ (c .before .if1 .left) (c .if2 .left))
+loop-again c =
+    let at-loop-test = c .before .before .before in let at-start = at-loop-test .before .before in
+    c .before .before .before .before .loop .inv ∙ all-on _ _ (length-stretch _ _ _ (at-start .pre)) (at-loop-test .loop-test .taken)
+      (stretch-at _ _ _ _ (at-loop-test .loop-test .taken)) (byte-good _ (c .before .if1 .left) (c .if2 .left))
 
 returns-3 : tie.Need-returns-3 Inv-loop μ-loop
 returns-3 c = ap not (sym (all-start _ _ ∙ c .before .loop .inv ∙ all-end _ _ (length-stretch _ _ _ (c .before .before .pre)) (c .loop-test .left)))
@@ -47,15 +45,5 @@ returns-3 c = ap not (sym (all-start _ _ ∙ c .before .loop .inv ∙ all-end _ 
 pub bad-bytes-spec : {M : Type 1} → statement M
 bad-bytes-spec =
     tie.close
-    (tie.spec
-    Inv-loop
-    μ-loop
-    loop-holds
-    add-b
-    shared-slice-read-b
-    returns
-    returns-2
-    add-i
-    loop-less
-    loop-again
-    returns-3)
+    (tie.spec Inv-loop μ-loop loop-holds (λ c. search needs) (λ c. search needs) returns returns-2 (λ c. search needs) (λ c. search needs)
+      loop-again returns-3)

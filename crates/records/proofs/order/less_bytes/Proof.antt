@@ -16,34 +16,28 @@ loop-holds : tie.Need-loop-holds Inv-loop μ-loop
 loop-holds c = refl
 
 returns : tie.Need-returns Inv-loop μ-loop
-returns c = sym (less-start _ _ _ _ _ ∙ c .before .before .loop .inv ∙ less-short _ _ _ _ _ (c .before .before .before .pre) _ (c .before .loop-test .taken) (c .if1 .taken))
-
-add-x : tie.Need-add-x Inv-loop μ-loop
-add-x c = search needs
-
-shared-slice-read-x : tie.Need-shared-slice-read-x Inv-loop μ-loop
-shared-slice-read-x c = search needs
-
-add-y : tie.Need-add-y Inv-loop μ-loop
-add-y c = search needs
-
-shared-slice-read-y : tie.Need-shared-slice-read-y Inv-loop μ-loop
-shared-slice-read-y c = search needs
+returns c =
+    sym (less-start _ _ _ _ _ ∙ c .before .before .loop .inv ∙ less-short _ _ _ _ _ (c .before .before .before .pre) _ (c .before .loop-test .taken)
+      (c .if1 .taken))
 
 returns-2 : tie.Need-returns-2 Inv-loop μ-loop
-returns-2 c = sym (less-start _ _ _ _ _ ∙ c .before .before .before .before .before .loop .inv ∙ less-yes _ _ _ _ _ (c .before .before .before .before .before .before .pre) _ (c .before .before .before .before .loop-test .taken) (c .before .before .before .if1 .left) (c .if2 .taken))
+returns-2 c =
+    let at-loop = c .before .before .before .before .before in let at-start = at-loop .before in
+    sym (less-start _ _ _ _ _ ∙ at-loop .loop .inv ∙ less-yes _ _ _ _ _ (at-start .pre) _ (c .before .before .before .before .loop-test .taken)
+      (c .before .before .before .if1 .left) (c .if2 .taken))
 
 returns-3 : tie.Need-returns-3 Inv-loop μ-loop
-returns-3 c = sym (less-start _ _ _ _ _ ∙ c .before .before .before .before .before .before .loop .inv ∙ less-no _ _ _ _ _ (c .before .before .before .before .before .before .before .pre) _ (c .before .before .before .before .before .loop-test .taken) (c .before .before .before .before .if1 .left) (c .before .if2 .left) (c .if3 .taken))
-
-add-i : tie.Need-add-i Inv-loop μ-loop
-add-i c = search needs
-
-loop-less : tie.Need-loop-less Inv-loop μ-loop
-loop-less c = search needs
+returns-3 c =
+    let at-loop-test = c .before .before .before .before .before in let at-loop = at-loop-test .before in let at-start = at-loop .before in
+    sym (less-start _ _ _ _ _ ∙ at-loop .loop .inv
+      ∙ less-no _ _ _ _ _ (at-start .pre) _ (at-loop-test .loop-test .taken) (c .before .before .before .before .if1 .left) (c .before .if2 .left)
+      (c .if3 .taken))
 
 loop-again : tie.Need-loop-again Inv-loop μ-loop
-loop-again c = c .before .before .before .before .before .before .loop .inv ∙ less-on _ _ _ _ _ (c .before .before .before .before .before .before .before .pre) _ (c .before .before .before .before .before .loop-test .taken) (c .before .before .before .before .if1 .left) (c .before .if2 .left) (c .if3 .left)
+loop-again c =
+    let at-loop-test = c .before .before .before .before .before in let at-loop = at-loop-test .before in let at-start = at-loop .before in
+    at-loop .loop .inv ∙ less-on _ _ _ _ _ (at-start .pre) _ (at-loop-test .loop-test .taken) (c .before .before .before .before .if1 .left)
+      (c .before .if2 .left) (c .if3 .left)
 
 returns-4 : tie.Need-returns-4 Inv-loop μ-loop
 returns-4 c = less-end _ _ _ _ _ (c .before .before .pre) _ (c .loop-test .left) ∙ sym (less-start _ _ _ _ _ ∙ c .before .loop .inv)
@@ -51,18 +45,5 @@ returns-4 c = less-end _ _ _ _ _ (c .before .before .pre) _ (c .loop-test .left)
 pub less-bytes-spec : {M : Type 1} → statement M
 less-bytes-spec =
     tie.close
-    (tie.spec
-    Inv-loop
-    μ-loop
-    loop-holds
-    returns
-    add-x
-    shared-slice-read-x
-    add-y
-    shared-slice-read-y
-    returns-2
-    returns-3
-    add-i
-    loop-less
-    loop-again
-    returns-4)
+    (tie.spec Inv-loop μ-loop loop-holds returns (λ c. search needs) (λ c. search needs) (λ c. search needs) (λ c. search needs) returns-2
+      returns-3 (λ c. search needs) (λ c. search needs) loop-again returns-4)

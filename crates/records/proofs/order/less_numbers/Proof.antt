@@ -15,7 +15,9 @@ less-bytes-requires : tie.Need-less-bytes-requires
 less-bytes-requires c κs = search needs
 
 returns : tie.Need-returns
-returns c = c .less-bytes .ensures ∙ less-numbers (c .before .before .args .s .now) _ _ _ _ (c .before .before .pre) (λ i. omega (arith, c .before .shared-slice-known .given i))
+returns c =
+    c .less-bytes .ensures ∙ less-numbers (c .before .before .args .s .now) _ _ _ _ (c .before .before .pre)
+      (λ i. omega (arith, c .before .shared-slice-known .given i))
 
 pub less-numbers-spec : {M : Type 1} → statement M
 less-numbers-spec =

@@ -12,7 +12,9 @@ use Rattle.records.proofs.order.named.Statement.{statement}
 use Rattle.records.proofs.order.named.Tie as tie
 
 abbrev Inv-loop : tie.InvT-loop
-Inv-loop s start len limit count i₀ i = (count ≡ len / 2) × (allFrom (λ (n : ℕ). ltb n limit) (numbers (stretch s start len)) 0 ≡ allFrom (λ (n : ℕ). ltb n limit) (numbers (stretch s start len)) i)
+Inv-loop s start len limit count i₀ i =
+    (count ≡ len / 2) × (allFrom (λ (n : ℕ). ltb n limit) (numbers (stretch s start len)) 0
+      ≡ allFrom (λ (n : ℕ). ltb n limit) (numbers (stretch s start len)) i)
 
 abbrev μ-loop : tie.MeasureT-loop
 μ-loop s start len limit count i₀ i = count - i
@@ -20,26 +22,19 @@ abbrev μ-loop : tie.MeasureT-loop
 loop-holds : tie.Need-loop-holds Inv-loop μ-loop
 loop-holds c = (search needs, refl)
 
-mul-two : tie.Need-mul-two Inv-loop μ-loop
-mul-two c = search needs
-
-add-two : tie.Need-add-two Inv-loop μ-loop
-add-two c = search needs
-
-two-requires : tie.Need-two-requires Inv-loop μ-loop
-two-requires c κs = search needs
-
 returns : tie.Need-returns Inv-loop μ-loop
-returns c = sym (all-start _ _ ∙ c .before .before .before .loop .inv .1 ∙ all-no _ _ (length-numbers-in _ _ _ (c .before .before .before .before .before .pre)) (search needs) (numbers-in _ _ _ (c .before .before .before .before .before .pre) _ (search needs)) (le-ltb _ _ (rw (c .before .two .ensures .0) at (c .if1 .taken))))
-
-add-i : tie.Need-add-i Inv-loop μ-loop
-add-i c = search needs
-
-loop-less : tie.Need-loop-less Inv-loop μ-loop
-loop-less c = search needs
+returns c =
+    let at-start = c .before .before .before .before .before in
+    sym (all-start _ _ ∙ c .before .before .before .loop .inv .1
+      ∙ all-no _ _ (length-numbers-in _ _ _ (at-start .pre)) (search needs) (numbers-in _ _ _ (at-start .pre) _ (search needs))
+      (le-ltb _ _ (rw (c .before .two .ensures .0) at (c .if1 .taken))))
 
 loop-again : tie.Need-loop-again Inv-loop μ-loop
-loop-again c = (search needs, c .before .before .before .loop .inv .1 ∙ all-on _ _ (length-numbers-in _ _ _ (c .before .before .before .before .before .pre)) (search needs) (numbers-in _ _ _ (c .before .before .before .before .before .pre) _ (search needs)) (lt-ltb _ _ (rw (c .before .two .ensures .0) at (c .if1 .left))))
+loop-again c =
+    let at-start = c .before .before .before .before .before in
+    (search needs, c .before .before .before .loop .inv .1
+      ∙ all-on _ _ (length-numbers-in _ _ _ (at-start .pre)) (search needs) (numbers-in _ _ _ (at-start .pre) _ (search needs))
+      (lt-ltb _ _ (rw (c .before .two .ensures .0) at (c .if1 .left))))
 
 returns-2 : tie.Need-returns-2 Inv-loop μ-loop
 returns-2 c = sym (all-start _ _ ∙ c .before .loop .inv .1 ∙ all-end _ _ (length-numbers-in _ _ _ (c .before .before .before .pre)) (search needs))
@@ -47,15 +42,5 @@ returns-2 c = sym (all-start _ _ ∙ c .before .loop .inv .1 ∙ all-end _ _ (le
 pub named-spec : {M : Type 1} → statement M
 named-spec =
     tie.close
-    (tie.spec
-    Inv-loop
-    μ-loop
-    loop-holds
-    mul-two
-    add-two
-    two-requires
-    returns
-    add-i
-    loop-less
-    loop-again
-    returns-2)
+    (tie.spec Inv-loop μ-loop loop-holds (λ c. search needs) (λ c. search needs) (λ c κs. search needs) returns (λ c. search needs)
+      (λ c. search needs) loop-again returns-2)

@@ -18,29 +18,17 @@ returns c = sym (same-sizes _ _ _ _ _ (c .before .pre) (c .if1 .taken))
 loop-holds : tie.Need-loop-holds Inv-loop μ-loop
 loop-holds c = refl
 
-add-if2 : tie.Need-add-if2 Inv-loop μ-loop
-add-if2 c = search needs
-
-shared-slice-read-if2 : tie.Need-shared-slice-read-if2 Inv-loop μ-loop
-shared-slice-read-if2 c = search needs
-
-add-if2-2 : tie.Need-add-if2-2 Inv-loop μ-loop
-add-if2-2 c = search needs
-
-shared-slice-read-if2-2 : tie.Need-shared-slice-read-if2-2 Inv-loop μ-loop
-shared-slice-read-if2-2 c = search needs
-
 returns-2 : tie.Need-returns-2 Inv-loop μ-loop
-returns-2 c = sym (same-start _ _ _ _ _ ∙ c .before .before .before .before .loop .inv ∙ same-no _ _ _ _ _ (c .before .before .before .before .before .before .pre) _ (c .before .before .before .loop-test .taken) (search needs) (c .if2 .taken))
-
-add-i : tie.Need-add-i Inv-loop μ-loop
-add-i c = search needs
-
-loop-less : tie.Need-loop-less Inv-loop μ-loop
-loop-less c = search needs
+returns-2 c =
+    let at-start = c .before .before .before .before .before .before in
+    sym (same-start _ _ _ _ _ ∙ c .before .before .before .before .loop .inv
+      ∙ same-no _ _ _ _ _ (at-start .pre) _ (c .before .before .before .loop-test .taken) (search needs) (c .if2 .taken))
 
 loop-again : tie.Need-loop-again Inv-loop μ-loop
-loop-again c = c .before .before .before .before .loop .inv ∙ same-on _ _ _ _ _ (c .before .before .before .before .before .before .pre) _ (c .before .before .before .loop-test .taken) (search needs) (c .if2 .left)
+loop-again c =
+    let at-start = c .before .before .before .before .before .before in
+    c .before .before .before .before .loop .inv ∙ same-on _ _ _ _ _ (at-start .pre) _ (c .before .before .before .loop-test .taken) (search needs)
+      (c .if2 .left)
 
 returns-3 : tie.Need-returns-3 Inv-loop μ-loop
 returns-3 c = sym (same-start _ _ _ _ _ ∙ c .before .loop .inv ∙ same-end _ _ _ _ _ (c .before .before .before .pre) _ (c .loop-test .left) (search needs))
@@ -48,17 +36,5 @@ returns-3 c = sym (same-start _ _ _ _ _ ∙ c .before .loop .inv ∙ same-end _ 
 pub same-bytes-spec : {M : Type 1} → statement M
 same-bytes-spec =
     tie.close
-    (tie.spec
-    Inv-loop
-    μ-loop
-    returns
-    loop-holds
-    add-if2
-    shared-slice-read-if2
-    add-if2-2
-    shared-slice-read-if2-2
-    returns-2
-    add-i
-    loop-less
-    loop-again
-    returns-3)
+    (tie.spec Inv-loop μ-loop returns loop-holds (λ c. search needs) (λ c. search needs) (λ c. search needs) (λ c. search needs) returns-2
+      (λ c. search needs) (λ c. search needs) loop-again returns-3)

@@ -24,7 +24,8 @@ put-digits-below t =
 
 -- A number below ten is one digit; of any other the digits before the last are those of its tenth.
 pub +put-digits-spec : {M : Type 1} → statement M
-+put-digits-spec = close μ-put-digits λ t. put-digits-lts.spec (put-byte-reads.Asked, put-byte-reads.Learnt, put-digits-below t, put-digits.Post) (put-digits-at t) put-digits.Post
++put-digits-spec = close μ-put-digits λ t. put-digits-lts.spec (put-byte-reads.Asked, put-byte-reads.Learnt, put-digits-below t, put-digits.Post)
+    (put-digits-at t) put-digits.Post
     (λ c. search needs)
     (λ c. search needs)
     (λ c κs. search needs)
@@ -35,4 +36,6 @@ pub +put-digits-spec : {M : Type 1} → statement M
     (λ c. search needs)
     (λ c κs. search needs)
     (λ c. search needs)
-    (λ c. rw (decimal-long (c .before .before .before .before .before .before .before .before .before .before .args .n) (c .before .before .before .before .before .before .before .before .if1 .left) (search needs)) (then (c .before .before .before .before .before .before .put-digits .ensures) (c .before .before .put-byte2 .ensures)))
+    (λ c. rw (decimal-long (c .before .before .before .before .before .before .before .before .before .before .args .n)
+        (c .before .before .before .before .before .before .before .before .if1 .left) (search needs))
+        (then (c .before .before .before .before .before .before .put-digits .ensures) (c .before .before .put-byte2 .ensures)))

@@ -15,7 +15,9 @@ same-length : tie.Need-same-length
 same-length c = search needs
 
 returns : tie.Need-returns
-returns c = stored (c .before .before .before .args .out .now) (c .before .before .before .args .b ∷ []) (c .before .before .before .args .at) (c .before .past .ensures) (omega arith)
+returns c =
+    stored (c .before .before .before .args .out .now) (c .before .before .before .args .b ∷ []) (c .before .before .before .args .at)
+      (c .before .past .ensures) (omega arith)
 
 returns-2 : tie.Need-returns-2
 returns-2 c = counted _ _ _ (c .before .past .ensures) (omega arith)

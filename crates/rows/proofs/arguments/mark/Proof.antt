@@ -29,22 +29,10 @@ loop-holds c = (c .before .pre .0 .1, search needs, λ seen m. rw append-nil m)
 find-element-requires : tie.Need-find-element-requires Inv-loop μ-loop
 find-element-requires c κs = (c .before .before .before .before .pre .0 .0, c .before .before .before .before .pre .1 .1)
 
-enum-known-f : tie.Need-enum-known-f Inv-loop μ-loop
-enum-known-f c = search needs
-
 element-write-flags : tie.Need-element-write-flags Inv-loop μ-loop
 element-write-flags c =
     let d = c .before .before .before in
     found-place (d .before .before .before .before .before .pre .1 .1) (rw (c .before .f .given .1) at (d .find-element .ensures))
-
-enum-told : tie.Need-enum-told Inv-loop μ-loop
-enum-told c = search needs
-
-add-j : tie.Need-add-j Inv-loop μ-loop
-add-j c = search needs
-
-loop-less : tie.Need-loop-less Inv-loop μ-loop
-loop-less c = search needs
 
 loop-again : tie.Need-loop-again Inv-loop μ-loop
 loop-again c =
@@ -62,22 +50,8 @@ loop-again c =
 returns : tie.Need-returns Inv-loop μ-loop
 returns c = (λ seen m. rw (els-all (c .before .before .before .pre .1 .0) _ (c .loop-test .left)) at (c .before .loop .inv .2 seen m), c .before .loop .inv .0)
 
-el-at-requires : tie.Need-el-at-requires Inv-loop μ-loop
-el-at-requires c κs = search needs
-
 pub mark-spec : {M : Type 1} → statement M
 mark-spec =
     tie.close
-    (tie.spec
-    Inv-loop
-    μ-loop
-    loop-holds
-    el-at-requires
-    find-element-requires
-    enum-known-f
-    element-write-flags
-    enum-told
-    add-j
-    loop-less
-    loop-again
-    returns)
+    (tie.spec Inv-loop μ-loop loop-holds (λ c κs. search needs) find-element-requires (λ c. search needs) element-write-flags
+      (λ c. search needs) (λ c. search needs) (λ c. search needs) loop-again returns)

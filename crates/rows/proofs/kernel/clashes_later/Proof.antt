@@ -14,77 +14,49 @@ Inv-loop s m vars types p image ty q₀ q = (type : Pair → ℕ) → KeyTypes s
 abbrev μ-loop : tie.MeasureT-loop
 μ-loop s m vars types p image ty q₀ q = m .pairs - q
 
-pair-image-requires : tie.Need-pair-image-requires Inv-loop μ-loop
-pair-image-requires c κs = search needs
-
-mul-variable : tie.Need-mul-variable Inv-loop μ-loop
-mul-variable c = search needs
-
-element-copy-out-variable : tie.Need-element-copy-out-variable Inv-loop μ-loop
-element-copy-out-variable c = search needs
-
-variable-requires : tie.Need-variable-requires Inv-loop μ-loop
-variable-requires c κs = search needs
-
 shared-slice-read-ty : tie.Need-shared-slice-read-ty Inv-loop μ-loop
-shared-slice-read-ty c = rw (c .before .variable .ensures .0) (c .before .before .before .before .before .before .pre .1 .1 .below _ (c .before .before .before .before .before .before .pre .1 .0))
-
-add-q : tie.Need-add-q Inv-loop μ-loop
-add-q c = search needs
+shared-slice-read-ty c =
+    let at-start = c .before .before .before .before .before .before in
+    rw (c .before .place .ensures .0) (at-start .pre .1 .1 .below _ (at-start .pre .1 .0))
 
 loop-holds : tie.Need-loop-holds Inv-loop μ-loop
 loop-holds c = λ type f. refl
 
-pair-image-requires-2 : tie.Need-pair-image-requires-2 Inv-loop μ-loop
-pair-image-requires-2 c κs = search needs
-
-mul-variable-2 : tie.Need-mul-variable-2 Inv-loop μ-loop
-mul-variable-2 c = search needs
-
-element-copy-out-variable-2 : tie.Need-element-copy-out-variable-2 Inv-loop μ-loop
-element-copy-out-variable-2 c = search needs
-
-variable-requires-2 : tie.Need-variable-requires-2 Inv-loop μ-loop
-variable-requires-2 c κs = search needs
-
 shared-slice-read-if3 : tie.Need-shared-slice-read-if3 Inv-loop μ-loop
-shared-slice-read-if3 c = rw (c .before .variable2 .ensures .0) (c .before .before .before .before .before .before .before .before .before .before .before .before .before .before .before .before .pre .1 .1 .below _ (c .before .before .before .before .before .before .before .if1 .taken))
+shared-slice-read-if3 c =
+    let at-if1 = c .before .before .before .before .before .before .before in
+    let at-start = at-if1 .before .before .before .before .before .before .before .before .before in
+    rw (c .before .place2 .ensures .0) (at-start .pre .1 .1 .below _ (at-if1 .if1 .taken))
 
 returns : tie.Need-returns Inv-loop μ-loop
-returns c = λ type f. sym (later-all type _ _ _ ∙ c .before .before .before .before .before .before .before .before .before .before .loop .inv type f ∙ later-clash type (c .before .before .before .before .before .before .before .before .before .before .before .before .before .before .before .before .before .pre .0) _ _ (c .before .before .before .before .before .before .before .before .if1 .taken) (sym (c .before .before .before .before .before .before .before .before .before .before .before .before .before .before .pair-image .ensures) ∙ c .before .before .before .before .if2 .taken ∙ c .before .before .before .before .before .before .before .pair-image2 .ensures) (λ e. c .if3 .taken (type-at f _ (c .before .before .before .before .before .before .before .before .before .before .before .before .before .before .before .before .before .pre .1 .0) (c .before .before .before .before .before .before .before .before .before .before .before .before .variable .ensures .0) ∙ e ∙ sym (type-at f _ (c .before .before .before .before .before .before .before .before .if1 .taken) (c .before .before .variable2 .ensures .0)))))
-
-add-q-2 : tie.Need-add-q-2 Inv-loop μ-loop
-add-q-2 c = search needs
-
-loop-less : tie.Need-loop-less Inv-loop μ-loop
-loop-less c = search needs
+returns c =
+    let at-pair-image2 = c .before .before .before .before .before .before .before in let at-if1 = at-pair-image2 .before in
+    let at-loop = at-if1 .before .before in let at-place = at-loop .before .before in let at-pair-image = at-place .before .before in
+    let at-start = at-pair-image .before .before .before in
+    λ type f. sym (later-all type _ _ _ ∙ at-loop .loop .inv type f
+      ∙ later-clash type (at-start .pre .0) _ _ (at-if1 .if1 .taken)
+      (sym (at-pair-image .pair-image .ensures) ∙ c .before .before .before .before .if2 .taken ∙ at-pair-image2 .pair-image2 .ensures)
+      (λ e. c .if3 .taken (type-at f _ (at-start .pre .1 .0) (at-place .place .ensures .0) ∙ e
+      ∙ sym (type-at f _ (at-if1 .if1 .taken) (c .before .before .place2 .ensures .0)))))
 
 loop-again : tie.Need-loop-again Inv-loop μ-loop
-loop-again c = λ type f. c .before .before .before .before .before .before .loop .inv type f ∙ ⊎-elim (λ w. later-same type (c .before .before .before .before .before .before .before .before .before .before .before .before .before .pre .0) _ _ (c .before .before .before .before .if1 .taken) (sym (type-at f _ (c .before .before .before .before .before .before .before .before .before .before .before .before .before .pre .1 .0) (c .before .before .before .before .before .before .before .before .variable .ensures .0)) ∙ w .4 .left ∙ type-at f _ (c .before .before .before .before .if1 .taken) (w .2 .ensures .0))) (λ w. later-other type (c .before .before .before .before .before .before .before .before .before .before .before .before .before .pre .0) _ _ (c .before .before .before .before .if1 .taken) (λ e. w .left (c .before .before .before .before .before .before .before .before .before .before .pair-image .ensures ∙ e ∙ sym (c .before .before .before .pair-image2 .ensures)))) (c .if2 .came)
+loop-again c =
+    let at-if1 = c .before .before .before .before in let at-loop = at-if1 .before .before in let at-place = at-loop .before .before in
+    let at-pair-image = at-place .before .before in let at-start = at-pair-image .before .before .before in
+    λ type f. at-loop .loop .inv type f
+      ∙ ⊎-elim (λ w. later-same type (at-start .pre .0) _ _ (at-if1 .if1 .taken)
+      (sym (type-at f _ (at-start .pre .1 .0) (at-place .place .ensures .0)) ∙ w .4 .left ∙ type-at f _ (at-if1 .if1 .taken) (w .2 .ensures .0)))
+      (λ w. later-other type (at-start .pre .0) _ _ (at-if1 .if1 .taken)
+      (λ e. w .left (at-pair-image .pair-image .ensures ∙ e ∙ sym (c .before .before .before .pair-image2 .ensures)))) (c .if2 .came)
 
 returns-2 : tie.Need-returns-2 Inv-loop μ-loop
-returns-2 c = λ type f. sym (later-all type _ _ _ ∙ c .before .before .loop .inv type f ∙ later-end type (c .before .before .before .before .before .before .before .before .before .pre .0) _ _ (c .if1 .left))
+returns-2 c =
+    let at-start = c .before .before .before .before .before .before .before .before .before in
+    λ type f. sym (later-all type _ _ _ ∙ c .before .before .loop .inv type f ∙ later-end type (at-start .pre .0) _ _ (c .if1 .left))
 
 pub clashes-later-spec : {M : Type 1} → statement M
 clashes-later-spec =
     tie.close
-    (tie.spec
-    Inv-loop
-    μ-loop
-    pair-image-requires
-    mul-variable
-    element-copy-out-variable
-    variable-requires
-    shared-slice-read-ty
-    add-q
-    loop-holds
-    pair-image-requires-2
-    mul-variable-2
-    element-copy-out-variable-2
-    variable-requires-2
-    shared-slice-read-if3
-    returns
-    add-q-2
-    loop-less
-    loop-again
-    returns-2)
+    (tie.spec Inv-loop μ-loop (λ c κs. search needs) (λ c. search needs) (λ c. search needs) (λ c κs. search needs) shared-slice-read-ty
+      (λ c. search needs) loop-holds (λ c κs. search needs) (λ c. search needs) (λ c. search needs) (λ c κs. search needs)
+      shared-slice-read-if3 returns (λ c. search needs) (λ c. search needs) loop-again returns-2)

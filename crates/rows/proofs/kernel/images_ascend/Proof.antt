@@ -14,26 +14,20 @@ abbrev μ-loop : tie.MeasureT-loop
 returns : tie.Need-returns Inv-loop μ-loop
 returns c = sym (ascend-nothing (c .before .before .before .pre) (c .if1 .taken))
 
-pair-image-requires : tie.Need-pair-image-requires Inv-loop μ-loop
-pair-image-requires c κs = search needs
-
 loop-holds : tie.Need-loop-holds Inv-loop μ-loop
 loop-holds c = ascend-start (c .before .before .before .before .pre) (c .before .if1 .left) (c .pair-image .ensures)
 
-pair-image-requires-2 : tie.Need-pair-image-requires-2 Inv-loop μ-loop
-pair-image-requires-2 c κs = search needs
-
 returns-2 : tie.Need-returns-2 Inv-loop μ-loop
-returns-2 c = sym (ascend-not (c .before .before .before .before .before .before .before .before .before .before .before .pre) (c .before .before .before .before .before .before .loop .inv) (c .before .before .before .before .if2 .taken) (c .before .before .before .pair-image2 .ensures) (c .if3 .taken))
-
-add-p : tie.Need-add-p Inv-loop μ-loop
-add-p c = search needs
-
-loop-less : tie.Need-loop-less Inv-loop μ-loop
-loop-less c = search needs
+returns-2 c =
+    let at-loop = c .before .before .before .before .before .before in let at-start = at-loop .before .before .before .before .before in
+    sym (ascend-not (at-start .pre) (at-loop .loop .inv) (c .before .before .before .before .if2 .taken) (c .before .before .before .pair-image2 .ensures)
+      (c .if3 .taken))
 
 loop-again : tie.Need-loop-again Inv-loop μ-loop
-loop-again c = ascend-next (c .before .before .before .before .before .before .before .before .before .before .before .pre) (c .before .before .before .before .before .before .loop .inv) (c .before .before .before .before .if2 .taken) (c .before .before .before .pair-image2 .ensures) (c .if3 .left)
+loop-again c =
+    let at-loop = c .before .before .before .before .before .before in let at-start = at-loop .before .before .before .before .before in
+    ascend-next (at-start .pre) (at-loop .loop .inv) (c .before .before .before .before .if2 .taken) (c .before .before .before .pair-image2 .ensures)
+      (c .if3 .left)
 
 returns-3 : tie.Need-returns-3 Inv-loop μ-loop
 returns-3 c = sym (ascend-end (c .before .before .before .before .before .before .before .pre) (c .before .before .loop .inv) (c .if2 .left))
@@ -41,15 +35,5 @@ returns-3 c = sym (ascend-end (c .before .before .before .before .before .before
 pub images-ascend-spec : {M : Type 1} → statement M
 images-ascend-spec =
     tie.close
-    (tie.spec
-    Inv-loop
-    μ-loop
-    returns
-    pair-image-requires
-    loop-holds
-    pair-image-requires-2
-    returns-2
-    add-p
-    loop-less
-    loop-again
-    returns-3)
+    (tie.spec Inv-loop μ-loop returns (λ c κs. search needs) loop-holds (λ c κs. search needs) returns-2 (λ c. search needs)
+      (λ c. search needs) loop-again returns-3)

@@ -16,26 +16,24 @@ Inv-loop s index k count i₀ i = (count ≡ countAt index k) × (any hasParents
 abbrev μ-loop : tie.MeasureT-loop
 μ-loop s index k count i₀ i = count - i
 
-element-count-requires : tie.Need-element-count-requires Inv-loop μ-loop
-element-count-requires c κs = search needs
-
 loop-holds : tie.Need-loop-holds Inv-loop μ-loop
 loop-holds c = (c .element-count .ensures, refl)
 
 read-element-requires : tie.Need-read-element-requires Inv-loop μ-loop
-read-element-requires c κs = ((c .before .before .before .before .pre .0, rw (← (c .before .loop .inv .0)) (c .loop-test .taken)), c .before .before .before .before .pre .1)
+read-element-requires c κs =
+    ((c .before .before .before .before .pre .0, rw (← (c .before .loop .inv .0)) (c .loop-test .taken)), c .before .before .before .before .pre .1)
 
 returns : tie.Need-returns Inv-loop μ-loop
-returns c = sym (c .before .before .before .before .loop .inv .1 ∙ some-here (c .before .before .read-element .ensures .1) _ _ _ (c .before .before .read-element .ensures .0) (rw (← (c .before .before .before .before .loop .inv .0)) (c .before .before .before .loop-test .taken)) (c .if1 .taken))
-
-add-i : tie.Need-add-i Inv-loop μ-loop
-add-i c = search needs
-
-loop-less : tie.Need-loop-less Inv-loop μ-loop
-loop-less c = search needs
+returns c =
+    sym (c .before .before .before .before .loop .inv .1
+      ∙ some-here (c .before .before .read-element .ensures .1) _ _ _ (c .before .before .read-element .ensures .0)
+      (rw (← (c .before .before .before .before .loop .inv .0)) (c .before .before .before .loop-test .taken)) (c .if1 .taken))
 
 loop-again : tie.Need-loop-again Inv-loop μ-loop
-loop-again c = (c .before .before .before .before .loop .inv .0, c .before .before .before .before .loop .inv .1 ∙ some-later (c .before .before .read-element .ensures .1) _ _ _ (c .before .before .read-element .ensures .0) (rw (← (c .before .before .before .before .loop .inv .0)) (c .before .before .before .loop-test .taken)) (c .if1 .left))
+loop-again c =
+    (c .before .before .before .before .loop .inv .0, c .before .before .before .before .loop .inv .1
+      ∙ some-later (c .before .before .read-element .ensures .1) _ _ _ (c .before .before .read-element .ensures .0)
+      (rw (← (c .before .before .before .before .loop .inv .0)) (c .before .before .before .loop-test .taken)) (c .if1 .left))
 
 returns-2 : tie.Need-returns-2 Inv-loop μ-loop
 returns-2 c = sym (c .before .loop .inv .1 ∙ some-end _ _ _ _ (c .before .loop .inv .0) (c .loop-test .left))
@@ -43,14 +41,5 @@ returns-2 c = sym (c .before .loop .inv .1 ∙ some-end _ _ _ _ (c .before .loop
 pub has-members-spec : {M : Type 1} → statement M
 has-members-spec =
     tie.close
-    (tie.spec
-    Inv-loop
-    μ-loop
-    element-count-requires
-    loop-holds
-    read-element-requires
-    returns
-    add-i
-    loop-less
-    loop-again
-    returns-2)
+    (tie.spec Inv-loop μ-loop (λ c κs. search needs) loop-holds read-element-requires returns (λ c. search needs) (λ c. search needs)
+      loop-again returns-2)

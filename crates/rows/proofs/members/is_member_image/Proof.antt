@@ -15,7 +15,9 @@ use Rattle.rows.proofs.members.is_member_image.Statement.{statement}
 use Rattle.rows.proofs.members.is_member_image.Tie as tie
 
 abbrev Inv-loop : tie.InvT-loop
-Inv-loop s e symbols els images ty i₀ i = (columns : ℕ → ℕ) (qs : List Row) → Held symbols els 0 qs → images ≡ length qs → Alike member columns qs → e .parents + 1 ≡ columns (e .ty .0) → Searching columns (memberRow (elementFrom s e)) qs symbols els i images
+Inv-loop s e symbols els images ty i₀ i =
+    (columns : ℕ → ℕ) (qs : List Row) → Held symbols els 0 qs → images ≡ length qs → Alike member columns qs → e .parents + 1 ≡ columns (e .ty .0)
+      → Searching columns (memberRow (elementFrom s e)) qs symbols els i images
 
 abbrev μ-loop : tie.MeasureT-loop
 μ-loop s e symbols els images ty i₀ i = images - i
@@ -24,31 +26,20 @@ loop-holds : tie.Need-loop-holds Inv-loop μ-loop
 unfolding memberRow
 loop-holds c = λ columns qs h n a d. search-start h n a
 
-mul-if1 : tie.Need-mul-if1 Inv-loop μ-loop
-mul-if1 c = search needs
-
-element-copy-out-if1 : tie.Need-element-copy-out-if1 Inv-loop μ-loop
-element-copy-out-if1 c = search needs
-
-mul-same-member : tie.Need-mul-same-member Inv-loop μ-loop
-mul-same-member c = search needs
-
-same-member-requires : tie.Need-same-member-requires Inv-loop μ-loop
-same-member-requires c κs = search needs
-
 returns : tie.Need-returns Inv-loop μ-loop
 unfolding memberRow
-returns c = λ columns qs h n a d. search-hit (c .before .before .before .before .before .before .loop .inv columns qs h n a d) (c .before .before .before .before .before .loop-test .taken) (c .before .before .if1 .taken) d (c .before .same-member .ensures) (c .if2 .taken)
-
-add-i : tie.Need-add-i Inv-loop μ-loop
-add-i c = search needs
-
-loop-less : tie.Need-loop-less Inv-loop μ-loop
-loop-less c = search needs
+returns c =
+    let at-loop-test = c .before .before .before .before .before in let at-loop = at-loop-test .before in
+    λ columns qs h n a d. search-hit (at-loop .loop .inv columns qs h n a d) (at-loop-test .loop-test .taken) (c .before .before .if1 .taken) d
+      (c .before .same-member .ensures) (c .if2 .taken)
 
 loop-again : tie.Need-loop-again Inv-loop μ-loop
 unfolding memberRow
-loop-again c = λ columns qs h n a d. ⊎-elim (λ w. search-differs (c .before .before .before .before .loop .inv columns qs h n a d) (c .before .before .before .loop-test .taken) (w .0 .taken) d (w .1 .ensures) (w .2 .left)) (λ w. search-other (c .before .before .before .before .loop .inv columns qs h n a d) (c .before .before .before .loop-test .taken) (w .left)) (c .if1 .came)
+loop-again c =
+    let loop-test-said = c .before .before .before .loop-test .taken in
+    λ columns qs h n a d. ⊎-elim
+      (λ w. search-differs (c .before .before .before .before .loop .inv columns qs h n a d) loop-test-said (w .0 .taken) d (w .1 .ensures) (w .2 .left))
+      (λ w. search-other (c .before .before .before .before .loop .inv columns qs h n a d) loop-test-said (w .left)) (c .if1 .came)
 
 returns-2 : tie.Need-returns-2 Inv-loop μ-loop
 returns-2 c = λ columns qs h n a d. search-end (c .before .loop .inv columns qs h n a d) (c .loop-test .left)
@@ -56,16 +47,5 @@ returns-2 c = λ columns qs h n a d. search-end (c .before .loop .inv columns qs
 pub is-member-image-spec : {M : Type 1} → statement M
 is-member-image-spec =
     tie.close
-    (tie.spec
-    Inv-loop
-    μ-loop
-    loop-holds
-    mul-if1
-    element-copy-out-if1
-    mul-same-member
-    same-member-requires
-    returns
-    add-i
-    loop-less
-    loop-again
-    returns-2)
+    (tie.spec Inv-loop μ-loop loop-holds (λ c. search needs) (λ c. search needs) (λ c. search needs) (λ c κs. search needs) returns
+      (λ c. search needs) (λ c. search needs) loop-again returns-2)

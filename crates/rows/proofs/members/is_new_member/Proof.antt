@@ -13,7 +13,9 @@ is-member-image-requires : tie.Need-is-member-image-requires
 is-member-image-requires c κs = search needs
 
 returns-2 : tie.Need-returns-2
-returns-2 c = λ columns pairs sources h d. new-by-images (c .before .before .before .before .pre .0) pairs sources (c .before .if1 .left) (c .is-member-image .ensures columns _ (h .held) (h .count ∙ sym (length-each _ _)) (alike-images pairs (h .alike)) (d (c .before .if1 .left)))
+returns-2 c =
+    λ columns pairs sources h d. new-by-images (c .before .before .before .before .pre .0) pairs sources (c .before .if1 .left)
+      (c .is-member-image .ensures columns _ (h .held) (h .count ∙ sym (length-each _ _)) (alike-images pairs (h .alike)) (d (c .before .if1 .left)))
 
 pub is-new-member-spec : {M : Type 1} → statement M
 is-new-member-spec = tie.close (tie.spec returns is-member-image-requires returns-2)

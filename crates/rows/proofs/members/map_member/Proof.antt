@@ -9,35 +9,17 @@ use Rattle.rule.proofs.ElementLaws.{parents-many}
 use Rattle.rows.proofs.members.map_member.Statement.{statement}
 use Rattle.rows.proofs.members.map_member.Tie as tie
 
-parents-of-requires : tie.Need-parents-of-requires
-parents-of-requires c κs = search needs
-
 map-elements-requires : tie.Need-map-elements-requires
 map-elements-requires c κs =
     let p = c .before .parents-of .ensures in
     let w = c .before .before .before .pre .1 .0 in
     (c .before .before .before .pre .0, (p .1 .1 _ w, (omega (arith, p .0, w .few), c .before .before .before .pre .1 .1 .1)))
 
-enum-told : tie.Need-enum-told
-enum-told c = search needs
-
-enum-told-2 : tie.Need-enum-told-2
-enum-told-2 c = search needs
-
 returns : tie.Need-returns
 unfolding memberRow
 returns c =
     let es = c .before .before .before .before .parents-of .ensures .1 .0 in
     lacks-before _ (rw (c .enum-told2 .given .1, es _) at (c .before .before .map-elements .ensures))
-
-image-of-requires : tie.Need-image-of-requires
-image-of-requires c κs = search needs
-
-enum-known-i : tie.Need-enum-known-i
-enum-known-i c = search needs
-
-enum-told-3 : tie.Need-enum-told-3
-enum-told-3 c = search needs
 
 returns-2 : tie.Need-returns-2
 unfolding memberRow
@@ -46,38 +28,17 @@ returns-2 c =
     let i = sym (c .before .before .image-of .ensures) ∙ ap imageIs (c .enum-told3 .given .1) in
     lacks-last _ (rw (c .before .before .before .enum-told .given .1, es _) at (c .before .before .before .before .before .map-elements .ensures)) i
 
-add-els : tie.Need-add-els
-add-els c = search needs
-
-mul-els : tie.Need-mul-els
-mul-els c = search needs
-
-element-write-els : tie.Need-element-write-els
-element-write-els c = search needs
-
 returns-3 : tie.Need-returns-3
 unfolding memberRow
 returns-3 c =
     let es = c .before .before .before .before .before .before .before .before .before .parents-of .ensures .1 .0 in
-    let m = c .before .before .before .before .before .before .before .map-elements .ensures in
-    let i = sym (c .before .before .before .before .image-of .ensures) ∙ ap imageIs (c .before .before .i .given .1) in
-    let w = c .before .before .before .before .before .before .before .before .before .before .before .pre .1 .0 in
-    maps-more _ (rw (c .before .before .before .before .before .enum-told .given .1, es _) at m) i (parents-many w) (rw (m .long) (search needs))
+      let m = c .before .before .before .before .before .before .before .map-elements .ensures in
+      let i = sym (c .before .before .before .before .image-of .ensures) ∙ ap imageIs (c .before .before .i .given .1) in
+      let w = c .before .before .before .before .before .before .before .before .before .before .before .pre .1 .0 in
+      maps-more _ (rw (c .before .before .before .before .before .enum-told .given .1, es _) at m) i (parents-many w) (rw (m .long) (search needs))
 
 pub map-member-spec : {M : Type 1} → statement M
 map-member-spec =
     tie.close
-    (tie.spec
-    parents-of-requires
-    map-elements-requires
-    enum-told
-    enum-told-2
-    returns
-    image-of-requires
-    enum-known-i
-    enum-told-3
-    returns-2
-    add-els
-    mul-els
-    element-write-els
-    returns-3)
+    (tie.spec (λ c κs. search needs) map-elements-requires (λ c. search needs) (λ c. search needs) returns (λ c κs. search needs)
+      (λ c. search needs) (λ c. search needs) returns-2 (λ c. search needs) (λ c. search needs) (λ c. search needs) returns-3)

@@ -5,20 +5,8 @@ use Rattle.rows.proofs.MemberLaws.{last-differs, last-same}
 use Rattle.rows.proofs.members.same_member.Statement.{statement}
 use Rattle.rows.proofs.members.same_member.Tie as tie
 
-add-if1 : tie.Need-add-if1
-add-if1 c = search needs
-
-mul-if1 : tie.Need-mul-if1
-mul-if1 c = search needs
-
-element-copy-out-if1 : tie.Need-element-copy-out-if1
-element-copy-out-if1 c = search needs
-
 returns : tie.Need-returns
 returns c = sym (last-differs (c .before .before .before .before .before .before .pre .0) _ _ (search needs) (c .if1 .taken))
-
-parents-of-requires : tie.Need-parents-of-requires
-parents-of-requires c κs = search needs
 
 same-elements-requires : tie.Need-same-elements-requires
 same-elements-requires c κs =
@@ -35,11 +23,4 @@ returns-2 c =
 pub same-member-spec : {M : Type 1} → statement M
 same-member-spec =
     tie.close
-    (tie.spec
-    add-if1
-    mul-if1
-    element-copy-out-if1
-    returns
-    parents-of-requires
-    same-elements-requires
-    returns-2)
+    (tie.spec (λ c. search needs) (λ c. search needs) (λ c. search needs) returns (λ c κs. search needs) same-elements-requires returns-2)

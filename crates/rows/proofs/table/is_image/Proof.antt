@@ -21,29 +21,11 @@ abbrev μ-loop : tie.MeasureT-loop
 loop-holds : tie.Need-loop-holds Inv-loop μ-loop
 loop-holds c = λ kind columns qs h n a e. search-start h n a
 
-mul-held : tie.Need-mul-held Inv-loop μ-loop
-mul-held c = search needs
-
-element-copy-out-held : tie.Need-element-copy-out-held Inv-loop μ-loop
-element-copy-out-held c = search needs
-
-mul-same-elements : tie.Need-mul-same-elements Inv-loop μ-loop
-mul-same-elements c = search needs
-
-same-elements-requires : tie.Need-same-elements-requires Inv-loop μ-loop
-same-elements-requires c κs = search needs
-
 returns : tie.Need-returns Inv-loop μ-loop
 returns c = λ kind columns qs h n a e.
     let t = c .before .before .before .before .before .before .loop .inv kind columns qs h n a e in
     let f = c .before .same-elements .ensures in
     search-hit t (c .before .before .before .before .before .loop-test .taken) (c .before .before .if1 .taken) e f (c .if2 .taken)
-
-add-i : tie.Need-add-i Inv-loop μ-loop
-add-i c = search needs
-
-loop-less : tie.Need-loop-less Inv-loop μ-loop
-loop-less c = search needs
 
 loop-again : tie.Need-loop-again Inv-loop μ-loop
 loop-again c = λ kind columns qs h n a e.
@@ -57,16 +39,5 @@ returns-2 c = λ kind columns qs h n a e. search-end (c .before .loop .inv kind 
 pub is-image-spec : {M : Type 1} → statement M
 is-image-spec =
     tie.close
-    (tie.spec
-    Inv-loop
-    μ-loop
-    loop-holds
-    mul-held
-    element-copy-out-held
-    mul-same-elements
-    same-elements-requires
-    returns
-    add-i
-    loop-less
-    loop-again
-    returns-2)
+    (tie.spec Inv-loop μ-loop loop-holds (λ c. search needs) (λ c. search needs) (λ c. search needs) (λ c κs. search needs) returns
+      (λ c. search needs) (λ c. search needs) loop-again returns-2)

@@ -18,15 +18,6 @@ abbrev μ-loop : tie.MeasureT-loop
 loop-holds : tie.Need-loop-holds Inv-loop μ-loop
 loop-holds c = (search needs, mapping-start _ _ _ _)
 
-image-of-requires : tie.Need-image-of-requires Inv-loop μ-loop
-image-of-requires c κs = search needs
-
-enum-known-i : tie.Need-enum-known-i Inv-loop μ-loop
-enum-known-i c = search needs
-
-enum-told : tie.Need-enum-told Inv-loop μ-loop
-enum-told c = search needs
-
 returns : tie.Need-returns Inv-loop μ-loop
 returns c =
     let m = c .before .before .before .before .before .loop .inv .1 in
@@ -34,21 +25,6 @@ returns c =
     let l = c .before .before .before .before .loop-test .taken in
     let i = sym (c .before .before .image-of .ensures) ∙ ap imageIs (c .enum-told .given .1) in
     record { long = m .long; is = mapping-stop m (rw (els-many w) l) (sym (c .before .before .before .el-at .ensures)) i }
-
-add-els : tie.Need-add-els Inv-loop μ-loop
-add-els c = search needs
-
-mul-els : tie.Need-mul-els Inv-loop μ-loop
-mul-els c = search needs
-
-element-write-els : tie.Need-element-write-els Inv-loop μ-loop
-element-write-els c = search needs
-
-add-j : tie.Need-add-j Inv-loop μ-loop
-add-j c = search needs
-
-loop-less : tie.Need-loop-less Inv-loop μ-loop
-loop-less c = search needs
 
 loop-again : tie.Need-loop-again Inv-loop μ-loop
 loop-again c =
@@ -61,25 +37,8 @@ loop-again c =
 returns-2 : tie.Need-returns-2 Inv-loop μ-loop
 returns-2 c = mapping-end (c .before .loop .inv .1) (els-many (c .before .before .before .pre .1 .0) ∙ search needs)
 
-el-at-requires : tie.Need-el-at-requires Inv-loop μ-loop
-el-at-requires c κs = search needs
-
 pub map-elements-spec : {M : Type 1} → statement M
 map-elements-spec =
     tie.close
-    (tie.spec
-    Inv-loop
-    μ-loop
-    loop-holds
-    el-at-requires
-    image-of-requires
-    enum-known-i
-    enum-told
-    returns
-    add-els
-    mul-els
-    element-write-els
-    add-j
-    loop-less
-    loop-again
-    returns-2)
+    (tie.spec Inv-loop μ-loop loop-holds (λ c κs. search needs) (λ c κs. search needs) (λ c. search needs) (λ c. search needs) returns
+      (λ c. search needs) (λ c. search needs) (λ c. search needs) (λ c. search needs) (λ c. search needs) loop-again returns-2)

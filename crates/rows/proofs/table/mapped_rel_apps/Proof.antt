@@ -30,9 +30,6 @@ abbrev μ-loop : tie.MeasureT-loop
 loop-holds : tie.Need-loop-holds Inv-loop μ-loop
 loop-holds c = (c .before .pre .1 .1 .0, c .before .pre .1 .1 .1, λ fs r. passed-start r, λ kind fs r. rows-start _ kind fs _ _)
 
-enum-told : tie.Need-enum-told Inv-loop μ-loop
-enum-told c = search needs
-
 returns : tie.Need-returns Inv-loop μ-loop
 returns c =
     let A = c .before .before .before .before .before .before .before .before .args in
@@ -66,9 +63,6 @@ map-elements-requires c κs =
     let q = c .before .read-row .ensures in
     (c .before .before .before .before .before .pre .0, (q .inside, (omega (arith, q .few), c .before .before .before .loop .inv .1)))
 
-enum-told-2 : tie.Need-enum-told-2 Inv-loop μ-loop
-enum-told-2 c = search needs
-
 returns-2 : tie.Need-returns-2 Inv-loop μ-loop
 returns-2 c =
     let v = c .before .loop .inv in
@@ -99,19 +93,5 @@ read-row-requires c κs = let p = c .before .before .before .pre .1 .0 in row-st
 pub mapped-rel-apps-spec : {M : Type 1} → statement M
 mapped-rel-apps-spec =
     tie.close
-    (tie.spec
-    Inv-loop
-    μ-loop
-    loop-holds
-    read-row-requires
-    mul-symbols
-    element-write-symbols
-    mul-map-elements
-    map-elements-requires
-    enum-told
-    enum-told-2
-    returns
-    add-i
-    loop-less
-    loop-again
-    returns-2)
+    (tie.spec Inv-loop μ-loop loop-holds read-row-requires mul-symbols element-write-symbols mul-map-elements map-elements-requires
+      (λ c. search needs) (λ c. search needs) returns add-i loop-less loop-again returns-2)

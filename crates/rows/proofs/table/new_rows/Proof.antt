@@ -41,9 +41,6 @@ few c =
     let n = next-row (c .before .before .loop .inv .1 _ (p .run)) (c .before .loop-test .taken) (c .read-row .ensures) in
     omega (arith, n .inside, p .few)
 
-is-image-requires : tie.Need-is-image-requires Inv-loop μ-loop
-is-image-requires c κs = search needs
-
 with-flag-requires : tie.Need-with-flag-requires Inv-loop μ-loop
 with-flag-requires c κs = (few (c .before .before), c .before .before .before .before .loop .inv .0)
 
@@ -81,14 +78,4 @@ returns c = λ kind columns pairs sources fs h r a.
 pub new-rows-spec : {M : Type 1} → statement M
 new-rows-spec =
     tie.close
-    (tie.spec
-    Inv-loop
-    μ-loop
-    loop-holds
-    read-row-requires
-    is-image-requires
-    with-flag-requires
-    add-i
-    loop-less
-    loop-again
-    returns)
+    (tie.spec Inv-loop μ-loop loop-holds read-row-requires (λ c κs. search needs) with-flag-requires add-i loop-less loop-again returns)

@@ -20,15 +20,6 @@ abbrev μ-loop : tie.MeasureT-loop
 loop-holds : tie.Need-loop-holds Inv-loop μ-loop
 loop-holds c = refl
 
-add-if1 : tie.Need-add-if1 Inv-loop μ-loop
-add-if1 c = search needs
-
-mul-if1 : tie.Need-mul-if1 Inv-loop μ-loop
-mul-if1 c = search needs
-
-element-copy-out-if1 : tie.Need-element-copy-out-if1 Inv-loop μ-loop
-element-copy-out-if1 c = search needs
-
 returns : tie.Need-returns Inv-loop μ-loop
 returns c =
     let v = c .before .before .before .before .before .loop .inv in
@@ -36,12 +27,6 @@ returns c =
     let n = els-many (c .before .before .before .before .before .before .before .pre .0) in
     let d = c .before .before .before .el-at .ensures in
     sym (v ∙ same-no _ _ n (length-stretch _ _ _ (search needs)) h (λ e. c .if1 .taken (d ∙ e ∙ stretch-at _ _ _ _ h)))
-
-add-j : tie.Need-add-j Inv-loop μ-loop
-add-j c = search needs
-
-loop-less : tie.Need-loop-less Inv-loop μ-loop
-loop-less c = search needs
 
 loop-again : tie.Need-loop-again Inv-loop μ-loop
 loop-again c =
@@ -56,22 +41,8 @@ returns-2 c =
     let n = els-many (c .before .before .before .pre .0) in
     sym (c .before .loop .inv ∙ same-end _ _ n (length-stretch _ _ _ (search needs)) (c .loop-test .left))
 
-el-at-requires : tie.Need-el-at-requires Inv-loop μ-loop
-el-at-requires c κs = search needs
-
 pub same-elements-spec : {M : Type 1} → statement M
 same-elements-spec =
     tie.close
-    (tie.spec
-    Inv-loop
-    μ-loop
-    loop-holds
-    el-at-requires
-    add-if1
-    mul-if1
-    element-copy-out-if1
-    returns
-    add-j
-    loop-less
-    loop-again
-    returns-2)
+    (tie.spec Inv-loop μ-loop loop-holds (λ c κs. search needs) (λ c. search needs) (λ c. search needs) (λ c. search needs) returns
+      (λ c. search needs) (λ c. search needs) loop-again returns-2)

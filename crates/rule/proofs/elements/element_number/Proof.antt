@@ -11,7 +11,9 @@ add-num : tie.Need-add-num
 add-num c = search needs
 
 num-requires : tie.Need-num-requires
-num-requires c κs = let a = c .before .before .pre .1 .inside _ (c .before .before .pre .0 .1) in let b = c .before .before .pre .1 .sized _ (c .before .before .pre .0 .1) in rw (c .element-field .ensures .0) (omega arith)
+num-requires c κs =
+    let a = c .before .before .pre .1 .inside _ (c .before .before .pre .0 .1) in
+      let b = c .before .before .pre .1 .sized _ (c .before .before .pre .0 .1) in rw (c .element-field .ensures .0) (omega arith)
 
 returns : tie.Need-returns
 returns c = c .num .ensures ∙ rw (c .before .element-field .ensures .0)

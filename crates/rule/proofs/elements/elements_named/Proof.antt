@@ -12,7 +12,9 @@ use Rattle.rule.proofs.elements.elements_named.Statement.{statement}
 use Rattle.rule.proofs.elements.elements_named.Tie as tie
 
 abbrev Inv-loop : tie.InvT-loop
-Inv-loop s index k start len count i₀ i = (count ≡ len / 2) × (allFrom (λ (e : ℕ). has e (elementNumbers s index k)) (numbers (stretch s start len)) 0 ≡ allFrom (λ (e : ℕ). has e (elementNumbers s index k)) (numbers (stretch s start len)) i)
+Inv-loop s index k start len count i₀ i =
+    (count ≡ len / 2) × (allFrom (λ (e : ℕ). has e (elementNumbers s index k)) (numbers (stretch s start len)) 0
+      ≡ allFrom (λ (e : ℕ). has e (elementNumbers s index k)) (numbers (stretch s start len)) i)
 
 abbrev μ-loop : tie.MeasureT-loop
 μ-loop s index k start len count i₀ i = count - i
@@ -20,29 +22,19 @@ abbrev μ-loop : tie.MeasureT-loop
 loop-holds : tie.Need-loop-holds Inv-loop μ-loop
 loop-holds c = (search needs, refl)
 
-mul-num : tie.Need-mul-num Inv-loop μ-loop
-mul-num c = search needs
-
-add-num : tie.Need-add-num Inv-loop μ-loop
-add-num c = search needs
-
-num-requires : tie.Need-num-requires Inv-loop μ-loop
-num-requires c κs = search needs
-
-has-element-requires : tie.Need-has-element-requires Inv-loop μ-loop
-has-element-requires c κs = search needs
-
 returns : tie.Need-returns Inv-loop μ-loop
-returns c = sym (all-start _ _ ∙ c .before .before .before .before .loop .inv .1 ∙ all-no _ _ (length-numbers-in _ _ _ (c .before .before .before .before .before .before .pre .1 .1)) (search needs) (numbers-in _ _ _ (c .before .before .before .before .before .before .pre .1 .1) _ (search needs)) (rw (c .before .before .num .ensures) at (sym (c .before .has-element .ensures) ∙ not-true _ (c .if1 .taken))))
-
-add-i : tie.Need-add-i Inv-loop μ-loop
-add-i c = search needs
-
-loop-less : tie.Need-loop-less Inv-loop μ-loop
-loop-less c = search needs
+returns c =
+    let at-start = c .before .before .before .before .before .before in
+    sym (all-start _ _ ∙ c .before .before .before .before .loop .inv .1
+      ∙ all-no _ _ (length-numbers-in _ _ _ (at-start .pre .1 .1)) (search needs) (numbers-in _ _ _ (at-start .pre .1 .1) _ (search needs))
+      (rw (c .before .before .num .ensures) at (sym (c .before .has-element .ensures) ∙ not-true _ (c .if1 .taken))))
 
 loop-again : tie.Need-loop-again Inv-loop μ-loop
-loop-again c = (search needs, c .before .before .before .before .loop .inv .1 ∙ all-on _ _ (length-numbers-in _ _ _ (c .before .before .before .before .before .before .pre .1 .1)) (search needs) (numbers-in _ _ _ (c .before .before .before .before .before .before .pre .1 .1) _ (search needs)) (rw (c .before .before .num .ensures) at (sym (c .before .has-element .ensures) ∙ not-false _ (c .if1 .left))))
+loop-again c =
+    let at-start = c .before .before .before .before .before .before in
+    (search needs, c .before .before .before .before .loop .inv .1
+      ∙ all-on _ _ (length-numbers-in _ _ _ (at-start .pre .1 .1)) (search needs) (numbers-in _ _ _ (at-start .pre .1 .1) _ (search needs))
+      (rw (c .before .before .num .ensures) at (sym (c .before .has-element .ensures) ∙ not-false _ (c .if1 .left))))
 
 returns-2 : tie.Need-returns-2 Inv-loop μ-loop
 returns-2 c = sym (all-start _ _ ∙ c .before .loop .inv .1 ∙ all-end _ _ (length-numbers-in _ _ _ (c .before .before .before .pre .1 .1)) (search needs))
@@ -50,16 +42,5 @@ returns-2 c = sym (all-start _ _ ∙ c .before .loop .inv .1 ∙ all-end _ _ (le
 pub elements-named-spec : {M : Type 1} → statement M
 elements-named-spec =
     tie.close
-    (tie.spec
-    Inv-loop
-    μ-loop
-    loop-holds
-    mul-num
-    add-num
-    num-requires
-    has-element-requires
-    returns
-    add-i
-    loop-less
-    loop-again
-    returns-2)
+    (tie.spec Inv-loop μ-loop loop-holds (λ c. search needs) (λ c. search needs) (λ c κs. search needs) (λ c κs. search needs) returns
+      (λ c. search needs) (λ c. search needs) loop-again returns-2)

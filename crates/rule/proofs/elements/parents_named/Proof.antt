@@ -14,7 +14,10 @@ use Rattle.rule.proofs.elements.parents_named.Statement.{statement}
 use Rattle.rule.proofs.elements.parents_named.Tie as tie
 
 abbrev Inv-loop : tie.InvT-loop
-Inv-loop s from to start len count i₀ i = (count ≡ len / 2) × ((body : List Field) → Run s from to (withLetter letterE body) → allFrom (λ (e : ℕ). has e (namedElements body)) (numbers (stretch s start len)) 0 ≡ allFrom (λ (e : ℕ). has e (namedElements body)) (numbers (stretch s start len)) i)
+Inv-loop s from to start len count i₀ i =
+    (count ≡ len / 2) × ((body : List Field) → Run s from to (withLetter letterE body)
+      → allFrom (λ (e : ℕ). has e (namedElements body)) (numbers (stretch s start len)) 0
+      ≡ allFrom (λ (e : ℕ). has e (namedElements body)) (numbers (stretch s start len)) i)
 
 abbrev μ-loop : tie.MeasureT-loop
 μ-loop s from to start len count i₀ i = count - i
@@ -22,46 +25,26 @@ abbrev μ-loop : tie.MeasureT-loop
 loop-holds : tie.Need-loop-holds Inv-loop μ-loop
 loop-holds c = (search needs, λ body r. refl)
 
-mul-num : tie.Need-mul-num Inv-loop μ-loop
-mul-num c = search needs
-
-add-num : tie.Need-add-num Inv-loop μ-loop
-add-num c = search needs
-
-num-requires : tie.Need-num-requires Inv-loop μ-loop
-num-requires c κs = search needs
-
-can-be-named-requires : tie.Need-can-be-named-requires Inv-loop μ-loop
-can-be-named-requires c κs = search needs
-
 returns : tie.Need-returns Inv-loop μ-loop
-returns c = λ body r. sym (all-start _ _ ∙ c .before .before .before .before .loop .inv .1 body r ∙ all-no _ _ (length-numbers-in _ _ _ (c .before .before .before .before .before .before .pre)) (search needs) (numbers-in _ _ _ (c .before .before .before .before .before .before .pre) _ (search needs)) (rw (c .before .before .num .ensures) at (sym (c .before .can-be-named .ensures body r) ∙ not-true _ (c .if1 .taken))))
-
-add-i : tie.Need-add-i Inv-loop μ-loop
-add-i c = search needs
-
-loop-less : tie.Need-loop-less Inv-loop μ-loop
-loop-less c = search needs
+returns c =
+    let at-start = c .before .before .before .before .before .before in
+    λ body r. sym (all-start _ _ ∙ c .before .before .before .before .loop .inv .1 body r
+      ∙ all-no _ _ (length-numbers-in _ _ _ (at-start .pre)) (search needs) (numbers-in _ _ _ (at-start .pre) _ (search needs))
+      (rw (c .before .before .num .ensures) at (sym (c .before .can-be-named .ensures body r) ∙ not-true _ (c .if1 .taken))))
 
 loop-again : tie.Need-loop-again Inv-loop μ-loop
-loop-again c = (search needs, λ body r. c .before .before .before .before .loop .inv .1 body r ∙ all-on _ _ (length-numbers-in _ _ _ (c .before .before .before .before .before .before .pre)) (search needs) (numbers-in _ _ _ (c .before .before .before .before .before .before .pre) _ (search needs)) (rw (c .before .before .num .ensures) at (sym (c .before .can-be-named .ensures body r) ∙ not-false _ (c .if1 .left))))
+loop-again c =
+    let at-start = c .before .before .before .before .before .before in
+    (search needs, λ body r. c .before .before .before .before .loop .inv .1 body r
+      ∙ all-on _ _ (length-numbers-in _ _ _ (at-start .pre)) (search needs) (numbers-in _ _ _ (at-start .pre) _ (search needs))
+      (rw (c .before .before .num .ensures) at (sym (c .before .can-be-named .ensures body r) ∙ not-false _ (c .if1 .left))))
 
 returns-2 : tie.Need-returns-2 Inv-loop μ-loop
-returns-2 c = λ body r. sym (all-start _ _ ∙ c .before .loop .inv .1 body r ∙ all-end _ _ (length-numbers-in _ _ _ (c .before .before .before .pre)) (search needs))
+returns-2 c =
+    λ body r. sym (all-start _ _ ∙ c .before .loop .inv .1 body r ∙ all-end _ _ (length-numbers-in _ _ _ (c .before .before .before .pre)) (search needs))
 
 pub parents-named-spec : {M : Type 1} → statement M
 parents-named-spec =
     tie.close
-    (tie.spec
-    Inv-loop
-    μ-loop
-    loop-holds
-    mul-num
-    add-num
-    num-requires
-    can-be-named-requires
-    returns
-    add-i
-    loop-less
-    loop-again
-    returns-2)
+    (tie.spec Inv-loop μ-loop loop-holds (λ c. search needs) (λ c. search needs) (λ c κs. search needs) (λ c κs. search needs) returns
+      (λ c. search needs) (λ c. search needs) loop-again returns-2)

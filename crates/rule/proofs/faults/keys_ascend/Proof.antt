@@ -16,41 +16,17 @@ abbrev μ-loop : tie.MeasureT-loop
 loop-holds : tie.Need-loop-holds Inv-loop μ-loop
 loop-holds c = (omega arith, refl)
 
-add-loop : tie.Need-add-loop Inv-loop μ-loop
-add-loop c = search needs
-
-mul-num : tie.Need-mul-num Inv-loop μ-loop
-mul-num c = search needs
-
-add-num : tie.Need-add-num Inv-loop μ-loop
-add-num c = search needs
-
-add-num-2 : tie.Need-add-num-2 Inv-loop μ-loop
-add-num-2 c = search needs
-
-num-requires : tie.Need-num-requires Inv-loop μ-loop
-num-requires c κs = search needs
-
-mul-num-2 : tie.Need-mul-num-2 Inv-loop μ-loop
-mul-num-2 c = search needs
-
-add-num-3 : tie.Need-add-num-3 Inv-loop μ-loop
-add-num-3 c = search needs
-
-num-requires-2 : tie.Need-num-requires-2 Inv-loop μ-loop
-num-requires-2 c κs = search needs
-
 returns : tie.Need-returns Inv-loop μ-loop
-returns c = sym (keys-start _ _ _ ∙ c .before .before .before .before .loop .inv .1 ∙ keys-no _ _ _ (c .before .before .before .before .before .before .pre) _ (c .before .before .before .loop-test .taken) (rw (c .before .before .num .ensures, c .before .num2 .ensures) at (c .if1 .taken)))
-
-add-i : tie.Need-add-i Inv-loop μ-loop
-add-i c = search needs
-
-loop-less : tie.Need-loop-less Inv-loop μ-loop
-loop-less c = search needs
+returns c =
+    let at-start = c .before .before .before .before .before .before in
+    sym (keys-start _ _ _ ∙ c .before .before .before .before .loop .inv .1 ∙ keys-no _ _ _ (at-start .pre) _ (c .before .before .before .loop-test .taken)
+      (rw (c .before .before .num .ensures, c .before .num2 .ensures) at (c .if1 .taken)))
 
 loop-again : tie.Need-loop-again Inv-loop μ-loop
-loop-again c = (omega arith, c .before .before .before .before .loop .inv .1 ∙ keys-on _ _ _ (c .before .before .before .before .before .before .pre) _ (c .before .before .before .loop-test .taken) (rw (c .before .before .num .ensures, c .before .num2 .ensures) at (c .if1 .left)))
+loop-again c =
+    let at-start = c .before .before .before .before .before .before in
+    (omega arith, c .before .before .before .before .loop .inv .1 ∙ keys-on _ _ _ (at-start .pre) _ (c .before .before .before .loop-test .taken)
+      (rw (c .before .before .num .ensures, c .before .num2 .ensures) at (c .if1 .left)))
 
 returns-2 : tie.Need-returns-2 Inv-loop μ-loop
 returns-2 c = sym (keys-start _ _ _ ∙ c .before .loop .inv .1 ∙ keys-end _ _ _ (c .before .before .before .pre) _ (c .loop-test .left))
@@ -58,20 +34,6 @@ returns-2 c = sym (keys-start _ _ _ ∙ c .before .loop .inv .1 ∙ keys-end _ _
 pub keys-ascend-spec : {M : Type 1} → statement M
 keys-ascend-spec =
     tie.close
-    (tie.spec
-    Inv-loop
-    μ-loop
-    loop-holds
-    add-loop
-    mul-num
-    add-num
-    add-num-2
-    num-requires
-    mul-num-2
-    add-num-3
-    num-requires-2
-    returns
-    add-i
-    loop-less
-    loop-again
-    returns-2)
+    (tie.spec Inv-loop μ-loop loop-holds (λ c. search needs) (λ c. search needs) (λ c. search needs) (λ c. search needs)
+      (λ c κs. search needs) (λ c. search needs) (λ c. search needs) (λ c κs. search needs) returns (λ c. search needs) (λ c. search needs)
+      loop-again returns-2)

@@ -1,3 +1,5 @@
+-- Whether all pairs are named is whether those from the i-th on are (`allPairs`). A key or an image that is no element makes it false
+-- (`pairs-no`); a pair of elements leaves it to those behind it (`pairs-on`); none left is true (`pairs-end`).
 use Rattle.rule.proofs.PairLaws.{allPairs, pairs-start, pairs-no, pairs-on, pairs-end}
 use Rattle.rule.specs.Elements.{elementNumbers}
 use Rattle.rule.specs.Faults.{pairNamed}
@@ -9,7 +11,9 @@ use Rattle.rule.proofs.faults.pairs_named.Statement.{statement}
 use Rattle.rule.proofs.faults.pairs_named.Tie as tie
 
 abbrev Inv-loop : tie.InvT-loop
-Inv-loop s index source target start count i₀ i = allPairs s start count (pairNamed (elementNumbers s index source) (elementNumbers s index target)) 0 ≡ allPairs s start count (pairNamed (elementNumbers s index source) (elementNumbers s index target)) i
+Inv-loop s index source target start count i₀ i =
+    let part = pairNamed (elementNumbers s index source) (elementNumbers s index target) in
+    allPairs s start count part 0 ≡ allPairs s start count part i
 
 abbrev μ-loop : tie.MeasureT-loop
 μ-loop s index source target start count i₀ i = count - i
@@ -17,50 +21,41 @@ abbrev μ-loop : tie.MeasureT-loop
 loop-holds : tie.Need-loop-holds Inv-loop μ-loop
 loop-holds c = refl
 
-mul-num : tie.Need-mul-num Inv-loop μ-loop
-mul-num c = search needs
-
-add-num : tie.Need-add-num Inv-loop μ-loop
-add-num c = search needs
-
-num-requires : tie.Need-num-requires Inv-loop μ-loop
-num-requires c κs = search needs
-
 has-element-requires : tie.Need-has-element-requires Inv-loop μ-loop
 has-element-requires c κs = (c .before .before .before .before .pre .1 .1 .0, c .before .before .before .before .pre .0)
 
 returns : tie.Need-returns Inv-loop μ-loop
 unfolding pairNamed
-returns c = sym (pairs-start _ _ _ _ ∙ c .before .before .before .before .loop .inv ∙ pairs-no _ _ _ (c .before .before .before .before .before .before .pre .1 .1 .2) _ _ (c .before .before .before .loop-test .taken) (rw (rw (c .before .before .num .ensures) at (sym (c .before .has-element .ensures) ∙ not-true _ (c .if1 .taken)))))
-
-mul-num-2 : tie.Need-mul-num-2 Inv-loop μ-loop
-mul-num-2 c = search needs
-
-add-num-2 : tie.Need-add-num-2 Inv-loop μ-loop
-add-num-2 c = search needs
-
-add-num-3 : tie.Need-add-num-3 Inv-loop μ-loop
-add-num-3 c = search needs
-
-num-requires-2 : tie.Need-num-requires-2 Inv-loop μ-loop
-num-requires-2 c κs = search needs
+returns c =
+    let at-start = c .before .before .before .before .before .before in
+    sym (pairs-start _ _ _ _ ∙ c .before .before .before .before .loop .inv
+      ∙ pairs-no _ _ _ (at-start .pre .1 .1 .2) _ _ (c .before .before .before .loop-test .taken)
+      (rw (rw (c .before .before .num .ensures) at (sym (c .before .has-element .ensures) ∙ not-true _ (c .if1 .taken)))))
 
 has-element-requires-2 : tie.Need-has-element-requires-2 Inv-loop μ-loop
-has-element-requires-2 c κs = (c .before .before .before .before .before .before .before .pre .1 .1 .1, c .before .before .before .before .before .before .before .pre .1 .0)
+has-element-requires-2 c κs =
+    let at-start = c .before .before .before .before .before .before .before in
+    (at-start .pre .1 .1 .1, at-start .pre .1 .0)
 
 returns-2 : tie.Need-returns-2 Inv-loop μ-loop
 unfolding pairNamed
-returns-2 c = sym (pairs-start _ _ _ _ ∙ c .before .before .before .before .before .before .before .loop .inv ∙ pairs-no _ _ _ (c .before .before .before .before .before .before .before .before .before .pre .1 .1 .2) _ _ (c .before .before .before .before .before .before .loop-test .taken) (rw (rw (c .before .before .before .before .before .num .ensures) at (sym (c .before .before .before .before .has-element .ensures) ∙ not-false _ (c .before .before .before .if1 .left)), rw (c .before .before .num2 .ensures) at (sym (c .before .has-element2 .ensures) ∙ not-true _ (c .if2 .taken)))))
-
-add-i : tie.Need-add-i Inv-loop μ-loop
-add-i c = search needs
-
-loop-less : tie.Need-loop-less Inv-loop μ-loop
-loop-less c = search needs
+returns-2 c =
+    let at-num = c .before .before .before .before .before in let at-loop-test = at-num .before in let at-loop = at-loop-test .before in
+    let at-start = at-loop .before .before in
+    sym (pairs-start _ _ _ _ ∙ at-loop .loop .inv ∙ pairs-no _ _ _ (at-start .pre .1 .1 .2) _ _ (at-loop-test .loop-test .taken)
+      (rw (rw (at-num .num .ensures) at
+      (sym (c .before .before .before .before .has-element .ensures) ∙ not-false _ (c .before .before .before .if1 .left)),
+      rw (c .before .before .num2 .ensures) at (sym (c .before .has-element2 .ensures) ∙ not-true _ (c .if2 .taken)))))
 
 loop-again : tie.Need-loop-again Inv-loop μ-loop
 unfolding pairNamed
-loop-again c = c .before .before .before .before .before .before .before .loop .inv ∙ pairs-on _ _ _ (c .before .before .before .before .before .before .before .before .before .pre .1 .1 .2) _ _ (c .before .before .before .before .before .before .loop-test .taken) (rw (rw (c .before .before .before .before .before .num .ensures) at (sym (c .before .before .before .before .has-element .ensures) ∙ not-false _ (c .before .before .before .if1 .left)), rw (c .before .before .num2 .ensures) at (sym (c .before .has-element2 .ensures) ∙ not-false _ (c .if2 .left))))
+loop-again c =
+    let at-num = c .before .before .before .before .before in let at-loop-test = at-num .before in let at-loop = at-loop-test .before in
+    let at-start = at-loop .before .before in
+    at-loop .loop .inv ∙ pairs-on _ _ _ (at-start .pre .1 .1 .2) _ _ (at-loop-test .loop-test .taken)
+      (rw (rw (at-num .num .ensures) at
+      (sym (c .before .before .before .before .has-element .ensures) ∙ not-false _ (c .before .before .before .if1 .left)),
+      rw (c .before .before .num2 .ensures) at (sym (c .before .has-element2 .ensures) ∙ not-false _ (c .if2 .left))))
 
 returns-3 : tie.Need-returns-3 Inv-loop μ-loop
 returns-3 c = sym (pairs-start _ _ _ _ ∙ c .before .loop .inv ∙ pairs-end _ _ _ (c .before .before .before .pre .1 .1 .2) _ _ (c .loop-test .left))
@@ -68,22 +63,6 @@ returns-3 c = sym (pairs-start _ _ _ _ ∙ c .before .loop .inv ∙ pairs-end _ 
 pub pairs-named-spec : {M : Type 1} → statement M
 pairs-named-spec =
     tie.close
-    (tie.spec
-    Inv-loop
-    μ-loop
-    loop-holds
-    mul-num
-    add-num
-    num-requires
-    has-element-requires
-    returns
-    mul-num-2
-    add-num-2
-    add-num-3
-    num-requires-2
-    has-element-requires-2
-    returns-2
-    add-i
-    loop-less
-    loop-again
-    returns-3)
+    (tie.spec Inv-loop μ-loop loop-holds (λ c. search needs) (λ c. search needs) (λ c κs. search needs) has-element-requires returns
+      (λ c. search needs) (λ c. search needs) (λ c. search needs) (λ c κs. search needs) has-element-requires-2 returns-2
+      (λ c. search needs) (λ c. search needs) loop-again returns-3)

@@ -13,38 +13,37 @@ Inv-loop s index source target to at₀ at = Seeking s source target to at
 abbrev μ-loop : tie.MeasureT-loop
 μ-loop s index source target to at₀ at = to - at
 
-bound-requires : tie.Need-bound-requires Inv-loop μ-loop
-bound-requires c κs = search needs
-
-bound-requires-2 : tie.Need-bound-requires-2 Inv-loop μ-loop
-bound-requires-2 c κs = search needs
-
 loop-holds : tie.Need-loop-holds Inv-loop μ-loop
 loop-holds c = rw (c .before .bound .ensures, c .bound2 .ensures) (seek-start (c .before .before .before .pre) _ _)
 
-read-field-requires : tie.Need-read-field-requires Inv-loop μ-loop
-read-field-requires c κs = search needs
-
-enum-known-f : tie.Need-enum-known-f Inv-loop μ-loop
-enum-known-f c = search needs
-
-enum-told : tie.Need-enum-told Inv-loop μ-loop
-enum-told c = search needs
-
 returns : tie.Need-returns Inv-loop μ-loop
-returns c = seek-bad (c .before .before .before .before .loop .inv) (c .before .before .before .loop-test .taken) (sym (c .before .before .read-field .ensures .0) ∙ c .enum-told .given .1)
+returns c =
+    seek-bad (c .before .before .before .before .loop .inv) (c .before .before .before .loop-test .taken)
+      (sym (c .before .before .read-field .ensures .0) ∙ c .enum-told .given .1)
 
 joins-requires : tie.Need-joins-requires Inv-loop μ-loop
-joins-requires c κs = let a = rw (c .before .f .given .1) at (c .before .before .before .read-field .ensures .1) in (omega arith, seek-long (c .before .before .before .before .before .loop .inv) (c .before .before .before .before .loop-test .taken) (sym (c .before .before .before .read-field .ensures .0) ∙ c .before .f .given .1))
+joins-requires c κs =
+    let at-read-field = c .before .before .before in let at-loop = at-read-field .before .before in
+    let a = rw (c .before .f .given .1) at (at-read-field .read-field .ensures .1) in
+      (omega arith, seek-long (at-loop .loop .inv) (c .before .before .before .before .loop-test .taken)
+      (sym (at-read-field .read-field .ensures .0) ∙ c .before .f .given .1))
 
 returns-2 : tie.Need-returns-2 Inv-loop μ-loop
-returns-2 c = seek-hit (c .before .before .before .before .before .before .before .loop .inv) (c .before .before .before .before .before .before .loop-test .taken) (sym (c .before .before .before .before .before .read-field .ensures .0) ∙ c .before .before .before .f .given .1) (c .before .joins .ensures letterM) (c .if1 .taken)
+returns-2 c =
+    let at-read-field = c .before .before .before .before .before in let at-loop-test = at-read-field .before in
+    let at-loop = at-loop-test .before in
+    seek-hit (at-loop .loop .inv) (at-loop-test .loop-test .taken) (sym (at-read-field .read-field .ensures .0) ∙ c .before .before .before .f .given .1)
+      (c .before .joins .ensures letterM) (c .if1 .taken)
 
 loop-less : tie.Need-loop-less Inv-loop μ-loop
 loop-less c = let a = rw (c .before .before .before .f .given .1) at (c .before .before .before .before .before .read-field .ensures .1) in omega arith
 
 loop-again : tie.Need-loop-again Inv-loop μ-loop
-loop-again c = seek-next (c .before .before .before .before .before .before .before .loop .inv) (c .before .before .before .before .before .before .loop-test .taken) (sym (c .before .before .before .before .before .read-field .ensures .0) ∙ c .before .before .before .f .given .1) (c .before .joins .ensures letterM) (c .if1 .left)
+loop-again c =
+    let at-read-field = c .before .before .before .before .before in let at-loop-test = at-read-field .before in
+    let at-loop = at-loop-test .before in
+    seek-next (at-loop .loop .inv) (at-loop-test .loop-test .taken) (sym (at-read-field .read-field .ensures .0) ∙ c .before .before .before .f .given .1)
+      (c .before .joins .ensures letterM) (c .if1 .left)
 
 returns-3 : tie.Need-returns-3 Inv-loop μ-loop
 returns-3 c = seek-end (c .before .loop .inv) (c .loop-test .left)
@@ -52,18 +51,5 @@ returns-3 c = seek-end (c .before .loop .inv) (c .loop-test .left)
 pub find-map-spec : {M : Type 1} → statement M
 find-map-spec =
     tie.close
-    (tie.spec
-    Inv-loop
-    μ-loop
-    bound-requires
-    bound-requires-2
-    loop-holds
-    read-field-requires
-    enum-known-f
-    enum-told
-    returns
-    joins-requires
-    returns-2
-    loop-less
-    loop-again
-    returns-3)
+    (tie.spec Inv-loop μ-loop (λ c κs. search needs) (λ c κs. search needs) loop-holds (λ c κs. search needs) (λ c. search needs)
+      (λ c. search needs) returns joins-requires returns-2 loop-less loop-again returns-3)

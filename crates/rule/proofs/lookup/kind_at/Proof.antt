@@ -20,7 +20,8 @@ returns-3 : tie.Need-returns-3
 returns-3 c = λ letter. sym (kind-is _ _ _ letter (c .before .before .pre .1) ∙ rw (c .match .keys3))
 
 returns-4 : tie.Need-returns-4
-returns-4 c = λ letter. sym (kind-is _ _ _ letter (c .before .before .pre .1) ∙ kind-other _ (c .match .rest .0 .0 .1) (c .match .rest .0 .1) (c .match .rest .1))
+returns-4 c =
+    λ letter. sym (kind-is _ _ _ letter (c .before .before .pre .1) ∙ kind-other _ (c .match .rest .0 .0 .1) (c .match .rest .0 .1) (c .match .rest .1))
 
 pub kind-at-spec : {M : Type 1} → statement M
 kind-at-spec = tie.close (tie.spec add-b shared-slice-read-b returns returns-2 returns-3 returns-4)

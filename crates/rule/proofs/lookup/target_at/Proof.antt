@@ -11,7 +11,9 @@ two-requires : tie.Need-two-requires
 two-requires c κs = search needs
 
 returns : tie.Need-returns
-returns c = (λ letter. c .two .ensures .0 ∙ target-is _ _ _ (c .before .before .pre .0) letter (c .before .before .pre .1), λ letter. c .two .ensures .0 ∙ kind-target-is _ _ _ (c .before .before .pre .0) letter (c .before .before .pre .1))
+returns c =
+    (λ letter. c .two .ensures .0 ∙ target-is _ _ _ (c .before .before .pre .0) letter (c .before .before .pre .1),
+      λ letter. c .two .ensures .0 ∙ kind-target-is _ _ _ (c .before .before .pre .0) letter (c .before .before .pre .1))
 
 pub target-at-spec : {M : Type 1} → statement M
 target-at-spec = tie.close (tie.spec add-two two-requires returns)

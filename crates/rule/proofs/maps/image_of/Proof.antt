@@ -13,47 +13,41 @@ Inv-loop s m e guess low₀ high₀ low high = Between s m (e .0) low high
 abbrev μ-loop : tie.MeasureT-loop
 μ-loop s m e guess low₀ high₀ low high = high - low
 
-place-requires : tie.Need-place-requires Inv-loop μ-loop
-place-requires c κs = search needs
-
-pair-key-requires : tie.Need-pair-key-requires Inv-loop μ-loop
-pair-key-requires c κs = search needs
-
-pair-image-requires : tie.Need-pair-image-requires Inv-loop μ-loop
-pair-image-requires c κs = search needs
-
 returns : tie.Need-returns Inv-loop μ-loop
-returns c = ap some (c .pair-image .ensures) ∙ found (c .before .before .before .before .before .before .before .before .before .pre) _ _ (c .before .before .before .before .before .if1 .taken) (sym (c .before .before .before .before .pair-key .ensures) ∙ c .before .if2 .taken)
+returns c =
+    let at-if1 = c .before .before .before .before .before in let at-start = at-if1 .before .before .before .before in
+    ap some (c .pair-image .ensures)
+      ∙ found (at-start .pre) _ _ (at-if1 .if1 .taken) (sym (c .before .before .before .before .pair-key .ensures) ∙ c .before .if2 .taken)
 
 loop-holds : tie.Need-loop-holds Inv-loop μ-loop
 loop-holds c = between-all _ _ _
-
-add-mid : tie.Need-add-mid Inv-loop μ-loop
-add-mid c = search needs
 
 pair-key-requires-2 : tie.Need-pair-key-requires-2 Inv-loop μ-loop
 pair-key-requires-2 c κs = (c .before .before .before .before .before .before .pre, omega (arith, c .before .loop .inv .within))
 
 pair-image-requires-2 : tie.Need-pair-image-requires-2 Inv-loop μ-loop
-pair-image-requires-2 c κs = (c .before .before .before .before .before .before .before .before .before .before .pre, omega (arith, c .before .before .before .before .before .loop .inv .within))
+pair-image-requires-2 c κs =
+    let at-loop = c .before .before .before .before .before in let at-start = at-loop .before .before .before .before .before in
+    (at-start .pre, omega (arith, at-loop .loop .inv .within))
 
 returns-2 : tie.Need-returns-2 Inv-loop μ-loop
-returns-2 c = ap some (c .pair-image2 .ensures) ∙ found (c .before .before .before .before .before .before .before .before .before .before .before .pre) _ _ (omega (arith, c .before .before .before .before .before .before .loop .inv .within)) (sym (c .before .before .before .before .pair-key2 .ensures) ∙ c .before .if3 .taken)
-
-add-low : tie.Need-add-low Inv-loop μ-loop
-add-low c = search needs
-
-loop-less : tie.Need-loop-less Inv-loop μ-loop
-loop-less c = search needs
+returns-2 c =
+    let at-loop = c .before .before .before .before .before .before in let at-start = at-loop .before .before .before .before .before in
+    ap some (c .pair-image2 .ensures)
+      ∙ found (at-start .pre) _ _ (omega (arith, at-loop .loop .inv .within))
+      (sym (c .before .before .before .before .pair-key2 .ensures) ∙ c .before .if3 .taken)
 
 loop-again : tie.Need-loop-again Inv-loop μ-loop
-loop-again c = between-up (c .before .before .before .before .before .before .before .before .before .before .before .before .before .pre) (c .before .before .before .before .before .before .before .before .loop .inv) _ (omega arith) (rw (c .before .before .before .before .before .before .pair-key2 .ensures) at (c .if4 .taken))
-
-loop-less-2 : tie.Need-loop-less-2 Inv-loop μ-loop
-loop-less-2 c = search needs
+loop-again c =
+    let at-pair-key2 = c .before .before .before .before .before .before in let at-loop = at-pair-key2 .before .before in
+    let at-start = at-loop .before .before .before .before .before in
+    between-up (at-start .pre) (at-loop .loop .inv) _ (omega arith) (rw (at-pair-key2 .pair-key2 .ensures) at (c .if4 .taken))
 
 loop-again-2 : tie.Need-loop-again-2 Inv-loop μ-loop
-loop-again-2 c = between-down (c .before .before .before .before .before .before .before .before .before .before .before .before .before .pre) (c .before .before .before .before .before .before .before .before .loop .inv) _ (omega arith) (rw (← (c .before .before .before .before .before .before .pair-key2 .ensures)) (omega arith))
+loop-again-2 c =
+    let at-pair-key2 = c .before .before .before .before .before .before in let at-loop = at-pair-key2 .before .before in
+    let at-start = at-loop .before .before .before .before .before in
+    between-down (at-start .pre) (at-loop .loop .inv) _ (omega arith) (rw (← (at-pair-key2 .pair-key2 .ensures)) (omega arith))
 
 returns-3 : tie.Need-returns-3 Inv-loop μ-loop
 returns-3 c = not-found (c .before .before .before .before .before .before .pre) (c .before .loop .inv) (c .loop-test .left)
@@ -61,21 +55,6 @@ returns-3 c = not-found (c .before .before .before .before .before .before .pre)
 pub image-of-spec : {M : Type 1} → statement M
 image-of-spec =
     tie.close
-    (tie.spec
-    Inv-loop
-    μ-loop
-    place-requires
-    pair-key-requires
-    pair-image-requires
-    returns
-    loop-holds
-    add-mid
-    pair-key-requires-2
-    pair-image-requires-2
-    returns-2
-    add-low
-    loop-less
-    loop-again
-    loop-less-2
-    loop-again-2
-    returns-3)
+    (tie.spec Inv-loop μ-loop (λ c κs. search needs) (λ c κs. search needs) (λ c κs. search needs) returns loop-holds (λ c. search needs)
+      pair-key-requires-2 pair-image-requires-2 returns-2 (λ c. search needs) (λ c. search needs) loop-again (λ c. search needs)
+      loop-again-2 returns-3)

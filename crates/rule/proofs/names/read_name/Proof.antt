@@ -19,9 +19,6 @@ mul-start c = let v = name-lies (c .before .before .pre .1) in search needs
 add-start-2 : tie.Need-add-start-2
 add-start-2 c = let v = name-lies (c .before .before .pre .1) in search needs
 
-sub-num : tie.Need-sub-num
-sub-num c = search needs
-
 num-requires : tie.Need-num-requires
 num-requires c κs = let v = name-lies (c .before .before .pre .1) in omega (arith, c .before .before .pre .0)
 
@@ -43,16 +40,4 @@ returns c = rw (c .num .ensures, c .before .two .ensures .0) (name-read (c .befo
 pub read-name-spec : {M : Type 1} → statement M
 read-name-spec =
     tie.close
-    (tie.spec
-    add-two
-    two-requires
-    add-start
-    mul-start
-    add-start-2
-    sub-num
-    num-requires
-    mul-t7
-    sub-t10
-    add-t12
-    add-t13
-    returns)
+    (tie.spec add-two two-requires add-start mul-start add-start-2 (λ c. search needs) num-requires mul-t7 sub-t10 add-t12 add-t13 returns)

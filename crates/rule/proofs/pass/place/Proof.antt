@@ -1,3 +1,5 @@
+-- One case for each letter: `placeOf` of it computes to its place. In the last case the letter is none of the eleven, so each comparison of
+-- `placeFrom` fails (`ne-eqb`).
 use Rattle.rule.specs.Layout.{placeOf}
 use Rattle.definition.specs.Base.{placeFrom}
 use Rattle.definition.specs.Letters.{start, letterN, letterS, letterE, letterR, letterA, letterV, letterI, letterM, letterK, letterX}
@@ -69,16 +71,4 @@ returns-12 c = rw (
 pub place-spec : {M : Type 1} → statement M
 place-spec =
     tie.close
-    (tie.spec
-    returns
-    returns-2
-    returns-3
-    returns-4
-    returns-5
-    returns-6
-    returns-7
-    returns-8
-    returns-9
-    returns-10
-    returns-11
-    returns-12)
+    (tie.spec returns returns-2 returns-3 returns-4 returns-5 returns-6 returns-7 returns-8 returns-9 returns-10 returns-11 returns-12)

@@ -9,12 +9,6 @@ returns : tie.Need-returns
 unfolding sectionAt
 returns c = rw (le-leb _ _ (c .if1 .taken))
 
-mul-result : tie.Need-mul-result
-mul-result c = search needs
-
-add-result : tie.Need-add-result
-add-result c = search needs
-
 sub-result : tie.Need-sub-result
 unfolding sectionAt
 sub-result c = let h = c .before .before .pre .1 (c .before .if1 .left) in omega arith
@@ -23,15 +17,6 @@ returns-2 : tie.Need-returns-2
 unfolding sectionAt
 returns-2 c = rw (lt-leb _ _ (c .before .if1 .left), lt-ltb _ _ (c .if2 .taken))
 
-mul-result-2 : tie.Need-mul-result-2
-mul-result-2 c = search needs
-
-add-result-2 : tie.Need-add-result-2
-add-result-2 c = search needs
-
-sub-result-2 : tie.Need-sub-result-2
-sub-result-2 c = search needs
-
 returns-3 : tie.Need-returns-3
 unfolding sectionAt
 returns-3 c = rw (lt-leb _ _ (c .before .if1 .left), le-ltb _ _ (c .if2 .left))
@@ -39,13 +24,5 @@ returns-3 c = rw (lt-leb _ _ (c .before .if1 .left), le-ltb _ _ (c .if2 .left))
 pub section-of-spec : {M : Type 1} → statement M
 section-of-spec =
     tie.close
-    (tie.spec
-    returns
-    mul-result
-    add-result
-    sub-result
-    returns-2
-    mul-result-2
-    add-result-2
-    sub-result-2
-    returns-3)
+    (tie.spec returns (λ c. search needs) (λ c. search needs) sub-result returns-2 (λ c. search needs) (λ c. search needs)
+      (λ c. search needs) returns-3)

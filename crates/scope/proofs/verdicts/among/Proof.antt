@@ -11,31 +11,29 @@ use Rattle.scope.proofs.verdicts.among.Statement.{statement}
 use Rattle.scope.proofs.verdicts.among.Tie as tie
 
 abbrev Inv-loop : tie.InvT-loop
-Inv-loop sig symbols counts t x n i₀ i = (i ≤ n) × (has (x .0) (typeParents (signatureAt sig symbols counts) (t .0)) ≡ has (x .0) (drop i (typeParents (signatureAt sig symbols counts) (t .0))))
+Inv-loop sig symbols counts t x n i₀ i =
+    let part = typeParents (signatureAt sig symbols counts) (t .0) in
+    (i ≤ n) × (has (x .0) part ≡ has (x .0) (drop i part))
 
 abbrev μ-loop : tie.MeasureT-loop
 μ-loop sig symbols counts t x n i₀ i = n - i
 
-type-parents-requires : tie.Need-type-parents-requires Inv-loop μ-loop
-type-parents-requires c κs = search needs
-
-loop-holds : tie.Need-loop-holds Inv-loop μ-loop
-loop-holds c = search needs
-
 type-parent-requires : tie.Need-type-parent-requires Inv-loop μ-loop
-type-parent-requires c κs = (c .before .before .before .before .pre .0, (c .before .before .before .before .pre .1, rw (← (c .before .before .type-parents .ensures)) (c .loop-test .taken)))
+type-parent-requires c κs =
+    (c .before .before .before .before .pre .0,
+      (c .before .before .before .before .pre .1, rw (← (c .before .before .type-parents .ensures)) (c .loop-test .taken)))
 
 returns : tie.Need-returns Inv-loop μ-loop
-returns c = sym (c .before .before .before .before .before .loop .inv .1 ∙ has-hit _ _ _ (c .before .before .before .before .before .before .type-parents .ensures) (c .before .before .before .before .loop-test .taken) (c .before .before .before .type-parent .ensures .0) (c .if1 .taken))
-
-add-i : tie.Need-add-i Inv-loop μ-loop
-add-i c = search needs
-
-loop-less : tie.Need-loop-less Inv-loop μ-loop
-loop-less c = search needs
+returns c =
+    let at-loop = c .before .before .before .before .before in let at-type-parents = at-loop .before in
+    sym (at-loop .loop .inv .1 ∙ has-hit _ _ _ (at-type-parents .type-parents .ensures) (c .before .before .before .before .loop-test .taken)
+      (c .before .before .before .type-parent .ensures .0) (c .if1 .taken))
 
 loop-again : tie.Need-loop-again Inv-loop μ-loop
-loop-again c = (omega arith, c .before .before .before .before .before .loop .inv .1 ∙ has-miss _ _ _ (c .before .before .before .before .before .before .type-parents .ensures) (c .before .before .before .before .loop-test .taken) (c .before .before .before .type-parent .ensures .0) (c .if1 .left))
+loop-again c =
+    (omega arith, c .before .before .before .before .before .loop .inv .1
+      ∙ has-miss _ _ _ (c .before .before .before .before .before .before .type-parents .ensures) (c .before .before .before .before .loop-test .taken)
+      (c .before .before .before .type-parent .ensures .0) (c .if1 .left))
 
 returns-2 : tie.Need-returns-2 Inv-loop μ-loop
 returns-2 c = sym (c .before .loop .inv .1 ∙ has-end _ _ _ (c .before .before .type-parents .ensures) (c .loop-test .left))
@@ -43,14 +41,5 @@ returns-2 c = sym (c .before .loop .inv .1 ∙ has-end _ _ _ (c .before .before 
 pub among-spec : {M : Type 1} → statement M
 among-spec =
     tie.close
-    (tie.spec
-    Inv-loop
-    μ-loop
-    type-parents-requires
-    loop-holds
-    type-parent-requires
-    returns
-    add-i
-    loop-less
-    loop-again
-    returns-2)
+    (tie.spec Inv-loop μ-loop (λ c κs. search needs) (λ c. search needs) type-parent-requires returns (λ c. search needs)
+      (λ c. search needs) loop-again returns-2)

@@ -8,7 +8,9 @@ type-parents-requires : tie.Need-type-parents-requires
 type-parents-requires c κs = search needs
 
 add-result : tie.Need-add-result
-add-result c = omega (arith, c .type-parents .ensures, type-parents (c .before .before .pre .0) _ (c .before .before .pre .1), c .before .before .pre .0 .types .within _ (c .before .before .pre .1))
+add-result c =
+    omega (arith, c .type-parents .ensures, type-parents (c .before .before .pre .0) _ (c .before .before .pre .1),
+      c .before .before .pre .0 .types .within _ (c .before .before .pre .1))
 
 returns : tie.Need-returns
 returns c = search needs

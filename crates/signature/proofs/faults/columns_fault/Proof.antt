@@ -13,10 +13,16 @@ named-requires : tie.Need-named-requires
 named-requires c κs = search needs
 
 returns-3 : tie.Need-returns-3
-returns-3 c = columns-unnamed _ _ _ (c .before .before .before .before .before .pre) _ _ _ (c .before .before .before .if1 .left) (c .before .before .if2 .left) (c .before .named .ensures) (c .if3 .taken)
+returns-3 c =
+    let at-start = c .before .before .before .before .before in
+    columns-unnamed _ _ _ (at-start .pre) _ _ _ (c .before .before .before .if1 .left) (c .before .before .if2 .left) (c .before .named .ensures)
+      (c .if3 .taken)
 
 returns-4 : tie.Need-returns-4
-returns-4 c = columns-sound _ _ _ (c .before .before .before .before .before .pre) _ _ _ (c .before .before .before .if1 .left) (c .before .before .if2 .left) (c .before .named .ensures) (c .if3 .left)
+returns-4 c =
+    let at-start = c .before .before .before .before .before in
+    columns-sound _ _ _ (at-start .pre) _ _ _ (c .before .before .before .if1 .left) (c .before .before .if2 .left) (c .before .named .ensures)
+      (c .if3 .left)
 
 pub columns-fault-spec : {M : Type 1} → statement M
 columns-fault-spec = tie.close (tie.spec returns returns-2 named-requires returns-3 returns-4)

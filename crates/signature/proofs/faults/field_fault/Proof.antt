@@ -4,22 +4,13 @@ use Rattle.signature.specs.Faults.{checkOf}
 use Rattle.signature.proofs.faults.field_fault.Statement.{statement}
 use Rattle.signature.proofs.faults.field_fault.Tie as tie
 
-type-fault-requires : tie.Need-type-fault-requires
-type-fault-requires c κs = search needs
-
 returns : tie.Need-returns
 unfolding checkOf
 returns c = λ last. rw (eq-eqb _ _ (c .before .if1 .taken)) (c .type-fault .ensures _ last)
 
-symbol-fault-requires : tie.Need-symbol-fault-requires
-symbol-fault-requires c κs = search needs
-
 returns-2 : tie.Need-returns-2
 unfolding checkOf
 returns-2 c = λ last. rw (ne-eqb _ _ (c .before .before .if1 .left), eq-eqb _ _ (c .before .if2 .taken)) (c .symbol-fault .ensures _ last)
-
-symbol-fault-requires-2 : tie.Need-symbol-fault-requires-2
-symbol-fault-requires-2 c κs = search needs
 
 returns-3 : tie.Need-returns-3
 unfolding checkOf
@@ -28,10 +19,4 @@ returns-3 c = λ last. rw (ne-eqb _ _ (c .before .before .if1 .left), ne-eqb _ _
 pub field-fault-spec : {M : Type 1} → statement M
 field-fault-spec =
     tie.close
-    (tie.spec
-    type-fault-requires
-    returns
-    symbol-fault-requires
-    returns-2
-    symbol-fault-requires-2
-    returns-3)
+    (tie.spec (λ c κs. search needs) returns (λ c κs. search needs) returns-2 (λ c κs. search needs) returns-3)

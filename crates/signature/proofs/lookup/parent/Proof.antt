@@ -21,7 +21,11 @@ num-requires : tie.Need-num-requires
 num-requires c κs = rw (c .before .content-at .ensures .0) (parent-room (c .before .before .before .pre .1) _ (c .before .before .before .pre .0 .1))
 
 returns : tie.Need-returns
-returns c = (c .num .ensures ∙ rw (c .before .before .content-at .ensures .0) (sym (parent-of (c .before .before .before .before .pre .1) _ (c .before .before .before .before .pre .0 .1))), λ types k. rw (c .num .ensures, c .before .before .content-at .ensures .0, ← (parent-of (c .before .before .before .before .pre .1) _ (c .before .before .before .before .pre .0 .1))) (parent-below (c .before .before .before .before .pre .1) k _ (c .before .before .before .before .pre .0 .1)))
+returns c =
+    let part = c .before .before .before .before .pre .0 .1 in
+    (c .num .ensures ∙ rw (c .before .before .content-at .ensures .0) (sym (parent-of (c .before .before .before .before .pre .1) _ part)),
+      λ types k. rw (c .num .ensures, c .before .before .content-at .ensures .0, ← (parent-of (c .before .before .before .before .pre .1) _ part))
+      (parent-below (c .before .before .before .before .pre .1) k _ part))
 
 pub parent-spec : {M : Type 1} → statement M
 parent-spec =

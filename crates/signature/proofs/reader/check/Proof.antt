@@ -13,7 +13,8 @@ use Rattle.signature.specs.declared.reader.Checked.the-variants.{Count}
 use Rattle.signature.specs.Faults.{checkOf}
 use Rattle.signature.specs.Answers.{Stored}
 use Rattle.records.proofs.Link.{got-letter}
-use Rattle.signature.proofs.Checking.{told-sound, told-drawn, few-before, stored-start, stored-refused, stored-next, Checking, check-start, check-end, check-bad, check-stop, check-fault, check-store}
+use Rattle.signature.proofs.Checking.{told-sound, told-drawn, few-before, stored-start, stored-refused, stored-next, Checking, check-start}
+use Rattle.signature.proofs.Checking.{check-end, check-bad, check-stop, check-fault, check-store}
 use Rattle.signature.proofs.reader.check.Statement.{statement}
 use Rattle.signature.proofs.reader.check.Tie as tie
 
@@ -34,11 +35,14 @@ G c = c .before .before .before .before .before
 abbrev A : tie.After-enum-told2 Inv-loop μ-loop → tie.Start Inv-loop μ-loop
 A c = L c .before .before .before
 
-got : (c : tie.After-enum-told2 Inv-loop μ-loop) → fieldAt (A c .args .s .now) (L c .loop .at) ≡ Got (A c .args .letter) (G c .l .given .0 .1 .0) (G c .l .given .0 .1 .1 .0) (G c .l .given .0 .1 .1 .1 .0)
+got : (c : tie.After-enum-told2 Inv-loop μ-loop)
+    → fieldAt (A c .args .s .now) (L c .loop .at) ≡ Got (A c .args .letter) (G c .l .given .0 .1 .0) (G c .l .given .0 .1 .1 .0)
+    (G c .l .given .0 .1 .1 .1 .0)
 got c = got-letter _ _ (sym (G c .before .before .read-field .ensures .0) ∙ G c .l .given .1) (c .before .before .before .if1 .left)
 
 fine : (c : tie.After-enum-told2 Inv-loop μ-loop) (last : Option Field)
-    → none ≡ checkOf (A c .args .letter) (A c .args .types) (L c .loop .count) last (fieldOf (A c .args .s .now) (A c .args .letter) (G c .l .given .0 .1 .0) (G c .l .given .0 .1 .1 .0))
+    → none ≡ checkOf (A c .args .letter) (A c .args .types) (L c .loop .count) last
+        (fieldOf (A c .args .s .now) (A c .args .letter) (G c .l .given .0 .1 .0) (G c .l .given .0 .1 .1 .0))
 fine c last = told-sound (c .before .before .field-fault .ensures last) (c .enum-told2 .given .1)
 
 room : (c : tie.After-enum-told2 Inv-loop μ-loop) → A c .args .from + L c .loop .count < length (L c .loop .index)
@@ -47,83 +51,46 @@ room c = let few = few-before _ _ _ none _ (sym (fine c none)) in let l = L c .l
 loop-holds : tie.Need-loop-holds Inv-loop μ-loop
 loop-holds c = (stored-start (c .before .before .pre .1 .1), λ fs rest r f. check-start r f)
 
-read-field-requires : tie.Need-read-field-requires Inv-loop μ-loop
-read-field-requires c κs = search needs
-
-enum-known-l : tie.Need-enum-known-l Inv-loop μ-loop
-enum-known-l c = search needs
-
-enum-told : tie.Need-enum-told Inv-loop μ-loop
-enum-told c = search needs
-
-same-length : tie.Need-same-length Inv-loop μ-loop
-same-length c = search needs
-
 returns : tie.Need-returns Inv-loop μ-loop
-returns c = (
-  λ fs rest r f. check-bad (c .before .before .before .before .loop .inv .1 fs rest r f) (c .before .before .before .loop-test .taken) (sym (c .before .before .read-field .ensures .0) ∙ c .enum-told .given .1),
-  stored-refused (c .before .before .before .before .loop .inv .0) 2,
+returns c =
+    ( λ fs rest r f. check-bad (c .before .before .before .before .loop .inv .1 fs rest r f) (c .before .before .before .loop-test .taken)
+      (sym (c .before .before .read-field .ensures .0) ∙ c .enum-told .given .1), stored-refused (c .before .before .before .before .loop .inv .0) 2,
 )
 
-same-length-2 : tie.Need-same-length-2 Inv-loop μ-loop
-same-length-2 c = search needs
-
 returns-2 : tie.Need-returns-2 Inv-loop μ-loop
-returns-2 c = (
-  λ fs rest r f. check-stop (c .before .before .before .before .before .before .loop .inv .1 fs rest r f) (c .before .before .before .before .before .loop-test .taken)
-      (sym (c .before .before .before .before .read-field .ensures .0) ∙ c .before .before .l .given .1) (c .if1 .taken),
-  c .before .before .before .before .before .before .loop .inv .0,
+returns-2 c =
+    let at-loop-test = c .before .before .before .before .before in let at-loop = at-loop-test .before in
+    ( λ fs rest r f. check-stop (at-loop .loop .inv .1 fs rest r f) (at-loop-test .loop-test .taken)
+      (sym (c .before .before .before .before .read-field .ensures .0) ∙ c .before .before .l .given .1) (c .if1 .taken), at-loop .loop .inv .0,
 )
 
 field-fault-requires : tie.Need-field-fault-requires Inv-loop μ-loop
 field-fault-requires c κs = let a = rw (c .before .before .l .given .1) at (c .before .before .before .before .read-field .ensures .1) in omega arith
 
-enum-told-2 : tie.Need-enum-told-2 Inv-loop μ-loop
-enum-told-2 c = search needs
-
-enum-told-3 : tie.Need-enum-told-3 Inv-loop μ-loop
-enum-told-3 c = search needs
-
-drawn-requires : tie.Need-drawn-requires Inv-loop μ-loop
-drawn-requires c κs = search needs
-
-same-length-3 : tie.Need-same-length-3 Inv-loop μ-loop
-same-length-3 c = search needs
-
 returns-3 : tie.Need-returns-3 Inv-loop μ-loop
-returns-3 c = (
-  λ fs rest r f. check-fault (c .before .before .before .before .before .before .before .before .before .before .loop .inv .1 fs rest r f) (c .before .before .before .before .before .before .before .before .before .loop-test .taken)
-      (got-letter _ _ (sym (c .before .before .before .before .before .before .before .before .read-field .ensures .0) ∙ c .before .before .before .before .before .before .l .given .1) (c .before .before .before .before .if1 .left))
+returns-3 c =
+    let at-l = c .before .before .before .before .before .before in let at-read-field = at-l .before .before in
+    let at-loop-test = at-read-field .before in let at-loop = at-loop-test .before in
+    ( λ fs rest r f. check-fault (at-loop .loop .inv .1 fs rest r f) (at-loop-test .loop-test .taken)
+      (got-letter _ _ (sym (at-read-field .read-field .ensures .0) ∙ at-l .l .given .1) (c .before .before .before .before .if1 .left))
       (λ last. told-drawn (c .before .before .before .field-fault .ensures last) (c .before .enum-told3 .given .1) (c .drawn .ensures)),
-  stored-refused (c .before .before .before .before .before .before .before .before .before .before .loop .inv .0) _,
+      stored-refused (at-loop .loop .inv .0) _,
 )
-
-cast-index : tie.Need-cast-index Inv-loop μ-loop
-cast-index c = search needs
-
-add-index : tie.Need-add-index Inv-loop μ-loop
-add-index c = search needs
-
-mul-index : tie.Need-mul-index Inv-loop μ-loop
-mul-index c = search needs
 
 slice-write-index : tie.Need-slice-write-index Inv-loop μ-loop
 slice-write-index c = room c
 
-add-count : tie.Need-add-count Inv-loop μ-loop
-add-count c = search needs
-
 loop-less : tie.Need-loop-less Inv-loop μ-loop
-loop-less c = let a = rw (c .before .before .before .before .before .l .given .1) at (c .before .before .before .before .before .before .before .read-field .ensures .1) in omega arith
+loop-less c =
+    let at-l = c .before .before .before .before .before in let at-read-field = at-l .before .before in
+    let a = rw (at-l .l .given .1) at (at-read-field .read-field .ensures .1) in omega arith
 
 loop-again : tie.Need-loop-again Inv-loop μ-loop
-loop-again c = (
-  stored-next (L c .loop .inv .0) (A c .pre .1 .0) (got c) (sym (fine c none)),
-  λ fs rest r f. check-store (L c .loop .inv .1 fs rest r f) (c .before .before .before .before .before .before .before .before .loop-test .taken) (got c) (room c) (fine c),
+loop-again c =
+    let at-loop-test = c .before .before .before .before .before .before .before .before in
+    ( stored-next (L c .loop .inv .0) (A c .pre .1 .0) (got c) (sym (fine c none)),
+      λ fs rest r f. check-store (L c .loop .inv .1 fs rest r f) (at-loop-test .loop-test .taken) (got c) (room c) (fine c),
 )
-
-same-length-4 : tie.Need-same-length-4 Inv-loop μ-loop
-same-length-4 c = search needs
 
 returns-4 : tie.Need-returns-4 Inv-loop μ-loop
 returns-4 c = (λ fs rest r f. check-end (c .before .loop .inv .1 fs rest r f) (c .loop-test .left), c .before .loop .inv .0)
@@ -131,29 +98,7 @@ returns-4 c = (λ fs rest r f. check-end (c .before .loop .inv .1 fs rest r f) (
 pub check-spec : {M : Type 1} → statement M
 check-spec =
     tie.close
-    (tie.spec
-    Inv-loop
-    μ-loop
-    loop-holds
-    read-field-requires
-    enum-known-l
-    enum-told
-    same-length
-    returns
-    same-length-2
-    returns-2
-    field-fault-requires
-    enum-told-2
-    enum-told-3
-    drawn-requires
-    same-length-3
-    returns-3
-    cast-index
-    add-index
-    mul-index
-    slice-write-index
-    add-count
-    loop-less
-    loop-again
-    same-length-4
-    returns-4)
+    (tie.spec Inv-loop μ-loop loop-holds (λ c κs. search needs) (λ c. search needs) (λ c. search needs) (λ c. search needs) returns
+      (λ c. search needs) returns-2 field-fault-requires (λ c. search needs) (λ c. search needs) (λ c κs. search needs) (λ c. search needs)
+      returns-3 (λ c. search needs) (λ c. search needs) (λ c. search needs) slice-write-index (λ c. search needs) loop-less loop-again
+      (λ c. search needs) returns-4)

@@ -20,7 +20,9 @@ returns-3 c = rw (c .before .match .keys2) (⊎-elim (λ e. rw e) (⊎-elim (λ 
 
 returns-4 : tie.Need-returns-4
 unfolding follows any has
-returns-4 c = rw (c .before .match .keys2, ne-eqb 0 _ (λ e. c .match3 .rest .1 (inl (sym e))), ne-eqb 80 _ (λ e. c .match3 .rest .1 (inr (inl (sym e)))), ne-eqb 84 _ (λ e. c .match3 .rest .1 (inr (inr (sym e)))))
+returns-4 c =
+    rw (c .before .match .keys2, ne-eqb 0 _ (λ e. c .match3 .rest .1 (inl (sym e))), ne-eqb 80 _ (λ e. c .match3 .rest .1 (inr (inl (sym e)))),
+      ne-eqb 84 _ (λ e. c .match3 .rest .1 (inr (inr (sym e)))))
 
 returns-5 : tie.Need-returns-5
 unfolding follows any has
@@ -28,11 +30,14 @@ returns-5 c = rw (c .before .match .keys3) (⊎-elim (λ e. rw e) (⊎-elim (λ 
 
 returns-6 : tie.Need-returns-6
 unfolding follows any has
-returns-6 c = rw (c .before .match .keys3, ne-eqb 0 _ (λ e. c .match4 .rest .1 (inl (sym e))), ne-eqb 70 _ (λ e. c .match4 .rest .1 (inr (inl (sym e)))), ne-eqb 80 _ (λ e. c .match4 .rest .1 (inr (inr (inl (sym e))))), ne-eqb 84 _ (λ e. c .match4 .rest .1 (inr (inr (inr (sym e))))))
+returns-6 c =
+    rw (c .before .match .keys3, ne-eqb 0 _ (λ e. c .match4 .rest .1 (inl (sym e))), ne-eqb 70 _ (λ e. c .match4 .rest .1 (inr (inl (sym e)))),
+      ne-eqb 80 _ (λ e. c .match4 .rest .1 (inr (inr (inl (sym e))))), ne-eqb 84 _ (λ e. c .match4 .rest .1 (inr (inr (inr (sym e))))))
 
 returns-7 : tie.Need-returns-7
 unfolding follows any has
-returns-7 c = rw (ne-eqb 84 _ (λ e. c .match .rest .0 .0 .1 (sym e)), ne-eqb 80 _ (λ e. c .match .rest .0 .1 (sym e)), ne-eqb 70 _ (λ e. c .match .rest .1 (sym e)))
+returns-7 c =
+    rw (ne-eqb 84 _ (λ e. c .match .rest .0 .0 .1 (sym e)), ne-eqb 80 _ (λ e. c .match .rest .0 .1 (sym e)), ne-eqb 70 _ (λ e. c .match .rest .1 (sym e)))
 
 pub may-follow-spec : {M : Type 1} → statement M
 may-follow-spec =

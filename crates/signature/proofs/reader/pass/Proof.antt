@@ -18,38 +18,40 @@ abbrev μ-loop : tie.MeasureT-loop
 loop-holds : tie.Need-loop-holds Inv-loop μ-loop
 loop-holds c = pass-start _
 
-read-field-requires : tie.Need-read-field-requires Inv-loop μ-loop
-read-field-requires c κs = search needs
-
-enum-known-f : tie.Need-enum-known-f Inv-loop μ-loop
-enum-known-f c = search needs
-
-enum-told : tie.Need-enum-told Inv-loop μ-loop
-enum-told c = search needs
-
 returns : tie.Need-returns Inv-loop μ-loop
-returns c = pass-bad (c .before .before .before .before .loop .inv) (c .before .before .before .loop-test .taken) (sym (c .before .before .read-field .ensures .0) ∙ c .enum-told .given .1)
-
-may-follow-requires : tie.Need-may-follow-requires Inv-loop μ-loop
-may-follow-requires c κs = search needs
+returns c =
+    pass-bad (c .before .before .before .before .loop .inv) (c .before .before .before .loop-test .taken)
+      (sym (c .before .before .read-field .ensures .0) ∙ c .enum-told .given .1)
 
 returns-2 : tie.Need-returns-2 Inv-loop μ-loop
-returns-2 c = pass-stop (c .before .before .before .before .before .before .before .loop .inv) (sym (c .before .before .before .before .before .read-field .ensures .0) ∙ c .before .before .before .f .given .1) (sym (c .before .may-follow .ensures) ∙ not-true _ (c .if1 .taken))
-
-add-types : tie.Need-add-types Inv-loop μ-loop
-add-types c = search needs
+returns-2 c =
+    let at-read-field = c .before .before .before .before .before in let at-loop = at-read-field .before .before in
+    pass-stop (at-loop .loop .inv) (sym (at-read-field .read-field .ensures .0) ∙ c .before .before .before .f .given .1)
+      (sym (c .before .may-follow .ensures) ∙ not-true _ (c .if1 .taken))
 
 loop-less : tie.Need-loop-less Inv-loop μ-loop
-loop-less c = let a = rw (c .before .before .before .before .f .given .1) at (c .before .before .before .before .before .before .read-field .ensures .1) in omega arith
+loop-less c =
+    let at-read-field = c .before .before .before .before .before .before in
+    let a = rw (c .before .before .before .before .f .given .1) at (at-read-field .read-field .ensures .1) in omega arith
 
 loop-again : tie.Need-loop-again Inv-loop μ-loop
-loop-again c = rw (eq-eqb _ _ (c .if2 .taken)) at (pass-next (c .before .before .before .before .before .before .before .before .loop .inv) (sym (c .before .before .before .before .before .before .read-field .ensures .0) ∙ c .before .before .before .before .f .given .1) (sym (c .before .before .may-follow .ensures) ∙ not-false _ (c .before .if1 .left)))
+loop-again c =
+    let at-read-field = c .before .before .before .before .before .before in let at-loop = at-read-field .before .before in
+    rw (eq-eqb _ _ (c .if2 .taken)) at
+      (pass-next (at-loop .loop .inv) (sym (at-read-field .read-field .ensures .0) ∙ c .before .before .before .before .f .given .1)
+      (sym (c .before .before .may-follow .ensures) ∙ not-false _ (c .before .if1 .left)))
 
 loop-less-2 : tie.Need-loop-less-2 Inv-loop μ-loop
-loop-less-2 c = let a = rw (c .before .before .before .before .f .given .1) at (c .before .before .before .before .before .before .read-field .ensures .1) in omega arith
+loop-less-2 c =
+    let at-read-field = c .before .before .before .before .before .before in
+    let a = rw (c .before .before .before .before .f .given .1) at (at-read-field .read-field .ensures .1) in omega arith
 
 loop-again-2 : tie.Need-loop-again-2 Inv-loop μ-loop
-loop-again-2 c = rw (ne-eqb _ _ (c .if2 .left)) at (pass-next (c .before .before .before .before .before .before .before .before .loop .inv) (sym (c .before .before .before .before .before .before .read-field .ensures .0) ∙ c .before .before .before .before .f .given .1) (sym (c .before .before .may-follow .ensures) ∙ not-false _ (c .before .if1 .left)))
+loop-again-2 c =
+    let at-read-field = c .before .before .before .before .before .before in let at-loop = at-read-field .before .before in
+    rw (ne-eqb _ _ (c .if2 .left)) at
+      (pass-next (at-loop .loop .inv) (sym (at-read-field .read-field .ensures .0) ∙ c .before .before .before .before .f .given .1)
+      (sym (c .before .before .may-follow .ensures) ∙ not-false _ (c .before .if1 .left)))
 
 returns-3 : tie.Need-returns-3 Inv-loop μ-loop
 returns-3 c = pass-end (c .before .loop .inv) (c .loop-test .left)
@@ -57,19 +59,5 @@ returns-3 c = pass-end (c .before .loop .inv) (c .loop-test .left)
 pub pass-spec : {M : Type 1} → statement M
 pass-spec =
     tie.close
-    (tie.spec
-    Inv-loop
-    μ-loop
-    loop-holds
-    read-field-requires
-    enum-known-f
-    enum-told
-    returns
-    may-follow-requires
-    returns-2
-    add-types
-    loop-less
-    loop-again
-    loop-less-2
-    loop-again-2
-    returns-3)
+    (tie.spec Inv-loop μ-loop loop-holds (λ c κs. search needs) (λ c. search needs) (λ c. search needs) returns (λ c κs. search needs)
+      returns-2 (λ c. search needs) loop-less loop-again loop-less-2 loop-again-2 returns-3)

@@ -9,7 +9,9 @@ none-set-requires : tie.Need-none-set-requires
 none-set-requires c κs = search needs
 
 returns : tie.Need-returns
-returns c = (λ letter row. unsaid [] letter (rows-none _ row _ (sym (c .before .none-set .ensures) ∙ c .if1 .taken)) (c .before .before .before .pre .0 .0) .size, c .before .before .before .pre .0 .0)
+returns c =
+    (λ letter row. unsaid [] letter (rows-none _ row _ (sym (c .before .none-set .ensures) ∙ c .if1 .taken)) (c .before .before .before .pre .0 .0) .size,
+      c .before .before .before .pre .0 .0)
 
 section-length-requires : tie.Need-section-length-requires
 section-length-requires c κs = search needs

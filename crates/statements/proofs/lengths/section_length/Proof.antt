@@ -27,7 +27,9 @@ section-of-requires : tie.Need-section-of-requires Inv-loop μ-loop
 section-of-requires c κs = let p = c .before .pre in (p .1 .at .laid .few, omega (arith, p .0 .1 .least), omega (arith, p .0 .1 .most))
 
 loop-holds : tie.Need-loop-holds Inv-loop μ-loop
-loop-holds c = (rowing (c .before .before .pre .1) (c .before .before .pre .0 .1) (c .section-of .ensures .0) (c .section-of .ensures .1), search needs, λ letter variable. record { same = refl })
+loop-holds c =
+    (rowing (c .before .before .pre .1) (c .before .before .pre .0 .1) (c .section-of .ensures .0) (c .section-of .ensures .1), search needs,
+      λ letter variable. record { same = refl })
 
 read-row-requires : tie.Need-read-row-requires Inv-loop μ-loop
 read-row-requires c κs = row-here (c .before .loop .inv .0) (c .loop-test .taken)
@@ -75,16 +77,5 @@ returns c =
 pub section-length-spec : {M : Type 1} → statement M
 section-length-spec =
     tie.close
-    (tie.spec
-    Inv-loop
-    μ-loop
-    section-of-requires
-    loop-holds
-    read-row-requires
-    flag-requires
-    sub-counted
-    counted-requires
-    add-i
-    loop-less
-    loop-again
-    returns)
+    (tie.spec Inv-loop μ-loop section-of-requires loop-holds read-row-requires flag-requires sub-counted counted-requires add-i loop-less
+      loop-again returns)

@@ -7,12 +7,6 @@ use native.Mathlib.Omega.{arith}
 use Rattle.statements.proofs.members.put_element.Statement.{statement}
 use Rattle.statements.proofs.members.put_element.Tie as tie
 
-read-element-requires : tie.Need-read-element-requires
-read-element-requires c κs = search needs
-
-parents-of-requires : tie.Need-parents-of-requires
-parents-of-requires c κs = search needs
-
 vars-of-requires : tie.Need-vars-of-requires
 vars-of-requires c κs =
     let p = c .before .before .before .before .before .pre in
@@ -20,50 +14,19 @@ vars-of-requires c κs =
     let q = c .parents-of .ensures in
     (p .1 .at .laid, ((q .1 .1 _ (e .1), omega (arith, q .0, e .1 .few)), parents-named (p .1) (p .0 .1) (e .0) (e .1) (q .1 .0 _)))
 
-mul-vars : tie.Need-mul-vars
-mul-vars c = search needs
-
-element-copy-out-vars : tie.Need-element-copy-out-vars
-element-copy-out-vars c = search needs
-
-mul-vars-2 : tie.Need-mul-vars-2
-mul-vars-2 c = search needs
-
-array-write-vars : tie.Need-array-write-vars
-array-write-vars c = search needs
-
-add-t20 : tie.Need-add-t20
-add-t20 c = search needs
-
-put-statement-requires : tie.Need-put-statement-requires
-put-statement-requires c κs = search needs
-
-same-length : tie.Need-same-length
-same-length c = search needs
-
 returns : tie.Need-returns
 returns c =
     let p = c .before .before .before .before .before .before .before .before .before .before .before .pre in
-    let e = c .before .before .before .before .before .before .before .before .read-element .ensures in
-    let els = c .before .before .before .before .before .before .parents-of .result in
-    let q = c .before .before .before .before .before .before .parents-of .ensures in
-    let vars = c .before .before .before .before .before .vars-of .ensures in
-    let n : length (c .before .before .before .before .before .vars-of .result) ≡ 8 = search needs in
-    let few : els .count < length (c .before .before .before .before .before .vars-of .result) = omega (arith, q .0, e .1 .few) in
-    rw (← (element-said (p .1) (p .0 .1) (e .0) (e .1) (q .1 .0 _) _ _ _ (els .count) few vars)) (c .before .before .put-statement .ensures)
+      let e = c .before .before .before .before .before .before .before .before .read-element .ensures in
+      let els = c .before .before .before .before .before .before .parents-of .result in
+      let q = c .before .before .before .before .before .before .parents-of .ensures in
+      let vars = c .before .before .before .before .before .vars-of .ensures in
+      let n : length (c .before .before .before .before .before .vars-of .result) ≡ 8 = search needs in
+      let few : els .count < length (c .before .before .before .before .before .vars-of .result) = omega (arith, q .0, e .1 .few) in
+      rw (← (element-said (p .1) (p .0 .1) (e .0) (e .1) (q .1 .0 _) _ _ _ (els .count) few vars)) (c .before .before .put-statement .ensures)
 
 pub put-element-spec : {M : Type 1} → statement M
 put-element-spec =
     tie.close
-    (tie.spec
-    read-element-requires
-    parents-of-requires
-    vars-of-requires
-    mul-vars
-    element-copy-out-vars
-    mul-vars-2
-    array-write-vars
-    add-t20
-    put-statement-requires
-    same-length
-    returns)
+    (tie.spec (λ c κs. search needs) (λ c κs. search needs) vars-of-requires (λ c. search needs) (λ c. search needs) (λ c. search needs)
+      (λ c. search needs) (λ c. search needs) (λ c κs. search needs) (λ c. search needs) returns)

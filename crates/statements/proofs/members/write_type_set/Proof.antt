@@ -1,4 +1,5 @@
-use Rattle.statements.specs.Parts.{statementHead, typeSetOf}
+use Rattle.group.specs.Written.{statementHead}
+use Rattle.statements.specs.Parts.{typeSetOf}
 use Rattle.definition.specs.Writer.{numberBytes, statementField, fieldBytes}
 use Rattle.records.proofs.Tail.{then}
 use borrow.Author.Needs.{needs}

@@ -26,7 +26,9 @@ section-of-requires : tie.Need-section-of-requires Inv-loop μ-loop
 section-of-requires c κs = let p = c .before .before .pre in (p .1 .at .laid .few, omega (arith, p .0 .1 .least), omega (arith, p .0 .1 .most))
 
 loop-holds : tie.Need-loop-holds Inv-loop μ-loop
-loop-holds c = (rowing (c .before .before .before .pre .1) (c .before .before .before .pre .0 .1) (c .section-of .ensures .0) (c .section-of .ensures .1), begin _ _ (search needs))
+loop-holds c =
+    (rowing (c .before .before .before .pre .1) (c .before .before .before .pre .0 .1) (c .section-of .ensures .0) (c .section-of .ensures .1),
+      begin _ _ (search needs))
 
 read-row-requires : tie.Need-read-row-requires Inv-loop μ-loop
 read-row-requires c κs = row-here (c .before .loop .inv .0) (c .loop-test .taken)
@@ -46,12 +48,11 @@ first-requires c κs = (c .before .before .before .before .before .read-row .ens
 put-row-requires : tie.Need-put-row-requires Inv-loop μ-loop
 put-row-requires c κs =
     let r = c .before .before .before .before .before .before .before .before .before .loop .inv .0 in
-    let h = c .before .before .before .before .before .before .before .before .loop-test .taken in
-    let q = c .before .before .before .before .before .before .before .read-row .ensures in
-    let f = c .before .first .ensures in
-    let few : c .before .first .result .count ≤ columnLimit = omega (arith, f .0 .1, q .few) in
-    let p = c .before .before .before .before .before .before .before .before .before .before .before .before .before .pre in
-    ((search needs, f .0 .0, few), (p .1 .at .laid, row-named r h q (f .1)))
+      let h = c .before .before .before .before .before .before .before .before .loop-test .taken in
+      let q = c .before .before .before .before .before .before .before .read-row .ensures in let f = c .before .first .ensures in
+      let few : c .before .first .result .count ≤ columnLimit = omega (arith, f .0 .1, q .few) in
+      let p = c .before .before .before .before .before .before .before .before .before .before .before .before .before .pre in
+      ((search needs, f .0 .0, few), (p .1 .at .laid, row-named r h q (f .1)))
 
 add-i : tie.Need-add-i Inv-loop μ-loop
 add-i c =
@@ -81,18 +82,5 @@ returns c = rw (← (rows-all _ _ _ _)) (finish (c .before .loop .inv .1) (rows-
 pub put-section-spec : {M : Type 1} → statement M
 put-section-spec =
     tie.close
-    (tie.spec
-    Inv-loop
-    μ-loop
-    section-of-requires
-    loop-holds
-    read-row-requires
-    flag-requires
-    sub-first
-    first-requires
-    put-row-requires
-    add-i
-    loop-less
-    loop-again
-    same-length
-    returns)
+    (tie.spec Inv-loop μ-loop section-of-requires loop-holds read-row-requires flag-requires sub-first first-requires put-row-requires add-i
+      loop-less loop-again same-length returns)

@@ -7,7 +7,8 @@ use Rattle.rule.specs.Lists.{elsIn}
 use Rattle.rule.specs.Structures.{structureIn}
 use Rattle.rule.proofs.ElementLaws.{found-few}
 use Rattle.statements.specs.Parts.{variableBy}
-use Rattle.statements.proofs.Variables.{varsFrom, named-at, variable-found, els-said, els-said-on, els-said-end, statement-put}
+use Rattle.group.proofs.Writing.{varsFrom, statement-put}
+use Rattle.statements.proofs.Variables.{named-at, variable-found, els-said, els-said-on, els-said-end}
 use borrow.Author.Needs.{needs}
 use native.Mathlib.Omega.{arith}
 use Rattle.statements.proofs.sections.write_row.Statement.{statement}
@@ -20,64 +21,34 @@ Inv-loop out₀ letter kind s index k row symbol els count at₀ i₀ out at i =
 abbrev μ-loop : tie.MeasureT-loop
 μ-loop out₀ letter kind s index k row symbol els count at₀ i₀ out at i = els .count - i
 
-put-statement-head-requires : tie.Need-put-statement-head-requires Inv-loop μ-loop
-put-statement-head-requires c κs = search needs
-
 loop-holds : tie.Need-loop-holds Inv-loop μ-loop
 loop-holds c = (search needs, begin _ _ (search needs))
 
-el-at-requires : tie.Need-el-at-requires Inv-loop μ-loop
-el-at-requires c κs = search needs
-
-find-element-requires : tie.Need-find-element-requires Inv-loop μ-loop
-find-element-requires c κs = search needs
-
-enum-known-f : tie.Need-enum-known-f Inv-loop μ-loop
-enum-known-f c = search needs
-
-enum-told : tie.Need-enum-told Inv-loop μ-loop
-enum-told c = search needs
-
-same-length : tie.Need-same-length Inv-loop μ-loop
-same-length c = search needs
-
 returns : tie.Need-returns Inv-loop μ-loop
 returns c =
-    let p = c .before .before .before .before .before .before .before .before .before .before .before .before .pre in
-    let f = rw (c .enum-told .given .1) at (c .before .before .find-element .ensures) in
-    named-at (p .1 .0) (p .0 .0) (c .before .before .before .before .loop-test .taken) (c .before .before .before .el-at .ensures) (p .1 .1) f
+    let at-start = c .before .before .before .before .before .before .before .before .before .before .before .before in
+    let p = at-start .pre in let f = rw (c .enum-told .given .1) at (c .before .before .find-element .ensures) in
+      named-at (p .1 .0) (p .0 .0) (c .before .before .before .before .loop-test .taken) (c .before .before .before .el-at .ensures) (p .1 .1) f
 
 mul-put-num : tie.Need-mul-put-num Inv-loop μ-loop
 mul-put-num c =
     let p = c .before .before .before .before .before .before .before .before .before .before .before .before .before .before .pre in
-    let f = rw (c .before .before .f .given .1) at (c .before .before .before .before .find-element .ensures) in
-    let few = found-few (p .1 .0 .elements .elements) f in omega arith
+      let f = rw (c .before .before .f .given .1) at (c .before .before .before .before .find-element .ensures) in
+      let few = found-few (p .1 .0 .elements .elements) f in omega arith
 
 element-copy-out-put-num : tie.Need-element-copy-out-put-num Inv-loop μ-loop
 element-copy-out-put-num c =
-    let p = c .before .before .before .before .before .before .before .before .before .before .before .before .before .before .pre in
-    found-few (p .1 .0 .elements .elements) (rw (c .before .before .f .given .1) at (c .before .before .before .before .find-element .ensures))
-
-put-num-requires : tie.Need-put-num-requires Inv-loop μ-loop
-put-num-requires c κs = search needs
-
-add-i : tie.Need-add-i Inv-loop μ-loop
-add-i c = search needs
-
-loop-less : tie.Need-loop-less Inv-loop μ-loop
-loop-less c = search needs
+    let at-start = c .before .before .before .before .before .before .before .before .before .before .before .before .before .before in
+    let p = at-start .pre in
+      found-few (p .1 .0 .elements .elements) (rw (c .before .before .f .given .1) at (c .before .before .before .before .find-element .ensures))
 
 loop-again : tie.Need-loop-again Inv-loop μ-loop
 loop-again c =
-    (search needs,
-    let d = c .before .before .before .before .before .before .before .before in
-    let p = d .before .before .before .before .before .before .before .before .before .before .pre in
-    let v = variable-found (p .1 .0) _ (rw (c .before .before .before .before .before .before .f .given .1) at (d .find-element .ensures)) in
-    let on = els-said-on (p .0 .0) _ _ (d .before .before .loop-test .taken) (d .before .el-at .ensures) v in
-    wrote (d .before .before .before .loop .inv .1) on (c .before .before .put-num .ensures))
-
-same-length-2 : tie.Need-same-length-2 Inv-loop μ-loop
-same-length-2 c = search needs
+    (search needs, let d = c .before .before .before .before .before .before .before .before in
+      let p = d .before .before .before .before .before .before .before .before .before .before .pre in
+      let v = variable-found (p .1 .0) _ (rw (c .before .before .before .before .before .before .f .given .1) at (d .find-element .ensures)) in
+      let on = els-said-on (p .0 .0) _ _ (d .before .before .loop-test .taken) (d .before .el-at .ensures) v in
+      wrote (d .before .before .before .loop .inv .1) on (c .before .before .put-num .ensures))
 
 returns-2 : tie.Need-returns-2 Inv-loop μ-loop
 returns-2 c =
@@ -88,22 +59,6 @@ returns-2 c =
 pub write-row-spec : {M : Type 1} → statement M
 write-row-spec =
     tie.close
-    (tie.spec
-    Inv-loop
-    μ-loop
-    put-statement-head-requires
-    loop-holds
-    el-at-requires
-    find-element-requires
-    enum-known-f
-    enum-told
-    same-length
-    returns
-    mul-put-num
-    element-copy-out-put-num
-    put-num-requires
-    add-i
-    loop-less
-    loop-again
-    same-length-2
-    returns-2)
+    (tie.spec Inv-loop μ-loop (λ c κs. search needs) loop-holds (λ c κs. search needs) (λ c κs. search needs) (λ c. search needs)
+      (λ c. search needs) (λ c. search needs) returns mul-put-num element-copy-out-put-num (λ c κs. search needs) (λ c. search needs)
+      (λ c. search needs) loop-again (λ c. search needs) returns-2)

@@ -3,33 +3,18 @@ use borrow.Author.Needs.{needs}
 use Rattle.walk.proofs.walk.flatten_map.Statement.{statement}
 use Rattle.walk.proofs.walk.flatten_map.Tie as tie
 
-flatten-surj-then-requires : tie.Need-flatten-surj-then-requires
-flatten-surj-then-requires c κs = search needs
-
 returns : tie.Need-returns
-returns c = λ table k y h. surj-does _ _ _ _ _ _ _ _ _ (c .flatten-surj-then .ensures table y) (c .before .if1 .taken) h
-
-flatten-non-surj-then-requires : tie.Need-flatten-non-surj-then-requires
-flatten-non-surj-then-requires c κs = search needs
+returns c = λ table k y h. surj-does _ _ _ _ _ _ _ (c .flatten-surj-then .ensures _ table y) (c .before .if1 .taken) h
 
 returns-2 : tie.Need-returns-2
-returns-2 c = λ table k y h. non-surj-does _ _ _ _ _ _ _ _ _ (c .flatten-non-surj-then .ensures table) (c .before .if2 .taken) h
-
-flatten-if-arbitrary-requires : tie.Need-flatten-if-arbitrary-requires
-flatten-if-arbitrary-requires c κs = search needs
+returns-2 c = λ table k y h. non-surj-does _ _ _ _ _ _ _ (c .flatten-non-surj-then .ensures _ table _) (c .before .if2 .taken) h
 
 returns-3 : tie.Need-returns-3
 returns-3 c =
     λ table k y h. let d = c .flatten-if-arbitrary .ensures table y in
-    if-does _ _ _ _ _ _ _ _ _ _ (d .0) (d .1) (c .before .before .if1 .left) (c .before .if2 .left) h
+    if-does _ _ _ _ _ _ _ _ (d .0) (d .1) (c .before .before .before .if1 .left) (c .before .if2 .left) h
 
 pub flatten-map-spec : {M : Type 1} → statement M
 flatten-map-spec =
     tie.close
-    (tie.spec
-    flatten-surj-then-requires
-    returns
-    flatten-non-surj-then-requires
-    returns-2
-    flatten-if-arbitrary-requires
-    returns-3)
+    (tie.spec (λ c κs. search needs) returns (λ c κs. search needs) returns-2 (λ c κs. search needs) returns-3)

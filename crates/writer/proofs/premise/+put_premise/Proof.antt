@@ -49,9 +49,9 @@ put-premise-place-requires t c κs = search needs
 
 put-premise-put-premise-requires : (t : ℕ) → put-premise-lts.Need-put-premise-requires (called t) (put-premise-at t) put-premise.Post
 put-premise-put-premise-requires t c κs =
-    let w = c .before .before .before .before .before .before .before .pre in let e = w .1 .1 .0 in let r = w .1 .1 .1 in let p = c .before .place .ensures .0 in
-    let l = source-below e r p (c .before .before .before .if1 .left) in
-    (omega (arith, w .0), (w .1 .0, (e, source-reaching e r p)))
+    let w = c .before .before .before .before .before .before .before .pre in let e = w .1 .1 .0 in let r = w .1 .1 .1 in
+      let p = c .before .place .ensures .0 in let l = source-below e r p (c .before .before .before .if1 .left) in
+      (omega (arith, w .0), (w .1 .0, (e, source-reaching e r p)))
 
 put-premise-put-own-requires-2 : (t : ℕ) → put-premise-lts.Need-put-own-requires-2 (called t) (put-premise-at t) put-premise.Post
 put-premise-put-own-requires-2 t c κs =

@@ -3,17 +3,8 @@ use borrow.Author.Needs.{needs}
 use Rattle.writer.proofs.rules.emits.Statement.{statement}
 use Rattle.writer.proofs.rules.emits.Tie as tie
 
-reached-by-requires : tie.Need-reached-by-requires
-reached-by-requires c κs = search needs
-
 returns : tie.Need-returns
 returns c = emits-surj (c .before .reached-by .ensures) (c .if1 .taken)
-
-mask-at-requires : tie.Need-mask-at-requires
-mask-at-requires c κs = search needs
-
-none-set-requires : tie.Need-none-set-requires
-none-set-requires c κs = search needs
 
 returns-2 : tie.Need-returns-2
 returns-2 c =
@@ -25,10 +16,4 @@ returns-3 c = emits-none (c .before .before .reached-by .ensures) (c .before .if
 pub emits-spec : {M : Type 1} → statement M
 emits-spec =
     tie.close
-    (tie.spec
-    reached-by-requires
-    returns
-    mask-at-requires
-    none-set-requires
-    returns-2
-    returns-3)
+    (tie.spec (λ c κs. search needs) returns (λ c κs. search needs) (λ c κs. search needs) returns-2 returns-3)

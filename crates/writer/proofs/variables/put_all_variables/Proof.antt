@@ -18,24 +18,10 @@ abbrev μ-loop : tie.MeasureT-loop
 loop-holds : tie.Need-loop-holds Inv-loop μ-loop
 loop-holds c = (search needs, naming-start _ _ _ _ (search needs))
 
-element-copy-out-if1 : tie.Need-element-copy-out-if1 Inv-loop μ-loop
-element-copy-out-if1 c = search needs
-
-mul-put-variables : tie.Need-mul-put-variables Inv-loop μ-loop
-mul-put-variables c = search needs
-
-index-1-put-variables : tie.Need-index-1-put-variables Inv-loop μ-loop
-index-1-put-variables c = search needs
-
 put-variables-requires : tie.Need-put-variables-requires Inv-loop μ-loop
 put-variables-requires c κs =
-    let l = c .before .before .before .before .before in let w = l .before .before .before .before .pre in naming-asks (w .1) (w .0 .1) (l .loop-test .taken) (l .before .loop .inv .1) (c .before .before .before .if1 .taken)
-
-add-t : tie.Need-add-t Inv-loop μ-loop
-add-t c = search needs
-
-loop-less : tie.Need-loop-less Inv-loop μ-loop
-loop-less c = search needs
+    let l = c .before .before .before .before .before in let w = l .before .before .before .before .pre in
+      naming-asks (w .1) (w .0 .1) (l .loop-test .taken) (l .before .loop .inv .1) (c .before .before .before .if1 .taken)
 
 loop-again : tie.Need-loop-again Inv-loop μ-loop
 loop-again c =
@@ -45,9 +31,6 @@ loop-again c =
       (λ w. rw (w .1, w .2, w .3) (naming-pass (p .1) (p .0 .1) h n (w .0 .left)))
       (c .if1 .came))
 
-same-length : tie.Need-same-length Inv-loop μ-loop
-same-length c = search needs
-
 returns : tie.Need-returns Inv-loop μ-loop
 returns c =
     let e = c .before .loop .inv .0 in let f = c .loop-test .left in
@@ -56,16 +39,5 @@ returns c =
 pub put-all-variables-spec : {M : Type 1} → statement M
 put-all-variables-spec =
     tie.close
-    (tie.spec
-    Inv-loop
-    μ-loop
-    loop-holds
-    element-copy-out-if1
-    mul-put-variables
-    index-1-put-variables
-    put-variables-requires
-    add-t
-    loop-less
-    loop-again
-    same-length
-    returns)
+    (tie.spec Inv-loop μ-loop loop-holds (λ c. search needs) (λ c. search needs) (λ c. search needs) put-variables-requires
+      (λ c. search needs) (λ c. search needs) loop-again (λ c. search needs) returns)
