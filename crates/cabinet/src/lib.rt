@@ -1,4 +1,6 @@
 // What a C host calls. A slice passes as a pointer and a length; a refusal's number, or 0. host/nagzelud.h has the promises.
+#![tactic(auto)]
+
 ghost use Rattle.std.specs.Prelude.{◌≡◌, length};
 ghost use Rattle.definition.specs.Scope.{scope_of, owners_of};
 ghost use Rattle.definition.specs.Flatten.{flatten_of, laid_over};

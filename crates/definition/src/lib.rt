@@ -1,1 +1,2 @@
 // No code: the definitions that every other crate is proved against stand in specs/.
+#![tactic(auto)]

@@ -1,6 +1,8 @@
 // Reads a two-byte signature length (high byte first), the signature and the rule from standard input; prints the group, or
 // `refused`, a space, the number and a newline. A read that fails is answered like missing bytes, and told on standard error; a write
 // that fails is told there.
+#![tactic(auto)]
+
 use answers::desk::desk;
 use flatten::entry::ANSWER;
 

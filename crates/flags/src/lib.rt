@@ -1,5 +1,7 @@
 // Sets of places, a flag for each: a mask. A table of them takes an eighth of what a table of bools would. What holds the flags is known
 // here alone.
+#![tactic(auto)]
+
 ghost use Rattle.std.specs.Prelude.{◌≡◌, ◌≤◌, ◌<◌};
 ghost use Rattle.flags.specs.Flags.{places, flag_at, none_set, with_flag, only_flag, Above, PackedLess, held_of, mask_of};
 

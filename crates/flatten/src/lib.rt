@@ -1,2 +1,4 @@
 // Flatten: the entry.
+#![tactic(auto)]
+
 pub mod entry;

@@ -1,4 +1,6 @@
 // The group record: its G, W, U, B and H fields, their faults, what its variables and statements say, and how they are written.
+#![tactic(auto)]
+
 pub mod faults;
 pub mod ids;
 pub mod lookup;

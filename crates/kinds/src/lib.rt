@@ -1,4 +1,6 @@
 // What a map of each kind asks, and what it adds to the statements, as flags.
+#![tactic(auto)]
+
 pub mod added;
 pub mod elements;
 pub mod morphisms;

@@ -12,9 +12,9 @@ use mathlib.Core.List.{List, [], ◌∷◌, ◌++◌}
 use lib.Dec.{eqb}
 use lib.ListN.{length}
 use borrow.Author.Tests.{eqb-true, eq-eqb}
-use Rattle.definition.specs.Base.{pick, or_else, cons_if, keep, joined, any, first_of, span, less, ◌∈◌}
+use Rattle.definition.specs.Base.{pick, or_default, or_else, cons_if, keep, joined, any, first_of, span, less, ◌∈◌}
 use Rattle.definition.specs.Rule.{Map, Kind, MorphismKind, Auxiliary, Rule}
-use Rattle.definition.specs.Walk.{of_pair, add_pair, completed, walked_kinds}
+use Rattle.definition.specs.Walk.{of_pair, incoming_source, auxiliary_kind, add_pair, completed, walked_kinds}
 use Rattle.laws.proofs.Lists.{never, or_else_none, joined_same, bool_cases, and_left, and_right, and_true, any_true, any_false}
 use Rattle.laws.proofs.Orders.{Ascending, less_not}
 use Rattle.laws.proofs.Choices.{or_none}
@@ -132,7 +132,11 @@ ascending_once (k ∷ ks) h = (λ j m. apart k j (h.0 j m), ascending_once ks h.
 pub completed_once : (maps : List Map) (ks : List Kind) (xs : List Auxiliary) → Once ks → Once (completed maps ks xs)
 unfolding completed
 completed_once maps ks [] h = h
-completed_once maps ks (x ∷ xs) h = completed_once maps _ xs (added_once ks _ h)
+completed_once maps ks (x ∷ xs) h = completed_once maps (add_pair ks (record {
+  source = or_default (incoming_source maps x.structure) 0;
+  target = x.structure;
+  kind = auxiliary_kind x.class;
+})) xs (added_once ks _ h)
 
 -- The walked kinds, pair by pair.
 pub walked_table : (rule : Rule) → Once rule.kinds

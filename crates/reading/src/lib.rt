@@ -1,5 +1,7 @@
 // Whole records read from bytes alone: the signature's refusals first, then the rule's or group's. Of a caller that lends an index
 // its length is asked, which one with an array of its own has at hand; of others nothing.
+#![tactic(auto)]
+
 ghost use Rattle.std.specs.Prelude.{◌≡◌, length};
 ghost use Rattle.rule.specs.Layout.{rule_index};
 ghost use Rattle.group.specs.Index.{index_size};

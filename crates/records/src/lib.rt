@@ -1,3 +1,5 @@
+#![tactic(auto)]
+
 pub mod decimal;
 pub mod fields;
 pub mod names;

@@ -5,6 +5,8 @@
 // A part keeps its first 65,536 bytes; the others are read and dropped. A room above that is taken as 65,536. Input that ends
 // inside a case, or an unknown letter, ends the run with the line `bad case`. A read that fails is answered like input that ends inside a
 // case, and told on standard error; a write that fails ends the run and is told there.
+#![tactic(auto)]
+
 ghost use Rattle.std.specs.Prelude.{◌≤◌, ◌<◌, length};
 ghost use Rattle.replay.specs.Parts.{Within};
 

@@ -1,4 +1,6 @@
 // Rows of a structure, their images through a map, kernel pairs, constrained elements.
+#![tactic(auto)]
+
 pub mod arguments;
 pub mod kernel;
 pub mod members;

@@ -1,4 +1,6 @@
 // The rule record: its N, S, E, R, A, V, I, M, K and X fields, their faults, the index of them, and what they say.
+#![tactic(auto)]
+
 pub mod elements;
 pub mod faults;
 pub mod ids;

@@ -1,4 +1,6 @@
 // Statements as bytes.
+#![tactic(auto)]
+
 pub mod equalities;
 pub mod lengths;
 pub mod masks;

@@ -1,4 +1,6 @@
 // Standard input and output for programs: a read that fails is told from the end of the input, and what fails is said on standard error.
+#![tactic(auto)]
+
 ghost use Rattle.std.specs.Prelude.{◌≤◌, length};
 ghost use Rattle.streams.specs.Inputs.{Within};
 

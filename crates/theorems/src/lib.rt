@@ -1,1 +1,2 @@
 // Theorems about the definition, cited by the entries alone; no code.
+#![tactic(auto)]

@@ -1,3 +1,5 @@
 // The walk over the maps, and the tables that it leaves.
+#![tactic(auto)]
+
 pub mod tables;
 pub mod walk;
