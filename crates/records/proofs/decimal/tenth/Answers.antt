@@ -2,11 +2,8 @@
 -- whole part is at least 1/10 below the next number: the whole parts are the same. All of it is linear, so omega proves it.
 use native.Mathlib.Omega.{arith}
 use borrow.Author.Rules.{rules}
-use Rattle.records.proofs.decimal.tenth.Statement.{statement}
-use Rattle.records.proofs.decimal.tenth.Tie as tie
+use Rattle.records.proofs.decimal.tenth.Goals as goal
 
-returns : tie.Need-returns
-returns c = omega arith
-
-pub tenth_spec : {M : Type 1} → statement M
-tenth_spec = tie.close (tie.spec (λ c. search rules) (λ c. search rules) returns)
+pub returns : goal.returns
+returns c =
+    omega arith
