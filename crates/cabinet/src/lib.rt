@@ -45,7 +45,7 @@ const MODEL: u32 = 1;
 // Which model owns a rule. `refused` is 0 or the refusal's number; the owners are `count` variables of two bytes each, from `offset`
 // on in the group. What does not apply is 0.
 #[repr(C)]
-#[derive(Drop)]
+#[derive(Clone, Copy)]
 pub struct ScopeAnswer {
     pub refused: u32,
     pub kind: u32,
@@ -93,7 +93,7 @@ pub extern "C" fn nagzelud_scope(sig: &[u8], group: &[u8], position: usize) -> S
 
 // What flatten did. `refused` is 0 or the refusal's number; the group is the first `written` bytes of the buffer, none where refused.
 #[repr(C)]
-#[derive(Drop)]
+#[derive(Clone, Copy)]
 pub struct FlattenAnswer {
     pub refused: u32,
     pub written: usize,

@@ -9,7 +9,7 @@ ghost use Rattle.flags.specs.Flags.{places, flag_at, none_set, with_flag, only_f
 pub const PLACES: usize = 64;
 
 // One word, a binary digit for each place.
-#[derive(Drop)]
+#[derive(Clone, Copy)]
 pub struct Mask {
     word: u64,
 }

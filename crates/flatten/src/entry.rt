@@ -32,7 +32,7 @@ const FEW_STRUCTURES: usize = 4;
 const FEW_VARIABLES: usize = FIELDS * FEW_STRUCTURES;
 
 // So many bytes were written, or document 01's number.
-#[derive(Drop)]
+#[derive(Clone, Copy)]
 pub enum Flattened {
     Written(usize),
     Refused(u8),

@@ -17,14 +17,14 @@ use records::order::same_bytes;
 use signature::ids::TypeId;
 
 // Where a name stands.
-#[derive(Drop)]
+#[derive(Clone, Copy)]
 pub struct Name {
     pub start: usize,
     pub len: usize,
 }
 
 // A rule: its B fields stand from `premises` to `conclusions`, its H fields from there to `end`.
-#[derive(Drop)]
+#[derive(Clone, Copy)]
 pub struct Sections {
     pub premises: usize,
     pub conclusions: usize,
@@ -33,7 +33,7 @@ pub struct Sections {
 
 // A B or H field: its kind and symbol, how many variables it has, where their numbers start, two bytes each, and where the next
 // field does. The variables stay where they stand: scope compares the first few of them, and an array would be filled for each field.
-#[derive(Drop)]
+#[derive(Clone, Copy)]
 pub struct StatementField {
     pub kind: u8,
     pub symbol: u16,

@@ -35,21 +35,21 @@ use records::fields::{Field, read_field};
 use signature::faults::{Fault, drawn};
 use signature::ids::{Counts, INDEX, START};
 
-#[derive(Drop)]
+#[derive(Clone, Copy)]
 pub enum Reading {
     Sound { variables: usize, rules: usize },
     Refused(u8),
 }
 
 // Where the part before the first field that draws 2 ends, and whether it is the whole record.
-#[derive(Drop)]
+#[derive(Clone, Copy)]
 pub struct Passed {
     pub end: usize,
     pub whole: bool,
 }
 
 // A field of the letter that is asked for: its content and where the next one starts.
-#[derive(Drop)]
+#[derive(Clone, Copy)]
 pub enum Here {
     Field {
         start: usize,
@@ -60,14 +60,14 @@ pub enum Here {
 }
 
 // A section of the fields: how many there are and where the next one starts, or the first fault.
-#[derive(Drop)]
+#[derive(Clone, Copy)]
 pub enum Checked {
     Upto { count: usize, next: usize },
     Refused(u8),
 }
 
 // A rule: where its H fields (its heads) start and where the next rule does, or the first fault.
-#[derive(Drop)]
+#[derive(Clone, Copy)]
 pub enum Ruled {
     Upto { heads: usize, next: usize },
     Refused(u8),

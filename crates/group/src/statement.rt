@@ -2,7 +2,7 @@
 use signature::ids::COLUMNS;
 
 // Its kind, its symbol and the numbers of its variables, the first `count` of `vars`. None has more than a symbol has columns.
-#[derive(Drop)]
+#[derive(Clone, Copy)]
 pub struct Statement {
     pub kind: u8,
     pub symbol: u16,

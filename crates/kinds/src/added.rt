@@ -23,7 +23,7 @@ use rule::sections::section_of;
 use statements::masks::Masks;
 
 // The flags of what is new, or that an element of a row has no image.
-#[derive(Drop)]
+#[derive(Clone, Copy)]
 pub enum Flagged {
     Of(Mask),
     Unmapped,

@@ -9,7 +9,7 @@ use flags::{Mask, NO_FLAGS, PLACES, with_flag};
 use rule::ids::FIELDS;
 
 // The new elements of a target: none, one at a place, or more.
-#[derive(Drop)]
+#[derive(Clone, Copy)]
 pub enum New {
     Nothing,
     One(usize),

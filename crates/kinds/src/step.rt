@@ -2,7 +2,7 @@
 use statements::masks::Masks;
 
 // The masks of what its target adds to its source's statements, or a refusal.
-#[derive(Drop)]
+#[derive(Clone, Copy)]
 pub enum Step {
     Adds(Masks),
     Refused(u8),

@@ -16,7 +16,7 @@ use rule::lists::{Els, el_at, first};
 use rule::rows::{Row, read_row, row_result};
 
 // A row, and its place in its section.
-#[derive(Drop)]
+#[derive(Clone, Copy)]
 pub enum Yielding {
     At { place: usize, row: Row },
     Nothing,

@@ -9,7 +9,7 @@ use rule::names::{Name, read_name};
 use rule::sections::name_section;
 
 // A name of the rule, or `el`.
-#[derive(Drop)]
+#[derive(Clone, Copy)]
 pub enum Base {
     Of(Name),
     El,

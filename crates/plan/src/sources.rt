@@ -10,7 +10,7 @@ use rule::lookup::{MapFound, find_map, source_at, structure_at, target_at};
 use rule::sections::section_behind;
 
 // The lowest source of a structure.
-#[derive(Drop)]
+#[derive(Clone, Copy)]
 pub enum Source {
     At(usize),
     Nothing,

@@ -13,13 +13,13 @@ use rule::ids::RULE_INDEX;
 use signature::ids::{Counts, INDEX};
 use signature::reader::{Reading, read_signature, refusal};
 
-#[derive(Drop)]
+#[derive(Clone, Copy)]
 pub enum RuleReading {
     Sound { counts: Counts, structures: usize },
     Refused(u8),
 }
 
-#[derive(Drop)]
+#[derive(Clone, Copy)]
 pub enum GroupReading {
     Sound {
         counts: Counts,
@@ -29,7 +29,7 @@ pub enum GroupReading {
     Refused(u8),
 }
 
-#[derive(Drop)]
+#[derive(Clone, Copy)]
 pub enum Verdict {
     Sound,
     Refused(u8),

@@ -3,7 +3,7 @@ ghost use Rattle.std.specs.Prelude.{◌≡◌, ◌+◌, ◌≤◌, ◌<◌, leng
 ghost use Rattle.records.specs.Places.{two_at, field_at, Ahead};
 
 // A field that stands in a record: its letter, where its content starts and how long it is, where the next field starts.
-#[derive(Drop)]
+#[derive(Clone, Copy)]
 pub enum Field {
     Got {
         letter: u8,

@@ -25,7 +25,7 @@ const BLOCK: usize = 4096;
 const CASES: u64 = 1_000_000_000_000;
 
 // A number, or that the input ended.
-#[derive(Drop)]
+#[derive(Clone, Copy)]
 enum Four {
     Number(usize),
     Short,
@@ -56,7 +56,7 @@ fn read_four() -> Four {
     Four::Number(((wide(b[0]) * 256 + wide(b[1])) * 256 + wide(b[2])) * 256 + wide(b[3]))
 }
 
-#[derive(Drop)]
+#[derive(Clone, Copy)]
 enum Byte {
     Got(u8),
     End,
@@ -238,7 +238,7 @@ fn print_flattened(sig: &[u8], rule: &[u8], out: &mut [u8], room: usize) -> bool
     print_group(sig, rule, &mut out[..room])
 }
 
-#[derive(Drop)]
+#[derive(Clone, Copy)]
 enum Case {
     Answered,
     Bad,

@@ -29,7 +29,7 @@ use signature::ids::{Counts, FUNCTION, FuncId, INDEX, PREDICATE, PredId};
 use signature::lookup::{func_parents, pred_parents};
 
 // The symbol of an R or A row.
-#[derive(Drop)]
+#[derive(Clone, Copy)]
 enum RowSymbol {
     Pred(PredId),
     Func(FuncId),

@@ -3,7 +3,7 @@ use flags::Mask;
 use rule::maps::Map;
 
 // The numbers of the two structures, where its pairs stand, and a flag for each element of the target that is the image of several keys.
-#[derive(Drop)]
+#[derive(Clone, Copy)]
 pub struct Morphism {
     pub source: usize,
     pub target: usize,

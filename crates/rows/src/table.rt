@@ -26,14 +26,14 @@ pub const ROWS: usize = FIELDS;
 pub const TABLE: usize = ROWS * COLUMNS;
 
 // Whether each element of a row has an image.
-#[derive(Drop)]
+#[derive(Clone, Copy)]
 pub enum Mapped {
     All,
     Unmapped,
 }
 
 // The images of rows: how many, or that an element of one has none.
-#[derive(Drop)]
+#[derive(Clone, Copy)]
 pub enum Images {
     Count(usize),
     Unmapped,

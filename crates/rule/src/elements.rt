@@ -16,7 +16,7 @@ use crate::lists::Els;
 use records::fields::{Field, num, place, read_field, two};
 use signature::ids::TypeId;
 
-#[derive(Drop)]
+#[derive(Clone, Copy)]
 pub enum Found {
     At(usize),
     Nothing,
@@ -163,7 +163,7 @@ pub fn parents_named(s: &[u8], from: usize, to: usize, start: usize, len: usize)
 }
 
 // An element, and where its parents stand and how many there are.
-#[derive(Drop)]
+#[derive(Clone, Copy)]
 pub struct Element {
     pub number: ElId,
     pub ty: TypeId,

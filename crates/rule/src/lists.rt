@@ -8,7 +8,7 @@ use records::fields::num;
 use records::order::less_numbers;
 
 // Where a list of elements stands, and how many there are.
-#[derive(Drop)]
+#[derive(Clone, Copy)]
 pub struct Els {
     pub start: usize,
     pub count: usize,

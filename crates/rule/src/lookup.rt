@@ -10,13 +10,13 @@ use crate::reader::bound;
 use records::fields::{Field, read_field, two};
 
 // The map between two structures, by the content of its field.
-#[derive(Drop)]
+#[derive(Clone, Copy)]
 pub enum MapFound {
     At { start: usize, len: usize },
     Nothing,
 }
 
-#[derive(Drop)]
+#[derive(Clone, Copy)]
 pub enum MorphismKind {
     If,
     SurjThen,

@@ -11,13 +11,13 @@ use crate::lookup::{MapFound, find_map, map_pairs};
 use records::fields::num;
 
 // Where the pairs of a map stand in the rule, and how many there are.
-#[derive(Drop)]
+#[derive(Clone, Copy)]
 pub struct Map {
     pub at: usize,
     pub pairs: usize,
 }
 
-#[derive(Drop)]
+#[derive(Clone, Copy)]
 pub enum Image {
     Of(ElId),
     Nothing,

@@ -8,14 +8,14 @@ use crate::ids::ElId;
 use records::fields::{num, two};
 
 // Where a name stands, and how many bytes it has.
-#[derive(Drop)]
+#[derive(Clone, Copy)]
 pub struct Name {
     pub start: usize,
     pub len: usize,
 }
 
 // An element and its name, and where the next field stands.
-#[derive(Drop)]
+#[derive(Clone, Copy)]
 pub struct Named {
     pub element: ElId,
     pub name: Name,

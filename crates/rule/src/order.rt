@@ -9,14 +9,14 @@ ghost use Rattle.rule.specs.Faults.{last_field, LastIn, spot_of};
 use records::order::{less_bytes, less_numbers};
 
 // The last field of the same letter.
-#[derive(Drop)]
+#[derive(Clone, Copy)]
 pub enum Last {
     Content { start: usize, len: usize },
     Nothing,
 }
 
 // A field to be checked: its content, how many fields of its letter came before it, and the last of them.
-#[derive(Drop)]
+#[derive(Clone, Copy)]
 pub struct Spot {
     pub start: usize,
     pub len: usize,

@@ -13,7 +13,7 @@ use records::fields::{Field, read_field};
 use signature::ids::START;
 
 // Whether the part is the whole record, and how many structures it has; those past the first one over the limit are not counted.
-#[derive(Drop)]
+#[derive(Clone, Copy)]
 pub struct Passed {
     pub whole: bool,
     pub structures: usize,

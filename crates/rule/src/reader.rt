@@ -37,7 +37,7 @@ use records::fields::{Field, place, read_field};
 use signature::faults::{Fault, drawn};
 use signature::ids::{Counts, INDEX};
 
-#[derive(Drop)]
+#[derive(Clone, Copy)]
 pub enum Reading {
     Sound { structures: usize },
     Refused(u8),

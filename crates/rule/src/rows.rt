@@ -9,7 +9,7 @@ use crate::lists::{Els, el_at};
 use records::fields::{num, two};
 
 // A row's symbol and its elements, and where the next field stands.
-#[derive(Drop)]
+#[derive(Clone, Copy)]
 pub struct Row {
     pub symbol: u16,
     pub els: Els,

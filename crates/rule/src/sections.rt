@@ -10,7 +10,7 @@ ghost use Rattle.rule.specs.Lookup.{Ready};
 use crate::ids::{LETTERS, PLACE_I, PLACE_N, PLACE_V, RULE_INDEX, STRUCTURES};
 use crate::reader::bound;
 
-#[derive(Drop)]
+#[derive(Clone, Copy)]
 pub struct Section {
     pub from: usize,
     pub to: usize,

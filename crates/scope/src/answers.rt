@@ -2,7 +2,7 @@
 use signature::ids::TypeId;
 
 // A rule belongs to no model, or to a model by its owners: `count` variables of two bytes each, from `start` on in the group.
-#[derive(Drop)]
+#[derive(Clone, Copy)]
 pub enum Scope {
     Global,
     Model {
@@ -14,7 +14,7 @@ pub enum Scope {
 }
 
 // The model and owners of the first conclusion, with which the others are compared.
-#[derive(Drop)]
+#[derive(Clone, Copy)]
 pub struct Owned {
     pub model: TypeId,
     pub start: usize,
@@ -22,14 +22,14 @@ pub struct Owned {
 }
 
 // A rule's statements stand in two sections.
-#[derive(Drop)]
+#[derive(Clone, Copy)]
 pub enum Side {
     Premises,
     Conclusions,
 }
 
 // A statement leaves the scope open, or settles it.
-#[derive(Drop)]
+#[derive(Clone, Copy)]
 pub enum Verdict {
     Open,
     Global,

@@ -29,7 +29,7 @@ fn is_open(v: Verdict) -> bool
 }
 
 // Where a section of a rule stands.
-#[derive(Drop)]
+#[derive(Clone, Copy)]
 struct Part {
     from: usize,
     end: usize,

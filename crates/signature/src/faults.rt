@@ -10,7 +10,7 @@ use crate::ids::{COLUMNS, LETTER_P, LETTER_T, PARENTS, SYMBOLS};
 use records::fields::wide;
 use records::order::named;
 
-#[derive(Drop)]
+#[derive(Clone, Copy)]
 pub enum Fault {
     Sound,
     Draws(u8),

@@ -1,16 +1,16 @@
 // The numbers of types, predicates and functions, each a position among the fields of its letter.
 // They are types of their own, so that one is never taken for another.
-#[derive(Drop)]
+#[derive(Clone, Copy)]
 pub struct TypeId(pub u16);
 
-#[derive(Drop)]
+#[derive(Clone, Copy)]
 pub struct PredId(pub u16);
 
-#[derive(Drop)]
+#[derive(Clone, Copy)]
 pub struct FuncId(pub u16);
 
 // How many there are of each.
-#[derive(Drop)]
+#[derive(Clone, Copy)]
 pub struct Counts {
     pub types: usize,
     pub preds: usize,
@@ -58,7 +58,7 @@ pub const TYPE_SET: u8 = 4;
 pub const FUNC_DOMAIN: u8 = 5;
 
 // What a statement is about, by its kind: a predicate, a function or a type, each by an id of its own.
-#[derive(Drop)]
+#[derive(Clone, Copy)]
 pub enum Relation {
     Predicate(PredId),
     Function(FuncId),

@@ -17,14 +17,14 @@ use crate::ids::{
 use records::fields::{num, place, two, wide};
 
 // The model that a symbol belongs to: its last parent.
-#[derive(Drop)]
+#[derive(Clone, Copy)]
 pub enum ParentModel {
     Model(TypeId),
     Nothing,
 }
 
 // The content of a field.
-#[derive(Drop)]
+#[derive(Clone, Copy)]
 struct Content {
     start: usize,
     len: usize,

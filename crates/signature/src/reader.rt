@@ -15,14 +15,14 @@ use crate::ids::{
 };
 use records::fields::{Field, read_field};
 
-#[derive(Drop)]
+#[derive(Clone, Copy)]
 pub enum Reading {
     Sound(Counts),
     Refused(u8),
 }
 
 // Where the part before the first field that draws 2 ends, whether it is the whole record, and how many T stand in it.
-#[derive(Drop)]
+#[derive(Clone, Copy)]
 struct Passed {
     end: usize,
     whole: bool,
@@ -30,7 +30,7 @@ struct Passed {
 }
 
 // The fields of one letter: how many there are and where the next letter's begin, or the first fault.
-#[derive(Drop)]
+#[derive(Clone, Copy)]
 enum Checked {
     Count { count: usize, next: usize },
     Refused(u8),

@@ -54,7 +54,7 @@ fn put_equality(out: &mut [u8], from: usize, letter: u8, types: &[u8], v: u16, w
 }
 
 // The variables of the keys of an image, in the keys' order, and how many there are.
-#[derive(Drop)]
+#[derive(Clone, Copy)]
 pub struct Fiber {
     pub vars: [u16; FIELDS],
     pub count: usize,

@@ -7,7 +7,7 @@ use rule::ids::{PLACE_A, PLACE_R};
 use signature::ids::{FUNCTION, PREDICATE};
 
 // Those of a structure.
-#[derive(Drop)]
+#[derive(Clone, Copy)]
 pub struct Masks {
     pub preds: Mask,
     pub funcs: Mask,
@@ -17,7 +17,7 @@ pub struct Masks {
 
 // Rows of one letter: the place of the letter, and a flag for each. And what statements they become: the kind, and how many of a row's
 // last elements are left out, so that a function's row is also its domain.
-#[derive(Drop)]
+#[derive(Clone, Copy)]
 pub struct Chosen {
     pub place: usize,
     pub mask: Mask,

@@ -7,7 +7,7 @@ ghost use Rattle.streams.specs.Inputs.{Within};
 use libc::{STDIN_FILENO, STDOUT_FILENO};
 
 // How a reading ended.
-#[derive(Drop)]
+#[derive(Clone, Copy)]
 pub enum Input {
     // So many bytes stand at the front of the buffer: it is full, or the input has ended.
     Read(usize),

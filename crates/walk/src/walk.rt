@@ -35,7 +35,7 @@ use rule::maps::map_between;
 use signature::ids::{Counts, INDEX};
 
 // The walk goes on, or is refused.
-#[derive(Drop)]
+#[derive(Clone, Copy)]
 pub enum Walked {
     On,
     Refused(u8),
@@ -56,7 +56,7 @@ fn ends(sources: &[u8; STRUCTURES], source: usize, target: usize) -> Walked
 }
 
 // A map that the walk has come to: its kind, and the first variable that it may give out.
-#[derive(Drop)]
+#[derive(Clone, Copy)]
 pub struct Visit {
     pub morphism: Morphism,
     pub kind: u8,
@@ -133,7 +133,7 @@ fn number(r: Step) -> u8
 }
 
 // What a map's step hands back: the variables of the target's elements, the next one to be given out, and whether the walk goes on.
-#[derive(Drop)]
+#[derive(Clone, Copy)]
 pub struct MapWalked {
     pub vars: [u16; FIELDS],
     pub next: u16,

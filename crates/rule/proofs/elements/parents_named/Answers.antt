@@ -1,0 +1,35 @@
+use Rattle.definition.specs.Rule.{named_elements}
+use Rattle.definition.specs.Letters.{letter_e}
+use mathlib.Core.List.{List}
+use Rattle.records.proofs.Along.{all_from, all_start, all_no, all_on, all_end}
+use Rattle.records.proofs.Numbers.{length_numbers_in, numbers_in_lem}
+use Rattle.records.specs.Places.{stretch, Run}
+use Rattle.definition.specs.Records.{Field, numbers, with_letter}
+use Rattle.definition.specs.Base.{has}
+use borrow.Author.Tests.{not-true, not-false}
+use mathlib.Core.Path.{◌≡◌, refl, ◌∙◌, sym}
+use Prim.Native.Nat.{ℕ, ◌-◌, ◌/◌}
+use borrow.Author.Rules.{rules}
+use Rattle.rule.proofs.elements.parents_named.Goals as goal
+
+pub loop-i-init : goal.loop-i-init
+loop-i-init c =
+    (search rules, λ body r. refl)
+
+pub returns-then-not-can_be_named : goal.returns-then-not-can_be_named
+returns-then-not-can_be_named c =
+    λ body r. sym (all_start _ _ ∙ c.loop-i.invariant.1 body r
+    ∙ all_no _ _ (length_numbers_in _ _ _ c.requires) (search rules) (numbers_in_lem _ _ _ c.requires _ (search rules))
+    (rw c.num.ensures at (sym (c.can_be_named.ensures body r) ∙ c.if-not-can_be_named.true)))
+
+pub loop-i-preserved : goal.loop-i-preserved
+loop-i-preserved c = (
+  search rules,
+  λ body r. c.loop-i.invariant.1 body r
+      ∙ all_on _ _ (length_numbers_in _ _ _ c.requires) (search rules) (numbers_in_lem _ _ _ c.requires _ (search rules))
+      (rw c.num.ensures at (sym (c.can_be_named.ensures body r) ∙ c.if-not-can_be_named.false)),
+)
+
+pub returns : goal.returns
+returns c =
+    λ body r. sym (all_start _ _ ∙ c.loop-i.invariant.1 body r ∙ all_end _ _ (length_numbers_in _ _ _ c.requires) (search rules))

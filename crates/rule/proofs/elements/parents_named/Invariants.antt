@@ -1,0 +1,23 @@
+use Rattle.definition.specs.Rule.{named_elements}
+use Rattle.definition.specs.Letters.{letter_e}
+use mathlib.Core.List.{List}
+use Rattle.records.proofs.Along.{all_from, all_start, all_no, all_on, all_end}
+use Rattle.records.proofs.Numbers.{length_numbers_in, numbers_in_lem}
+use Rattle.records.specs.Places.{stretch, Run}
+use Rattle.definition.specs.Records.{Field, numbers, with_letter}
+use Rattle.definition.specs.Base.{has}
+use borrow.Author.Tests.{not-true, not-false}
+use mathlib.Core.Path.{◌≡◌, refl, ◌∙◌, sym}
+use Prim.Native.Nat.{ℕ, ◌-◌, ◌/◌}
+use borrow.Author.Rules.{rules}
+use Rattle.rule.proofs.elements.parents_named.Given as goal
+
+abbrev pub invariant-loop-i : goal.invariant-loop-i
+invariant-loop-i l =
+    (l.count ≡ l.len / 2) × ((body : List Field) → Run l.s l.from l.to (with_letter letter_e body)
+    → all_from (λ (e : ℕ). has e (named_elements body)) (numbers (stretch l.s l.start l.len)) 0
+    ≡ all_from (λ (e : ℕ). has e (named_elements body)) (numbers (stretch l.s l.start l.len)) l.i)
+
+abbrev pub decreases-loop-i : goal.decreases-loop-i
+decreases-loop-i l =
+    l.count - l.i

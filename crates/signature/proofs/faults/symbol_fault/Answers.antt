@@ -1,0 +1,21 @@
+use Prim.Native.Nat.{◌%◌}
+use mathlib.Core.Path.{◌≡◌, ◌∙◌}
+use borrow.Author.Rules.{rules}
+use Rattle.records.proofs.Numbers.{low_bits, low_bits_not}
+use Rattle.signature.proofs.Drawn.{symbol_even, symbol_short, symbol_columns}
+use Rattle.signature.proofs.faults.symbol_fault.Goals as goal
+
+pub returns-then-len-ne1 : goal.returns-then-len-ne1
+returns-then-len-ne1 c =
+    λ letter last. symbol_even _ _ _ c.requires.0 _ _ letter last _ (low_bits_not _ 1 c.if-len-ne1.true)
+
+pub returns-then-len-wide : goal.returns-then-len-wide
+returns-then-len-wide c =
+    λ letter last. symbol_short _ _ _ c.requires.0 _ _ letter last _ (low_bits _ 1 c.if-len-ne1.false)
+    (rw c.wide.ensures.0 at c.if-len-wide.true)
+
+pub returns : goal.returns
+returns c =
+    λ letter last. c.columns_fault.ensures ∙ symbol_columns _ _ _ c.requires.0 _ _ letter last _
+    (low_bits _ 1 c.if-len-ne1.false)
+    (rw c.wide.ensures.0 at c.if-len-wide.false)

@@ -1,0 +1,10 @@
+use mathlib.Core.Path.{◌∙◌}
+use borrow.Author.Rules.{rules}
+use Rattle.signature.proofs.lookup.content_at.Goals as goal
+
+pub returns : goal.returns
+returns c =
+    record {
+      start_value = search rules;
+      len_value = c.two.ensures.value ∙ rw c.place-at.ensures.0;
+    }

@@ -1,0 +1,18 @@
+use borrow.Author.Rules.{rules}
+use Rattle.signature.proofs.Symbols.{func_at, func_sound}
+use Rattle.signature.proofs.lookup.func_model.Goals as goal
+
+pub model-requires : goal.model-requires
+model-requires c =
+    record {
+      lt_index_size = search rules;
+      columned = rw c.place.ensures.0 (func_sound c.requires.indexed _ c.requires.f_lt_funcs).columned;
+    }
+
+pub returns : goal.returns
+returns c =
+    record {
+      result_value = rw (func_at c.requires.indexed _ c.requires.f_lt_funcs, ← c.place.ensures.0) c.model.ensures.result_value;
+      named = c.model.ensures.by_index _ (rw c.place.ensures.0 (func_sound c.requires.indexed _
+          c.requires.f_lt_funcs).all_named);
+    }

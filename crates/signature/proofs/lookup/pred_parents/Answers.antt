@@ -1,0 +1,14 @@
+use borrow.Author.Rules.{rules}
+use Rattle.signature.proofs.Symbols.{pred_at, pred_sound}
+use Rattle.signature.proofs.lookup.pred_parents.Goals as goal
+
+pub parents-requires : goal.parents-requires
+parents-requires c =
+    record {
+      lt_index_size = search rules;
+      columned = rw c.place.ensures.0 (pred_sound c.requires.indexed _ c.requires.p_lt_preds).columned;
+    }
+
+pub returns : goal.returns
+returns c =
+    rw (pred_at c.requires.indexed _ c.requires.p_lt_preds, ← c.place.ensures.0) c.parents.ensures
