@@ -17,7 +17,6 @@ use Rattle.records.specs.Places.{two_at, field_at, field_of, Run}
 use Rattle.records.specs.declared.fields.Field.TheVariants.{Got}
 use Rattle.records.proofs.Link.{got_is}
 use Rattle.records.proofs.Index.{got_field}
-use Rattle.records.proofs.Runs.{Behind}
 use Rattle.records.proofs.Lists.{keep_append}
 use Rattle.group.specs.Sections.{leading, trailing, Ordered, AtRule, Stated, statement_kinds, block_fault}
 use Rattle.group.specs.Answers.{Section, Rule}
@@ -118,7 +117,8 @@ module _ (sig : Signature) (variables before : ℕ) {s : List ℕ} {at end : ℕ
     head_sound = ap (flat_rule_fault before) (run_cons r e).0 ∙ sym (k l)
 
     pub premise_fault : {n : ℕ}
-        → ((gs : List Field) → Run s next end gs → Section (checked.Refused n) s next end letter_b (statement_fault sig (statement_kinds letter_b) variables) gs)
+        → ((gs : List Field) → Run s next end gs
+        → Section (checked.Refused n) s next end letter_b (statement_fault sig (statement_kinds letter_b) variables) gs)
         → Rule (ruled.Refused n) sig variables before s at end f fs
     unfolding block_fault
     premise_fault p = record { is = rw (head_sound, premise_check ∙ (p fs (run_cons r e).1).is) }

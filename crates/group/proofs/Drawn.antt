@@ -14,7 +14,7 @@ use borrow.Author.Tests.{lt-ltb, le-ltb, eq-eqb, ne_eqb}
 use Rattle.definition.specs.Base.{pick, any, has, empty, lowest}
 use Rattle.definition.specs.Limits.{variable_limit, group_name_bytes}
 use Rattle.definition.specs.Letters.{letter_b, member, type_set, func_domain}
-use Rattle.definition.specs.Records.{Field, numbers, bad_name, odd}
+use Rattle.definition.specs.Records.{Field, numbers, bad_name}
 use Rattle.definition.specs.Signature.{Signature, arity, symbol_count, type_parents, named}
 use Rattle.definition.specs.Group.{premise_kinds, conclusion_kinds, variable_of, statement_of, variable_fault, statement_fault, bad_columns}
 use Rattle.records.specs.Places.{two_at, stretch, field_of}

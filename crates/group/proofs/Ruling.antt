@@ -15,7 +15,7 @@ use Rattle.definition.specs.Records.{Field, Block, blocks, fault_among}
 use Rattle.definition.specs.Signature.{Signature}
 use Rattle.definition.specs.Group.{premise_kinds, conclusion_kinds, flat_rule_fault, statement_fault, flat_rules_fault}
 use Rattle.definition.specs.Scope.{conclusion_at}
-use Rattle.records.specs.Places.{Run, none, more}
+use Rattle.records.specs.Places.{Run, none}
 use Rattle.records.proofs.Runs.{run_end}
 use Rattle.group.specs.Sections.{AtRule, block_fault}
 use Rattle.group.specs.Index.{rules_from, conclusions_from, index_size, rule_at, conclusions_at, rule_end, RuleAt, RuleSound, FirstConclusion, no_block}
@@ -71,7 +71,8 @@ module _ {index₀ index : List ℕ} {at count : ℕ} (w : Entered index₀ inde
   new_end = get_or-set_same (set index (conclusions_from + count) conclusions) (rules_from + count + 1) next 0 (rw length-set (omega (arith, w.size)))
 
   new_conclusions : conclusions_at (entered index count conclusions next) count ≡ conclusions
-  new_conclusions = get_or-set_other (set index (conclusions_from + count) conclusions) (rules_from + count + 1) (conclusions_from + count) next 0 (λ e. omega arith)
+  new_conclusions =
+      get_or-set_other (set index (conclusions_from + count) conclusions) (rules_from + count + 1) (conclusions_from + count) next 0 (λ e. omega arith)
       ∙ get_or-set_same index (conclusions_from + count) conclusions 0 (omega (arith, w.size))
 
   new_rule : rule_at (entered index count conclusions next) count ≡ at

@@ -6,7 +6,6 @@ use mathlib.Core.List.{List, [], ◌∷◌}
 use mathlib.Core.Path.{◌≡◌, refl, sym, ◌∙◌, ap}
 use lib.ListN.{length, get_or, set, take, drop, length-set, drop_of_length-le}
 use lib.Seq.{take_all}
-use Rattle.definition.specs.Base.{each}
 use Rattle.definition.specs.Letters.{letter_w, letter_u}
 use Rattle.definition.specs.Limits.{column_limit}
 use Rattle.definition.specs.Records.{Field, Block, numbers, with_letter, blocks}
@@ -61,7 +60,8 @@ module _ {s index : List ℕ} {count : ℕ} (w : Listed s index count) where
 
 -- A rule's sections lie in the record.
 pub sections_are : {s index : List ℕ} {count k : ℕ} {bs : List Block} {premises conclusions end : ℕ} → Rules s index count bs → k < count
-    → premises ≡ premises_at s index k → conclusions ≡ conclusions_at index k → end ≡ rule_end index k → SectionsAt s premises conclusions end (get_or bs k no_block)
+    → premises ≡ premises_at s index k → conclusions ≡ conclusions_at index k → end ≡ rule_end index k
+    → SectionsAt s premises conclusions end (get_or bs k no_block)
 sections_are {k = k} w h a b c =
     let r = w.each k h in
     rw (a, b, c) (record { premise = r.premise; conclusion = r.conclusion; within = run_within r.conclusion (run_within r.premise r.within) })

@@ -119,7 +119,8 @@ sound_at check before last (f ∷ fs) e (suc i) d h =
     let q : before + suc i ≡ before + 1 + i = omega arith in
     rw q (sound_at check (before + 1) (some f) fs (or_else_none (check before last f) _ e).1 i d (omega arith))
 
-module _ (sig : Signature) {s : List ℕ} {end : ℕ} {whole : Bool} (p : Parted s (group_part s) end whole) (short : length s ≤ group_bytes) (n : end ≡ 0 → ⊥) where
+module _ (sig : Signature) {s : List ℕ} {end : ℕ} {whole : Bool} (p : Parted s (group_part s) end whole)
+    (short : length s ≤ group_bytes) (n : end ≡ 0 → ⊥) where
   abbrev it : Parts s end
   it = parts p n
 

@@ -1,0 +1,14 @@
+use Rattle.naming.proofs.Carrying.{Carrying, carrying, carry, carry_end, not_absent}
+use Rattle.naming.proofs.Placed.{found_few}
+use Prim.Native.Nat.{◌≤◌, ◌-◌}
+use borrow.Author.Rules.{rules}
+use native.Mathlib.Omega.{arith}
+use Rattle.naming.proofs.assign.carried.Given as goal
+
+abbrev pub invariant-loop-p : goal.invariant-loop-p
+invariant-loop-p l =
+    (l.p ≤ l.m.pairs) × Carrying l.s l.vars l.source l.target l.m l.row l.p
+
+abbrev pub decreases-loop-p : goal.decreases-loop-p
+decreases-loop-p l =
+    l.m.pairs - l.p

@@ -1,0 +1,15 @@
+use Rattle.naming.proofs.News.{Typing, typing, type_on, type_pass, type_end}
+use Rattle.naming.proofs.Placed.{below_count, past_count, element_few, type_read, type_byte}
+use Rattle.rule.specs.Structures.{structure_in}
+use mathlib.Core.Logic.{⊎_elim}
+use Prim.Native.Nat.{◌≤◌, ◌-◌}
+use borrow.Author.Rules.{rules}
+use Rattle.naming.proofs.types.type_variables.Given as goal
+
+abbrev pub invariant-loop-i : goal.invariant-loop-i
+invariant-loop-i l =
+    (l.i ≤ l.count) × Typing (structure_in l.s l.k) l.first l.row l.initial.types l.types l.number l.i
+
+abbrev pub decreases-loop-i : goal.decreases-loop-i
+decreases-loop-i l =
+    l.count - l.i

@@ -1,0 +1,7 @@
+use Rattle.records.proofs.Tail.{then}
+use borrow.Author.Rules.{rules}
+use Rattle.naming.proofs.writer.put_name.Goals as goal
+
+pub returns : goal.returns
+returns c =
+    then c.put_base-at.ensures c.put_decimal.ensures

@@ -1,0 +1,15 @@
+use Rattle.naming.proofs.Placed.{at_count}
+use Rattle.naming.proofs.Printing.{Printing, printing, printing_on, printing_pass, printing_end, printing_count}
+use Rattle.rule.specs.Structures.{structure_in}
+use mathlib.Core.Logic.{⊎_elim}
+use Prim.Native.Nat.{◌≤◌, ◌-◌}
+use borrow.Author.Rules.{rules}
+use Rattle.naming.proofs.writer.put_variables.Given as goal
+
+abbrev pub invariant-loop-i : goal.invariant-loop-i
+invariant-loop-i l =
+    (l.i ≤ l.count) × Printing l.initial.out l.out (structure_in l.s l.k) l.first l.row l.from l.at l.number l.i
+
+abbrev pub decreases-loop-i : goal.decreases-loop-i
+decreases-loop-i l =
+    l.count - l.i

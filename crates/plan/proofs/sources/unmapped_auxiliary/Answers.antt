@@ -1,0 +1,46 @@
+use Rattle.plan.proofs.SourceLaws.{no_source, unmapped_here, unmapped_behind}
+use Rattle.plan.proofs.Scanning.{Asking, asking, asked_end, answered, passed, auxiliaries_from, values_bad, values_inside, values_long}
+use Rattle.rule.specs.Lookup.{rule_at}
+use Rattle.definition.specs.Walk.{unmapped_auxiliary}
+use Rattle.definition.specs.Rule.{auxiliary_of}
+use Rattle.definition.specs.Base.{any}
+use mathlib.Core.Path.{◌∙◌, sym}
+use Prim.Native.Nat.{◌-◌}
+use borrow.Author.Rules.{rules}
+use native.Mathlib.Omega.{arith}
+use Rattle.plan.proofs.sources.unmapped_auxiliary.Goals as goal
+
+pub loop-at-init : goal.loop-at-init
+loop-at-init c =
+    asking _ (auxiliaries_from c.requires c.section_behind-auxiliaries.ensures)
+
+pub returns-in_default : goal.returns-in_default
+returns-in_default c =
+    values_bad c.loop-at.invariant.values c.loop-at-test.true
+    (sym c.read_field-f.ensures.value ∙ c.in_default.is)
+
+pub structure_at-requires : goal.structure_at-requires
+structure_at-requires c =
+    let g = sym c.read_field-f.ensures.value ∙ c.in-Got.is in
+    (values_inside c.loop-at.invariant.values c.loop-at-test.true g, values_long c.loop-at.invariant.values c.loop-at-test.true g)
+
+pub returns-in_default-source : goal.returns-in_default-source
+unfolding unmapped_auxiliary
+returns-in_default-source c =
+    sym (answered c.loop-at.invariant c.loop-at-test.true (sym c.read_field-f.ensures.value ∙ c.in-Got.is)
+    (unmapped_here _ _ (c.structure_at.ensures _) c.incoming_source-source.ensures c.in_default-source.is))
+
+pub loop-at-smaller : goal.loop-at-smaller
+loop-at-smaller c =
+    let a = rw c.in-Got.is at
+    c.read_field-f.ensures.ahead in omega arith
+
+pub loop-at-preserved : goal.loop-at-preserved
+loop-at-preserved c =
+    passed c.loop-at.invariant c.loop-at-test.true (sym c.read_field-f.ensures.value ∙ c.in-Got.is)
+    (unmapped_behind _ _ (c.structure_at.ensures _) c.incoming_source-source.ensures c.in-At.is)
+
+pub returns : goal.returns
+unfolding unmapped_auxiliary any
+returns c =
+    sym (asked_end c.loop-at.invariant c.loop-at-test.false)

@@ -1,0 +1,25 @@
+use Prim.Native.Nat.{ℕ, ◌-◌, ◌≤◌}
+use mathlib.Core.Path.{◌≡◌}
+use mathlib.Core.Logic.{⊎_elim}
+use mathlib.Core.List.{List, ◌++◌, append-nil}
+use lib.ListN.{length, take, length-set}
+use borrow.Author.Rules.{rules}
+use Rattle.flags.specs.Flags.{places}
+use Rattle.rule.specs.Elements.{element_numbers}
+use Rattle.rule.specs.Lists.{els_in}
+use Rattle.rule.proofs.Finding.{numbers_ascend}
+use Rattle.rule.proofs.ListLaws.{els_all}
+use Rattle.rows.specs.Arguments.{Marks}
+use Rattle.rows.proofs.ArgumentLaws.{mark_none, mark_at, seen_more}
+use Rattle.rows.proofs.Places.{found_place}
+use Rattle.rows.proofs.arguments.mark.Given as goal
+
+abbrev pub invariant-loop-j : goal.invariant-loop-j
+invariant-loop-j l =
+    (length l.flags ≡ places) × (l.j ≤ l.l.count)
+    × ((seen : List ℕ) → Marks l.initial.flags (element_numbers l.s l.index l.k) seen
+    → Marks l.flags (element_numbers l.s l.index l.k) (seen ++ take l.j (els_in l.s l.l)))
+
+abbrev pub decreases-loop-j : goal.decreases-loop-j
+decreases-loop-j l =
+    l.l.count - l.j

@@ -1,0 +1,26 @@
+use Prim.Native.Nat.{ℕ, ◌-◌}
+use native.Mathlib.Omega.{arith}
+use borrow.Author.Rules.{rules}
+use mathlib.Core.Path.{◌≡◌, ◌∙◌, ap}
+use mathlib.Core.List.{List}
+use lib.ListN.{length}
+use Rattle.definition.specs.Records.{Field}
+use Rattle.flags.specs.Flags.{places}
+use Rattle.records.specs.Places.{Run}
+use Rattle.signature.specs.Index.{signature_at}
+use Rattle.rule.specs.Elements.{element_numbers}
+use Rattle.rule.proofs.RowReading.{row_stands}
+use Rattle.rows.specs.Arguments.{Marks}
+use Rattle.rows.proofs.ArgumentLaws.{Along, along_start, along_next, known_here, Marking, marking_start, marking_next, marking_end}
+use Rattle.rows.proofs.arguments.mark_rows.Given as goal
+
+abbrev pub invariant-loop-at : goal.invariant-loop-at
+invariant-loop-at l =
+    (length l.flags ≡ places)
+    × ((fs : List Field) → Run l.s l.from l.end fs → Along l.s l.end fs l.at)
+    × ((seen : List ℕ) (fs : List Field) → Run l.s l.from l.end fs → Marks l.initial.flags (element_numbers l.s l.index l.k) seen
+    → Marking (signature_at l.sig l.symbols l.counts) l.kind l.s (element_numbers l.s l.index l.k) l.end seen fs l.flags l.at)
+
+abbrev pub decreases-loop-at : goal.decreases-loop-at
+decreases-loop-at l =
+    l.end - l.at

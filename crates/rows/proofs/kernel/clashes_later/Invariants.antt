@@ -1,0 +1,16 @@
+use Prim.Native.Nat.{ℕ, ◌+◌, ◌-◌}
+use mathlib.Core.Logic.{⊎_elim}
+use mathlib.Core.Path.{◌≡◌, refl, sym, ◌∙◌}
+use borrow.Author.Rules.{rules}
+use Rattle.definition.specs.Rule.{Pair}
+use Rattle.rows.specs.Kernel.{KeyTypes}
+use Rattle.rows.proofs.KernelLaws.{type_at, later_from, later_all, later_other, later_same, later_clash, later_end}
+use Rattle.rows.proofs.kernel.clashes_later.Given as goal
+
+abbrev pub invariant-loop-q : goal.invariant-loop-q
+invariant-loop-q l =
+    (type : Pair → ℕ) → KeyTypes l.s l.m l.vars l.types type → later_from type l.s l.m l.p (l.p + 1) ≡ later_from type l.s l.m l.p l.q
+
+abbrev pub decreases-loop-q : goal.decreases-loop-q
+decreases-loop-q l =
+    l.m.pairs - l.q

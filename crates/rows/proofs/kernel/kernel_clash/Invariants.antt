@@ -1,0 +1,15 @@
+use Prim.Native.Nat.{ℕ, ◌-◌}
+use mathlib.Core.Path.{◌≡◌, refl, sym, ◌∙◌}
+use borrow.Author.Rules.{rules}
+use Rattle.definition.specs.Rule.{Pair}
+use Rattle.rows.specs.Kernel.{KeyTypes}
+use Rattle.rows.proofs.KernelLaws.{keys_from, keys_on, keys_end, later_all, types_of, clash_is}
+use Rattle.rows.proofs.kernel.kernel_clash.Given as goal
+
+abbrev pub invariant-loop-p : goal.invariant-loop-p
+invariant-loop-p l =
+    (type : Pair → ℕ) → KeyTypes l.s l.m l.vars l.types type → keys_from type l.s l.m 0 ≡ keys_from type l.s l.m l.p
+
+abbrev pub decreases-loop-p : goal.decreases-loop-p
+decreases-loop-p l =
+    l.m.pairs - l.p

@@ -1,0 +1,22 @@
+use Prim.Native.Nat.{◌-◌, ◌≤◌, ◌<◌}
+use native.Mathlib.Omega.{arith}
+use mathlib.Core.Path.{◌≡◌}
+use lib.ListN.{length, length-set}
+use borrow.Author.Rules.{rules}
+use Rattle.definition.specs.Limits.{field_limit}
+use Rattle.definition.specs.Kinds.{Side}
+use Rattle.rule.specs.Elements.{element_numbers}
+use Rattle.rows.specs.Kernel.{SideAt}
+use Rattle.rule.specs.MapFields.{pairs_in}
+use Rattle.rows.proofs.KernelLaws.{KeysDone, keys_start, key_found, keys_next, keys_all}
+use Rattle.rule.proofs.ElementLaws.{found_few}
+use Rattle.rows.proofs.kernel.key_vars.Given as goal
+
+abbrev pub invariant-loop-p : goal.invariant-loop-p
+invariant-loop-p l =
+    (length l.vars ≡ field_limit) × (l.p ≤ l.m.pairs)
+    × ((source : Side) → SideAt (element_numbers l.s l.index l.k) l.row source → KeysDone source (pairs_in l.s l.m) l.vars l.p)
+
+abbrev pub decreases-loop-p : goal.decreases-loop-p
+decreases-loop-p l =
+    l.m.pairs - l.p

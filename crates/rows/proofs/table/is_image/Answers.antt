@@ -1,0 +1,36 @@
+use Prim.Native.Nat.{ℕ, ◌-◌}
+use mathlib.Core.List.{List}
+use mathlib.Core.Path.{◌≡◌}
+use lib.ListN.{length}
+use Rattle.definition.specs.Rule.{Row}
+use Rattle.rule.specs.Rows.{row_from, Alike}
+use Rattle.rows.specs.Table.{Held}
+use Rattle.rows.proofs.TableLaws.{Searching, search_start, search_other, search_differs, search_hit, search_end}
+use borrow.Author.Rules.{rules}
+use Rattle.rows.proofs.table.is_image.Goals.{else-held-row, then-held-row+else-same_elements}
+use Rattle.rows.proofs.table.is_image.Goals as goal
+
+pub loop-i-init : goal.loop-i-init
+loop-i-init c =
+    λ kind columns qs h n a e. search_start h n a
+
+pub returns-then-same_elements : goal.returns-then-same_elements
+returns-then-same_elements c =
+    λ kind columns qs h n a e.
+    let t = c.loop-i.invariant kind columns qs h n a e in
+    let f = c.same_elements.ensures in
+    search_hit t c.loop-i-test.true c.if-held-row.true e f c.if-same_elements.true
+
+pub loop-i-preserved : goal.loop-i-preserved
+loop-i-preserved c =
+    λ kind columns qs h n a e.
+    let t = c.loop-i.invariant kind columns qs h n a e in
+    let l = c.loop-i-test.true in
+    elim c.if-held-row.branch [
+      | then-held-row+else-same_elements w ↦ search_differs t l w.if-held-row.true e w.same_elements.ensures w.if-same_elements.false
+      | else-held-row w ↦ search_other t l w.if-held-row.false
+    ]
+
+pub returns : goal.returns
+returns c =
+    λ kind columns qs h n a e. search_end (c.loop-i.invariant kind columns qs h n a e) c.loop-i-test.false

@@ -1,0 +1,79 @@
+-- The loop along a section: the first i flags tell which rows are new, and no flag stands above them.
+use Prim.Native.Nat.{ℕ, ◌-◌, ◌<◌}
+use native.Mathlib.Omega.{arith}
+use mathlib.Core.Bool.{not}
+use mathlib.Core.List.{List}
+use mathlib.Core.Path.{sym, ◌∙◌, ap}
+use Rattle.definition.specs.Rule.{Row, Pair, row_of}
+use Rattle.definition.specs.Records.{Field}
+use Rattle.definition.specs.Base.{each}
+use Rattle.laws.proofs.Lists.{length_each}
+use Rattle.records.specs.Places.{Run}
+use Rattle.flags.specs.Flags.{places, Above, Packed}
+use Rattle.flags.proofs.Words.{above_none, above_set, above_clear, flags_start, flags_set, flags_clear}
+use Rattle.rule.specs.Rows.{Alike}
+use Rattle.rows.specs.Table.{Holds, is_new}
+use Rattle.rows.proofs.Turns.{new_at, row_columns, flags_end, alike_images}
+use Rattle.rule.proofs.RowFields.{Passed, passed_start}
+use Rattle.rule.proofs.RowReading.{row_stands, next_row}
+use borrow.Author.Rules.{rules}
+use Rattle.rows.proofs.table.new_rows.Goals.{else-not-is_image, then-not-is_image}
+use Rattle.rows.proofs.table.new_rows.Goals as goal
+
+pub loop-at-init : goal.loop-at-init
+loop-at-init c =
+    (above_none 0, λ fs r. passed_start r, λ kind columns pairs sources fs h r a. record { flags = flags_start _ })
+
+pub read_row-row-requires : goal.read_row-row-requires
+read_row-row-requires c =
+    let p = c.requires.rows_from in row_stands p (c.loop-at.invariant.1 _ p.run) c.loop-at-test.true
+
+pub with_flag-mask-requires : goal.with_flag-mask-requires
+with_flag-mask-requires c = (
+  (let few : c.loop-at.i < places = let p = c.requires.rows_from in
+      let n = next_row (c.loop-at.invariant.1 _ p.run) c.loop-at-test.true c.read_row-row.ensures in
+      omega (arith, n.inside, p.few) in few),
+  c.loop-at.invariant.0,
+)
+
+pub overflow_add-i : goal.overflow_add-i
+overflow_add-i c =
+    let h : c.loop-at.i < places = let p = c.requires.rows_from in
+    let n = next_row (c.loop-at.invariant.1 _ p.run) c.loop-at-test.true c.read_row-row.ensures in
+    omega (arith, n.inside, p.few) in search rules
+
+pub loop-at-smaller : goal.loop-at-smaller
+loop-at-smaller c =
+    let q = c.read_row-row.ensures in omega (arith, q.ahead)
+
+pub loop-at-preserved : goal.loop-at-preserved
+loop-at-preserved c =
+    let l : c.loop-at.i < places = let p = c.requires.rows_from in
+    let n = next_row (c.loop-at.invariant.1 _ p.run) c.loop-at-test.true c.read_row-row.ensures in
+    omega (arith, n.inside, p.few) in
+    let q = c.read_row-row.ensures in
+    let g = c.loop-at-test.true in
+    let v = c.loop-at.invariant in (
+      elim c.if-not-is_image.branch [
+        | then-not-is_image w ↦ rw (w.mask-is, w.with_flag-mask.ensures) (above_set _ _ l v.0)
+        | else-not-is_image w ↦ rw w.mask-is (above_clear _ _ l v.0)
+      ],
+      λ fs r. (next_row (v.1 fs r) g q).passed,
+      λ kind columns pairs sources fs h r a.
+          let n = next_row (v.1 fs r) g q in
+          let f = (v.2 kind columns pairs sources fs h r a).flags in
+          let k = h.count ∙ sym (length_each _ _) in
+          let is = c.is_image.ensures kind columns _ h.held k (alike_images pairs h.alike) (row_columns n kind q a) in
+          let t = new_at n kind pairs sources is in
+          elim c.if-not-is_image.branch [
+            | then-not-is_image w ↦ rw (w.mask-is, w.with_flag-mask.ensures)
+                (record { flags = flags_set f l (t ∙ ap not w.if-not-is_image.true) })
+            | else-not-is_image w ↦ rw w.mask-is (record { flags = flags_clear f l (t ∙ ap not w.if-not-is_image.false) })
+          ],
+    )
+
+pub returns : goal.returns
+returns c =
+    λ kind columns pairs sources fs h r a.
+    let v = c.loop-at.invariant in
+    flags_end (v.1 fs r) c.loop-at-test.false (v.2 kind columns pairs sources fs h r a)

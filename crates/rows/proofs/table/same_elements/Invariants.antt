@@ -1,0 +1,19 @@
+use Prim.Native.Nat.{◌-◌}
+use mathlib.Core.Path.{◌≡◌, refl, sym, ◌∙◌}
+use lib.ListN.{drop}
+use borrow.Author.Rules.{rules}
+use Rattle.definition.specs.Base.{same_list}
+use Rattle.records.proofs.Numbers.{length_stretch, stretch_at}
+use Rattle.records.specs.Places.{stretch}
+use Rattle.records.proofs.Parts.{same_on, same_no, same_end}
+use Rattle.rule.specs.Lists.{els_in}
+use Rattle.rule.proofs.ListLaws.{els_many}
+use Rattle.rows.proofs.table.same_elements.Given as goal
+
+abbrev pub invariant-loop-j : goal.invariant-loop-j
+invariant-loop-j l =
+    same_list (els_in l.s l.l) (stretch l.els l.at l.l.count) ≡ same_list (drop l.j (els_in l.s l.l)) (drop l.j (stretch l.els l.at l.l.count))
+
+abbrev pub decreases-loop-j : goal.decreases-loop-j
+decreases-loop-j l =
+    l.l.count - l.j
