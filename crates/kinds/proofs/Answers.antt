@@ -174,7 +174,8 @@ module _ {s index : List ℕ} {m : Morphism} {targetvars : List ℕ} {first : �
       surj_adds f q bare =
           let v = rw q at f in
           let x = adds in
-          let parts = added_parts sig table source_side target_side (pairs_by s m) (kinds_sound w.between.source_at.sound) (kinds_sound w.between.target_at.sound) in
+          let parts = added_parts sig table source_side target_side (pairs_by s m)
+          (kinds_sound w.between.source_at.sound) (kinds_sound w.between.target_at.sound) in
           let mem = members_all w.between.target_at.laid masks.members (pairs_by s m) (member_rows (source_in s m).elements) marks x.members bare in
           record {
             is = (
@@ -200,7 +201,8 @@ module _ {s index : List ℕ} {m : Morphism} {targetvars : List ℕ} {first : �
       unfolding if_statements said_by free_elements
       if_said =
           let x = adds a e in
-          let parts = free_parts sig table source_side target_side (pairs_by s m) (kinds_sound w.between.source_at.sound) (kinds_sound w.between.target_at.sound) in
+          let parts = free_parts sig table source_side target_side (pairs_by s m)
+          (kinds_sound w.between.source_at.sound) (kinds_sound w.between.target_at.sound) in
           let mem = members_free w.between.target_at.laid masks.members (pairs_by s m) (member_rows (source_in s m).elements) marks x.members sig c in
           let els = free_flagged (target_in s m) free (in_image (pairs_by s m)) (constrained sig (target_in s m)) f in
           rw (parts, x.preds, x.funcs, mem, els, append_assoc)

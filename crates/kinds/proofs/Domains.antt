@@ -91,7 +91,8 @@ module _ (sig : Signature) (table : List Variable) (s : List ℕ) (m : Morphism)
 
   no_flags_lem : keep (member_flag (target_in s m) no_flags) (members (target_in s m)) ≡ []
   unfolding member_flag
-  no_flags_lem = no_members (member_flag (target_in s m) no_flags) (members (target_in s m)) (λ r. no_flag (place_from 0 (last_element r) (numbers_of (target_in s m))))
+  no_flags_lem = no_members (member_flag (target_in s m) no_flags) (members (target_in s m))
+      (λ r. no_flag (place_from 0 (last_element r) (numbers_of (target_in s m))))
 
   -- By what the search for new elements told.
   module _ {n : New} (w : News n (in_image (pairs_by s m)) (numbers_of (target_in s m))) where

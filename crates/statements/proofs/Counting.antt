@@ -168,7 +168,8 @@ module _ {s index : List ℕ} {k : ℕ} (w : Stands s index k) (letter : ℕ) (r
         go true f = rw (types_on w letter row free c h f, ← (type_unsaid w (in_place w c h) q b letter row z))
         go false f = rw (types_pass w letter row free c h f)
 
-    type_left : e.parents ≡ 0 → flag_at free i ≡ true → types_left letter (structure_in s k) row free i ≡ 8 + types_left letter (structure_in s k) row free (i + 1)
+    type_left : e.parents ≡ 0 → flag_at free i ≡ true
+        → types_left letter (structure_in s k) row free i ≡ 8 + types_left letter (structure_in s k) row free (i + 1)
     unfolding type_set_of
     type_left z f = rw (types_on w letter row free c h f, type_said w (in_place w c h) q b letter row z, length-append, statement_long)
 

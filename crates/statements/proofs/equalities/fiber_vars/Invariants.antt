@@ -1,0 +1,20 @@
+use Prim.Native.Nat.{◌-◌, ◌≤◌, ◌<◌}
+use native.Mathlib.Omega.{arith}
+use mathlib.Core.Logic.{⊎_elim}
+use mathlib.Core.Path.{◌≡◌, sym, ◌∙◌}
+use lib.ListN.{length, length-set}
+use borrow.Author.Rules.{rules}
+use Rattle.definition.specs.Limits.{field_limit}
+use Rattle.rule.specs.Elements.{element_numbers}
+use Rattle.rule.proofs.ElementLaws.{found_few}
+use Rattle.rows.proofs.KernelLaws.{key_found}
+use Rattle.statements.proofs.Fibers.{FiberTo, fiber_start, fiber_pass, fiber_next, fiber_end}
+use Rattle.statements.proofs.equalities.fiber_vars.Given as goal
+
+abbrev pub invariant-loop-p : goal.invariant-loop-p
+invariant-loop-p l =
+    (length l.vars ≡ field_limit) × (l.count ≤ l.p) × (l.p ≤ l.m.pairs) × FiberTo l.s l.m (element_numbers l.s l.index l.source) l.row l.e.0 l.vars l.count l.p
+
+abbrev pub decreases-loop-p : goal.decreases-loop-p
+decreases-loop-p l =
+    l.m.pairs - l.p

@@ -1,0 +1,8 @@
+use Rattle.statements.specs.Equalities.{equality_of}
+use borrow.Author.Rules.{rules}
+use Rattle.statements.proofs.equalities.put_equality.Goals as goal
+
+pub returns : goal.returns
+unfolding equality_of
+returns c =
+    rw (c.short-symbol.ensures.0, c.place.ensures.0) at c.put_statement.ensures

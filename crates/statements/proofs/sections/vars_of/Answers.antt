@@ -1,0 +1,40 @@
+-- The loop has the variables of the first i elements (Filling); each element is one of the structure's, so it is found.
+use Prim.Native.Nat.{◌-◌, ◌≤◌}
+use Rattle.rule.specs.Lists.{els_in}
+use Rattle.rule.specs.Structures.{structure_in}
+use Rattle.rule.proofs.ElementLaws.{found_few}
+use Rattle.definition.specs.Base.{each}
+use Rattle.group.proofs.Values.{Filling, filling, fill_next, filled}
+use Rattle.statements.specs.Parts.{variable_by}
+use Rattle.statements.proofs.Variables.{named_at, variable_found, els_said, els_said_at}
+use borrow.Author.Rules.{rules}
+use native.Mathlib.Omega.{arith}
+use Rattle.statements.proofs.sections.vars_of.Goals as goal
+
+pub loop-i-init : goal.loop-i-init
+loop-i-init c =
+    (search rules, filling _ (search rules))
+
+pub returns-in_default : goal.returns-in_default
+returns-in_default c =
+    let f = rw c.in_default.is at c.find_element-f.ensures in
+    named_at c.requires.laid c.requires.els_inside.0 c.loop-i-test.true c.el_at.ensures c.requires.named_in f
+
+pub offset_bounds-row-j : goal.offset_bounds-row-j
+offset_bounds-row-j c =
+    let f = found_few c.requires.laid.elements.elements (rw c.in-At.is at c.find_element-f.ensures) in omega arith
+
+pub bounds-row-j : goal.bounds-row-j
+bounds-row-j c =
+    found_few c.requires.laid.elements.elements (rw c.in-At.is at c.find_element-f.ensures)
+
+pub loop-i-preserved : goal.loop-i-preserved
+loop-i-preserved c =
+    let f = rw c.in-At.is at c.find_element-f.ensures in
+    let l = c.loop-i-test.true in
+    let v = els_said_at c.requires.els_inside.0 _ _ l c.el_at.ensures (variable_found c.requires.laid _ f) in
+    (search rules, fill_next (els_said c.requires.els_inside.0 _) c.loop-i.invariant.1 c.requires.els_inside.1 l v)
+
+pub returns : goal.returns
+returns c =
+    filled (els_said c.requires.els_inside.0 _) c.loop-i.invariant.1 c.loop-i.invariant.0 c.loop-i-test.false

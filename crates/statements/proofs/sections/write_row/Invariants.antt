@@ -1,0 +1,21 @@
+use Prim.Native.Nat.{◌-◌, ◌≤◌}
+use Rattle.definition.specs.Base.{each}
+use Rattle.records.proofs.Tail.{Writing, begin, wrote, finish}
+use Rattle.rule.specs.Lists.{els_in}
+use Rattle.rule.specs.Structures.{structure_in}
+use Rattle.rule.proofs.ElementLaws.{found_few}
+use Rattle.statements.specs.Parts.{variable_by}
+use Rattle.group.proofs.Writing.{vars_from, statement_put}
+use Rattle.statements.proofs.Variables.{named_at, variable_found, els_said, els_said_on, els_said_end}
+use borrow.Author.Rules.{rules}
+use native.Mathlib.Omega.{arith}
+use Rattle.statements.proofs.sections.write_row.Given as goal
+
+abbrev pub invariant-loop-i : goal.invariant-loop-i
+invariant-loop-i l =
+    let vs = each (variable_by (structure_in l.s l.k) l.row) (els_in l.s l.els) in
+    (l.i ≤ l.els.count) × Writing l.initial.out l.out l.initial.at l.at (vars_from vs 0) (vars_from vs l.i)
+
+abbrev pub decreases-loop-i : goal.decreases-loop-i
+decreases-loop-i l =
+    l.els.count - l.i

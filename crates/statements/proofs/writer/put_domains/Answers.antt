@@ -1,0 +1,7 @@
+use Rattle.statements.proofs.Whole.{domains_are}
+use borrow.Author.Rules.{rules}
+use Rattle.statements.proofs.writer.put_domains.Goals as goal
+
+pub returns : goal.returns
+returns c =
+    rw (← (domains_are c.requires.stands _ _ _)) c.put_rows.ensures
