@@ -31,10 +31,6 @@ use Rattle.scope.specs.Answers.{scope_answer, OwnersStand, OwnersFrom, group_num
 use Rattle.scope.specs.declared.answers.Scope.{Scope}
 use Rattle.scope.specs.declared.answers.Scope.TheVariants.{Global, Model, Refused}
 use Rattle.signature.specs.declared.ids.TypeId.{TypeId}
-use Rattle.scope.specs.contracts.answers.Scope.{the_type}
-use denote.Enum.Declared.{tag_of}
-use types.Run.{OneOf}
-use mathlib.Core.Logic.{⊎_elim}
 
 -- The rule at a position, if there is one.
 module _ (sig : Signature) (g : Group) where
@@ -114,14 +110,14 @@ module _ {sig : Signature} {s index : List ℕ} {variables rules : ℕ} (w : Ind
 
 -- The owners' part of the group.
 module _ (bytes group_bytes : List ℕ) (position : ℕ) (r : Scope) (e : scope_answer group_bytes r ≡ scope_of bytes group_bytes position) where
-  pub no_owners : OneOf (0 ∷ 2 ∷ []) (tag_of the_type r) → [] ≡ owners_of bytes group_bytes position
+  pub no_owners : ((m : TypeId) (start count : ℕ) → r ≡ Model m start count → ⊥) → [] ≡ owners_of bytes group_bytes position
   unfolding owners_of owners_part
   no_owners n = rw (← e) (go r n)
     where
-      go : (r : Scope) → OneOf (0 ∷ 2 ∷ []) (tag_of the_type r) → [] ≡ owners_part group_bytes position (scope_answer group_bytes r)
+      go : (r : Scope) → ((m : TypeId) (start count : ℕ) → r ≡ Model m start count → ⊥) → [] ≡ owners_part group_bytes position (scope_answer group_bytes r)
       go Global n = refl
       go (Refused k) n = refl
-      go (Model m start count) n = ⊎_elim (λ z. absurd (omega arith)) (λ z. absurd (omega arith)) n
+      go (Model m start count) n = absurd (n m start count refl)
 
   module _ {m : TypeId} {start count : ℕ} (q : r ≡ Model m start count) (o : OwnersStand group_bytes position r) where
     standing : (start ≡ owners_at group_bytes position) × (start + 2 * count ≤ length group_bytes)

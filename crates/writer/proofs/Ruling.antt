@@ -204,7 +204,7 @@ named_one : (group : List ℕ) (count : ℕ) (xs : List Emitted) (x : Emitted) �
     → rule_bytes (named_rules group 0 (xs ++ (x ∷ []))) ≡ rule_bytes (named_rules group 0 xs)
     ++ record_bytes (flat_rule_fields (record { name = group ++ (underscore ∷ decimal count); premise = x.premise; conclusion = x.conclusion }))
 unfolding named_rules joined
-named_one group count xs x e = rw (named_append, joined_append, zero-add, ← e, append-nil)
+named_one group count xs x e = rw (named_append, joined_append (λ (f : FlatRule). record_bytes (flat_rule_fields f)), zero-add, ← e, append-nil)
 
 module _ {out₀ out s index types : List ℕ} {kinds : List (List ℕ)} {tb : Tables} {from at count t n : ℕ}
     (w : Ruling out₀ out s index types kinds tb from at count t) (pre : Ended s index types kinds tb) (m : n ≡ length (rule_at s).structures) (h : t < n) where

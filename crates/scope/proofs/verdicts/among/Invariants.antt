@@ -1,0 +1,19 @@
+use Prim.Native.Nat.{◌-◌, ◌≤◌}
+use mathlib.Core.Path.{◌≡◌, sym, ◌∙◌}
+use lib.ListN.{drop}
+use Rattle.definition.specs.Base.{has}
+use Rattle.definition.specs.Signature.{type_parents}
+use Rattle.signature.specs.Index.{signature_at}
+use Rattle.scope.proofs.Settling.{has_hit, has_miss, has_end}
+use borrow.Author.Rules.{rules}
+use native.Mathlib.Omega.{arith}
+use Rattle.scope.proofs.verdicts.among.Given as goal
+
+abbrev pub invariant-loop-i : goal.invariant-loop-i
+invariant-loop-i l =
+    let part = type_parents (signature_at l.sig l.symbols l.counts) l.t.0 in
+    (l.i ≤ l.n) × (has l.x.0 part ≡ has l.x.0 (drop l.i part))
+
+abbrev pub decreases-loop-i : goal.decreases-loop-i
+decreases-loop-i l =
+    l.n - l.i
