@@ -37,6 +37,28 @@ fn find(tokens: &[Placed], from: usize, mark: char) -> Result<usize, String> {
         .ok_or_else(|| format!("line {}: no {mark} behind", tokens[from].line))
 }
 
+/// The paths of `a::b` and of `a::{b, c}`.
+fn used(tokens: &[Placed]) -> Option<Vec<Vec<String>>> {
+    let (words, end) = path(tokens, 0);
+    if end == tokens.len() {
+        return Some(vec![words]);
+    }
+    let [open, names @ .., close] = &tokens[end..] else {
+        return None;
+    };
+    if !open.is('{') || !close.is('}') {
+        return None;
+    }
+    names
+        .split(|token| token.is(','))
+        .filter(|part| !part.is_empty())
+        .map(|part| match path(part, 0) {
+            (name, end) if end == part.len() => Some([words.clone(), name].concat()),
+            _ => None,
+        })
+        .collect()
+}
+
 /// The items of a source. A body is all of it from its name on, parameters and types too: more than can divide, never less.
 pub fn module(file: &str, source: &str) -> Result<Module, String> {
     let tokens = tokens(source)?;
@@ -60,12 +82,13 @@ pub fn module(file: &str, source: &str) -> Result<Module, String> {
                 end
             }
             (Some("use"), Some(_)) => {
-                let (words, end) = path(&tokens, at + 1);
-                if !tokens[end].is(';') {
-                    return Err(format!("{file}:{}: a use of another form", tokens[at].line));
+                let end = find(&tokens, at, ';')?;
+                for words in used(&tokens[at + 1..end])
+                    .ok_or_else(|| format!("{file}:{}: a use of another form", tokens[at].line))?
+                {
+                    let last = words.last().cloned().unwrap_or_default();
+                    uses.insert(last, words);
                 }
-                let last = words.last().cloned().unwrap_or_default();
-                uses.insert(last, words);
                 end
             }
             _ => at,

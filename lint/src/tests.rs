@@ -17,7 +17,7 @@ fn made(sources: &[(&str, &str)]) -> Modules {
 #[test]
 fn a_division_is_found_through_calls_and_constants() {
     let modules = made(&[
-        ("a", "use b::c::half;\npub fn entry(n: u16) -> u16 {\n    half(n) + TENTH\n}\nconst TENTH: u16 = 100 / 10;\n"),
+        ("a", "use b::c::{half, other};\npub fn entry(n: u16) -> u16 {\n    half(n) + TENTH\n}\nconst TENTH: u16 = 100 / 10;\n"),
         ("b::c", "use crate::d;\npub fn half(n: u16) -> u16 {\n    d::rest(n)\n}\n"),
         ("b::d", "pub fn rest(n: u16) -> u16 {\n    let mut m = n;\n    m %= 2;\n    m\n}\n"),
     ]);
@@ -29,7 +29,7 @@ fn a_division_is_found_through_calls_and_constants() {
 fn comments_contracts_literals_and_what_is_not_reached_are_passed() {
     let modules = made(&[(
         "a",
-        "ghost use Nat.{_/_};\n// n / 2\npub fn entry(n: u8) -> bool\n    ensures { λ r. ⌜ { r ≡ n / 2 } ⌝ }\n{\n    'l: while n == b'/' {\n        break 'l;\n    }\n    n == b'%'\n}\n",
+        "ghost use Nat.{◌/◌};\n// n / 2\npub fn entry(n: u8) -> bool\n    requires { n < 4 / 2 }\n    ensures value { result ≡ { n / 2 } }\n    ensures* { result ≡ n % 2 }\n{\n    'l: while n == b'/' {\n        break 'l;\n    }\n    n == b'%'\n}\n",
     ), ("b", "pub fn other(n: u8) -> u8 {\n    n / 2\n}\n")]);
     assert!(check(&modules, "a").is_ok());
     assert!(check(&modules, "b").is_err());

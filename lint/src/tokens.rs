@@ -135,7 +135,12 @@ fn without_proofs(tokens: &[Placed]) -> Result<Vec<Placed>, String> {
                     at += 1;
                 }
             }
-            Some("requires" | "ensures") => at = closing(tokens, at + 1)?,
+            // A clause may have a name: `ensures value { .. }`.
+            Some("requires" | "ensures") => {
+                let open = (at..tokens.len()).find(|&k| tokens[k].is('{'));
+                let open = open.ok_or_else(|| format!("line {}: no clause", tokens[at].line))?;
+                at = closing(tokens, open)?;
+            }
             _ => kept.push(tokens[at].clone()),
         }
         at += 1;
