@@ -1,14 +1,14 @@
-//! Links the static library that `rt staticlib cabinet` writes.
+//! Links the static library that `rt lib` writes in crates/cabinet.
 
 use std::path::Path;
 use std::process::exit;
 
 fn main() {
-    let library = "../target/staticlib";
+    let library = "../crates/cabinet/out";
     let archive = format!("{library}/libcabinet.a");
     println!("cargo:rerun-if-changed={archive}");
     if !Path::new(&archive).exists() {
-        eprintln!("compare: no library yet. At the repository's root: rt staticlib cabinet");
+        eprintln!("compare: no library yet. In crates/cabinet: rt lib");
         exit(1);
     }
     println!("cargo:rustc-link-search=native={library}");

@@ -1,8 +1,8 @@
 #!/usr/bin/env bash
 # The programs, when a read or a write fails. A failed read is answered like missing input and told on standard error; so is a failed write.
-# usage: programs.sh PROGRAMS CRATES SHIM
+# usage: programs.sh CRATES SHIM
 set -euo pipefail
-programs=$1 crates=$2 shim=$3
+crates=$1 shim=$2
 work=$(mktemp -d)
 trap 'rm -rf "$work"' EXIT
 tried=0
@@ -20,7 +20,7 @@ expect() {
 
 # run PROGRAM INPUT [FAILING_READ]: a byte a read; none fails where no number is given.
 run() {
-    FAILING_READ=${3:-0} READ_AT_MOST=1 LD_PRELOAD=$shim "$programs/$1" < "$2" > "$work/out" 2> "$work/err"
+    FAILING_READ=${3:-0} READ_AT_MOST=1 LD_PRELOAD=$shim "$crates/$1/out/$1" < "$2" > "$work/out" 2> "$work/err"
 }
 
 cp "$crates/desk/stdout" "$work/expected"
@@ -48,8 +48,8 @@ done
 
 : > "$work/expected"
 : > "$work/out"
-"$programs/desk" < "$crates/desk/stdin" 2> "$work/err" > /dev/full
+"$crates/desk/out/desk" < "$crates/desk/stdin" 2> "$work/err" > /dev/full
 expect "desk into a full device" "desk: standard output: No space left on device"
-"$programs/replay" < "$work/cases" 2> "$work/err" > /dev/full
+"$crates/replay/out/replay" < "$work/cases" 2> "$work/err" > /dev/full
 expect "replay into a full device" "replay: standard output: No space left on device"
 echo "programs: $tried runs as expected"

@@ -9,7 +9,7 @@ use mathlib.Core.List.{List, [], ◌∷◌}
 use lib.Dec.{ltb}
 use lib.ListN.{length, take}
 use borrow.Author.Tests.{ltb-false, eqb-true, not-false}
-use Rattle.definition.specs.Base.{accepted, each, less, ◌∈◌}
+use Rattle.definition.specs.Base.{accepted, less, ◌∈◌}
 use Rattle.definition.specs.Limits.{rule_bytes}
 use Rattle.definition.specs.Letters.{letter_e, letter_m, letter_k, letter_s}
 use Rattle.definition.specs.Records.{Field, Block, numbers, number_at, with_letter, blocks, odd}

@@ -10,28 +10,16 @@ use mathlib.Core.List.{List}
 use lib.Dec.{ltb}
 use lib.ListN.{length, get_or}
 use borrow.Author.Tests.{ltb-false}
-use Rattle.definition.specs.Base.{Outcome, refused, accepted, pick, last_of, ◌∈◌}
+use Rattle.definition.specs.Base.{refused, accepted, pick, last_of, ◌∈◌}
 use Rattle.definition.specs.Limits.{answer_bytes, group_bytes, variable_limit}
 use Rattle.definition.specs.Signature.{Signature, read_signature}
 use Rattle.definition.specs.Rule.{Rule, read_rule}
-use Rattle.definition.specs.Group.{FlatRule, Group, read_group}
+use Rattle.definition.specs.Group.{FlatRule, read_group}
 use Rattle.definition.specs.Names.{variable_at}
 use Rattle.definition.specs.Walk.{State, Reached, structure_at, initial_state, walked_kinds, walk_of}
 use Rattle.definition.specs.Writer.{group_bytes_of}
 use Rattle.definition.specs.Flatten.{group_left, fitted, flatten_of}
-use Rattle.definition.specs.Demands.{
-  IsReached,
-  Occurs,
-  Bound,
-  ExactKeys,
-  NoTrailingDigit,
-  ends_in_digit,
-  variables_at,
-  variable_got,
-  printed_name,
-  DifferentNames,
-  Demand3,
-}
+use Rattle.definition.specs.Demands.{IsReached, Occurs, Bound, NoTrailingDigit, ends_in_digit, variables_at, variable_got, printed_name, DifferentNames, Demand3}
 use Rattle.laws.specs.Sound.{SoundRule}
 use Rattle.theorems.proofs.Good.{GoodGroup}
 use Rattle.laws.proofs.Sound.{sound_signature}

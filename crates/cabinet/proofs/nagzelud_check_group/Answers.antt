@@ -4,5 +4,4 @@ use borrow.Author.Rules.{rules}
 use Rattle.cabinet.proofs.nagzelud_check_group.Goals as goal
 
 pub returns : goal.returns
-returns c =
-    c.code.ensures ∙ ap code_of c.check_group.ensures
+returns c = c.code.ensures ∙ ap code_of c.check_group.ensures

@@ -1,10 +1,8 @@
 use Prim.Native.Nat.{◌/◌, ◌^◌}
 use lib.Bits.{and_mask}
-use borrow.Author.Rules.{rules}
 use Rattle.flags.specs.Flags.{flag_at}
 use Rattle.flags.proofs.flag.Goals as goal
 
 pub returns : goal.returns
 unfolding flag_at
-returns c =
-    rw (and_mask (c.args.mask.word / 2 ^ c.args.i) 1)
+returns c = rw (and_mask (c.args.mask.word / 2 ^ c.args.i) 1)

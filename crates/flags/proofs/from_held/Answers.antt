@@ -4,5 +4,4 @@ use Rattle.flags.proofs.from_held.Goals as goal
 
 pub returns : goal.returns
 unfolding mask_of
-returns c =
-    search rules
+returns c = search rules

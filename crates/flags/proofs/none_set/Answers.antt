@@ -4,5 +4,4 @@ use Rattle.flags.proofs.none_set.Goals as goal
 
 pub returns : goal.returns
 unfolding none_set
-returns c =
-    search rules
+returns c = search rules

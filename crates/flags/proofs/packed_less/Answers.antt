@@ -1,19 +1,17 @@
-use Prim.Native.Nat.{◌-◌, ◌≤◌, ◌<◌}
+use Prim.Native.Nat.{◌<◌}
 use native.Mathlib.Omega.{arith}
 use mathlib.Core.Path.{◌≡◌}
 use borrow.Author.Rules.{rules}
-use Rattle.flags.specs.Flags.{places, PackedLess}
+use Rattle.flags.specs.Flags.{places}
 use Rattle.flags.proofs.Words.{flags_start, flags_set, flags_clear}
 use Rattle.flags.proofs.packed_less.Goals.{else-row-i, then-row-i+else-not-others-i, then-row-i+then-not-others-i}
 use Rattle.flags.proofs.packed_less.Goals as goal
 
 pub loop-i-init : goal.loop-i-init
-loop-i-init c =
-    (omega arith, record { flags = flags_start _ })
+loop-i-init c = (omega arith, record { flags = flags_start _ })
 
 pub with_flag-mask-requires : goal.with_flag-mask-requires
-with_flag-mask-requires c =
-    (search rules, c.loop-i.invariant.1.flags.above)
+with_flag-mask-requires c = (search rules, c.loop-i.invariant.1.flags.above)
 
 pub loop-i-preserved : goal.loop-i-preserved
 loop-i-preserved c =
@@ -23,5 +21,4 @@ loop-i-preserved c =
     )
 
 pub returns : goal.returns
-returns c =
-    let e : c.loop-i.i ≡ c.args.count = omega arith in rw e at c.loop-i.invariant.1
+returns c = let e : c.loop-i.i ≡ c.args.count = omega arith in rw e at c.loop-i.invariant.1

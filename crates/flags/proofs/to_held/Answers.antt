@@ -4,5 +4,4 @@ use Rattle.flags.proofs.to_held.Goals as goal
 
 pub returns : goal.returns
 unfolding held_of
-returns c =
-    search rules
+returns c = search rules

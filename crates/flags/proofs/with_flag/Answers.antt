@@ -9,5 +9,4 @@ overflow_add-word c =
 
 pub returns : goal.returns
 unfolding with_flag
-returns c =
-    rw (shift_is c.args.i c.requires.0)
+returns c = rw (shift_is c.args.i c.requires.0)

@@ -12,5 +12,4 @@ invariant-loop-v l =
     × Going (signature_at l.sig l.symbols l.counts) l.s (tables l.sources l.masks l.vars) l.types l.next l.target l.source
 
 abbrev pub decreases-loop-v : goal.decreases-loop-v
-decreases-loop-v l =
-    (l.n - l.target) * l.n - l.source
+decreases-loop-v l = (l.n - l.target) * l.n - l.source

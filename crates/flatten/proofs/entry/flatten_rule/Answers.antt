@@ -7,16 +7,13 @@ use Rattle.plan.proofs.TableLaws.{empty_table_lem}
 use Rattle.flatten.proofs.entry.flatten_rule.Goals as goal
 
 pub unmapped_auxiliary-requires : goal.unmapped_auxiliary-requires
-unmapped_auxiliary-requires c =
-    ready c.requires.readable
+unmapped_auxiliary-requires c = ready c.requires.readable
 
 pub returns-then-unmapped_auxiliary : goal.returns-then-unmapped_auxiliary
-returns-then-unmapped_auxiliary c =
-    refused_at_once _ (refused_21 _ _ _ (sym c.unmapped_auxiliary.ensures ∙ c.if-unmapped_auxiliary.true))
+returns-then-unmapped_auxiliary c = refused_at_once _ (refused_21 _ _ _ (sym c.unmapped_auxiliary.ensures ∙ c.if-unmapped_auxiliary.true))
 
 pub unmapped_kind-requires : goal.unmapped_kind-requires
-unmapped_kind-requires c =
-    ready c.requires.readable
+unmapped_kind-requires c = ready c.requires.readable
 
 pub returns-then-unmapped_kind : goal.returns-then-unmapped_kind
 returns-then-unmapped_kind c =

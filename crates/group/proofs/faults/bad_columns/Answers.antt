@@ -6,8 +6,7 @@ use Rattle.group.proofs.Drawn.{one_column}
 use Rattle.group.proofs.faults.bad_columns.Goals as goal
 
 pub returns-then-columns-arity : goal.returns-then-columns-arity
-returns-then-columns-arity c =
-    rw (← c.arity.ensures, ne_eqb _ _ c.if-columns-arity.true)
+returns-then-columns-arity c = rw (← c.arity.ensures, ne_eqb _ _ c.if-columns-arity.true)
 
 pub returns-then-is_member : goal.returns-then-is_member
 returns-then-is_member c =
@@ -17,5 +16,4 @@ returns-then-is_member c =
     c.args.rel) member m) at a))
 
 pub returns : goal.returns
-returns c =
-    rw (← c.arity.ensures, eq-eqb _ _ c.if-columns-arity.false, ← c.is_member.ensures, c.if-is_member.false)
+returns c = rw (← c.arity.ensures, eq-eqb _ _ c.if-columns-arity.false, ← c.is_member.ensures, c.if-is_member.false)

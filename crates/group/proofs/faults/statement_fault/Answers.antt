@@ -6,8 +6,7 @@ use Rattle.group.proofs.Drawn.{statement_even, statement_short, statement_tests,
 use Rattle.group.proofs.faults.statement_fault.Goals as goal
 
 pub returns-then-len-ne1 : goal.returns-then-len-ne1
-returns-then-len-ne1 c =
-    λ before last. sym (statement_even _ _ _ c.requires.len_in_bounds _ _ _ _ before last (low_bits_not _ 1 c.if-len-ne1.true))
+returns-then-len-ne1 c = λ before last. sym (statement_even _ _ _ c.requires.len_in_bounds _ _ _ _ before last (low_bits_not _ 1 c.if-len-ne1.true))
 
 pub returns-then-len-lt-VARS_AT : goal.returns-then-len-lt-VARS_AT
 returns-then-len-lt-VARS_AT c =

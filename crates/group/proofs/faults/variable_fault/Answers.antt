@@ -4,8 +4,7 @@ use Rattle.group.proofs.Drawn.{variable_short, variable_tests}
 use Rattle.group.proofs.faults.variable_fault.Goals as goal
 
 pub returns-then-len-lt-NAME_AT : goal.returns-then-len-lt-NAME_AT
-returns-then-len-lt-NAME_AT c =
-    λ sig letter last e. sym (variable_short _ _ _ c.requires letter sig _ last c.if-len-lt-NAME_AT.true)
+returns-then-len-lt-NAME_AT c = λ sig letter last e. sym (variable_short _ _ _ c.requires letter sig _ last c.if-len-lt-NAME_AT.true)
 
 pub returns-then-before-ge-VARIABLES : goal.returns-then-before-ge-VARIABLES
 returns-then-before-ge-VARIABLES c =

@@ -3,8 +3,7 @@ use Rattle.group.proofs.Values.{sections_are}
 use Rattle.group.proofs.lookup.rule_sections.Goals as goal
 
 pub two-requires : goal.two-requires
-two-requires c =
-    let w = rw (← c.place-at.ensures.0) at (c.requires.rules.each _ c.requires.k_lt_rules).within in omega arith
+two-requires c = let w = rw (← c.place-at.ensures.0) at (c.requires.rules.each _ c.requires.k_lt_rules).within in omega arith
 
 pub returns : goal.returns
 returns c =

@@ -4,12 +4,10 @@ use Rattle.group.proofs.lookup.same_variable.Goals as goal
 
 pub returns-then-t-u : goal.returns-then-t-u
 unfolding same_variable
-returns-then-t-u c =
-    rw (← c.variable_type-t.ensures, ← c.variable_type-u.ensures, ne_eqb _ _ c.if-t-u.true)
+returns-then-t-u c = rw (← c.variable_type-t.ensures, ← c.variable_type-u.ensures, ne_eqb _ _ c.if-t-u.true)
 
 pub same_bytes-requires : goal.same_bytes-requires
-same_bytes-requires c =
-    (c.variable_name-a.ensures.within, c.variable_name-b.ensures.within)
+same_bytes-requires c = (c.variable_name-a.ensures.within, c.variable_name-b.ensures.within)
 
 pub returns : goal.returns
 unfolding same_variable

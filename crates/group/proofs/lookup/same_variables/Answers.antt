@@ -4,20 +4,16 @@ use Rattle.group.proofs.Values.{same_first, same_next, same_last}
 use Rattle.group.proofs.lookup.same_variables.Goals as goal
 
 pub overflow_mul-i : goal.overflow_mul-i
-overflow_mul-i c =
-    omega (arith, c.requires.variables_at.within)
+overflow_mul-i c = omega (arith, c.requires.variables_at.within)
 
 pub overflow_add-a : goal.overflow_add-a
-overflow_add-a c =
-    omega (arith, c.requires.variables_at.within)
+overflow_add-a c = omega (arith, c.requires.variables_at.within)
 
 pub num-requires : goal.num-requires
-num-requires c =
-    omega (arith, c.requires.variables_at.within)
+num-requires c = omega (arith, c.requires.variables_at.within)
 
 pub num-requires-in-loop-i : goal.num-requires-in-loop-i
-num-requires-in-loop-i c =
-    omega (arith, c.requires.variables_at_2.within)
+num-requires-in-loop-i c = omega (arith, c.requires.variables_at_2.within)
 
 pub same_variable-requires : goal.same_variable-requires
 same_variable-requires c =

@@ -4,8 +4,7 @@ use Rattle.group.proofs.Passing.{pass_start, pass_next, pass_stop, pass_bad, pas
 use Rattle.group.proofs.reader.pass.Goals as goal
 
 pub loop-at-init : goal.loop-at-init
-loop-at-init c =
-    pass_start _
+loop-at-init c = pass_start _
 
 pub returns-in_default : goal.returns-in_default
 returns-in_default c =
@@ -18,8 +17,7 @@ returns-then-not-may_follow c =
     (sym c.may_follow.ensures ∙ c.if-not-may_follow.true)
 
 pub loop-at-smaller : goal.loop-at-smaller
-loop-at-smaller c =
-    let a = rw c.in-Got.is at c.read_field-f.ensures.ahead in omega arith
+loop-at-smaller c = let a = rw c.in-Got.is at c.read_field-f.ensures.ahead in omega arith
 
 pub loop-at-preserved : goal.loop-at-preserved
 loop-at-preserved c =
@@ -27,5 +25,4 @@ loop-at-preserved c =
     (sym c.may_follow.ensures ∙ c.if-not-may_follow.false)
 
 pub returns : goal.returns
-returns c =
-    pass_end c.loop-at.invariant c.loop-at-test.false
+returns c = pass_end c.loop-at.invariant c.loop-at-test.false

@@ -4,9 +4,7 @@ use Rattle.group.proofs.Passing.{Passing}
 use Rattle.group.proofs.reader.pass.Given as goal
 
 abbrev pub invariant-loop-at : goal.invariant-loop-at
-invariant-loop-at l =
-    Passing l.s l.at l.behind
+invariant-loop-at l = Passing l.s l.at l.behind
 
 abbrev pub decreases-loop-at : goal.decreases-loop-at
-decreases-loop-at l =
-    length l.s - l.at
+decreases-loop-at l = length l.s - l.at

@@ -16,8 +16,7 @@ returns-in_default c =
     }
 
 pub rule_fault-fault-requires : goal.rule_fault-fault-requires
-rule_fault-fault-requires c =
-    let a = rw c.in-Got.is at c.read_field-f.ensures.ahead in omega arith
+rule_fault-fault-requires c = let a = rw c.in-Got.is at c.read_field-f.ensures.ahead in omega arith
 
 pub returns-in_default-fault : goal.returns-in_default-fault
 returns-in_default-fault c =

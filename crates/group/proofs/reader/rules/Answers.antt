@@ -24,24 +24,19 @@ returns-in_default c =
     }
 
 pub overflow_cast-index-in-loop-at : goal.overflow_cast-index-in-loop-at
-overflow_cast-index-in-loop-at c =
-    let a = rw c.in-Upto.is at c.rule-r.ensures.rule_onward in omega arith
+overflow_cast-index-in-loop-at c = let a = rw c.in-Upto.is at c.rule-r.ensures.rule_onward in omega arith
 
 pub bounds-index-count : goal.bounds-index-count
-bounds-index-count c =
-    let a = rw c.in-Upto.is at c.rule-r.ensures.rule_onward in omega arith
+bounds-index-count c = let a = rw c.in-Upto.is at c.rule-r.ensures.rule_onward in omega arith
 
 pub overflow_cast-index-in-loop-at-2 : goal.overflow_cast-index-in-loop-at-2
-overflow_cast-index-in-loop-at-2 c =
-    let a = rw c.in-Upto.is at c.rule-r.ensures.rule_onward in omega arith
+overflow_cast-index-in-loop-at-2 c = let a = rw c.in-Upto.is at c.rule-r.ensures.rule_onward in omega arith
 
 pub bounds-index-count-in-loop-at : goal.bounds-index-count-in-loop-at
-bounds-index-count-in-loop-at c =
-    let a = rw c.in-Upto.is at c.rule-r.ensures.rule_onward in omega arith
+bounds-index-count-in-loop-at c = let a = rw c.in-Upto.is at c.rule-r.ensures.rule_onward in omega arith
 
 pub loop-at-smaller : goal.loop-at-smaller
-loop-at-smaller c =
-    let a = rw c.in-Upto.is at c.rule-r.ensures.rule_onward in omega arith
+loop-at-smaller c = let a = rw c.in-Upto.is at c.rule-r.ensures.rule_onward in omega arith
 
 pub loop-at-preserved : goal.loop-at-preserved
 loop-at-preserved c =

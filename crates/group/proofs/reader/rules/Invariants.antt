@@ -15,5 +15,4 @@ invariant-loop-at l =
     → Ruling (signature_at l.sig l.symbols l.counts) l.variables l.s l.index l.from l.end fs l.at l.count)
 
 abbrev pub decreases-loop-at : goal.decreases-loop-at
-decreases-loop-at l =
-    l.end - l.at
+decreases-loop-at l = l.end - l.at

@@ -8,8 +8,7 @@ use native.Mathlib.Omega.{arith}
 use Rattle.group.proofs.reader.statements.Goals as goal
 
 pub loop-at-init : goal.loop-at-init
-loop-at-init c =
-    (search rules, search rules, search rules, λ fs r. along_start r)
+loop-at-init c = (search rules, search rules, search rules, λ fs r. along_start r)
 
 pub returns-in_default : goal.returns-in_default
 returns-in_default c =
@@ -35,12 +34,10 @@ returns-in_default-fault c =
     }
 
 pub overflow_add-count : goal.overflow_add-count
-overflow_add-count c =
-    omega arith
+overflow_add-count c = omega arith
 
 pub loop-at-smaller : goal.loop-at-smaller
-loop-at-smaller c =
-    let h = rw c.in-Field.is at c.field_here.ensures in let a = h.is.1 in omega arith
+loop-at-smaller c = let h = rw c.in-Field.is at c.field_here.ensures in let a = h.is.1 in omega arith
 
 pub loop-at-preserved : goal.loop-at-preserved
 loop-at-preserved c =

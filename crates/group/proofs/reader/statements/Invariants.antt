@@ -16,5 +16,4 @@ invariant-loop-at l =
     → Along l.s l.from l.end l.letter (statement_fault (signature_at l.sig l.symbols l.counts) (statement_kinds l.letter) l.variables) fs l.at l.count)
 
 abbrev pub decreases-loop-at : goal.decreases-loop-at
-decreases-loop-at l =
-    l.end - l.at
+decreases-loop-at l = l.end - l.at

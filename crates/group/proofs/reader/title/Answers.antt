@@ -14,8 +14,7 @@ returns-in_default c =
     }
 
 pub title_fault-fault-requires : goal.title_fault-fault-requires
-title_fault-fault-requires c =
-    let a = rw c.in-Got.is at c.read_field-f.ensures.ahead in omega arith
+title_fault-fault-requires c = let a = rw c.in-Got.is at c.read_field-f.ensures.ahead in omega arith
 
 pub returns-in_default-fault : goal.returns-in_default-fault
 returns-in_default-fault c =

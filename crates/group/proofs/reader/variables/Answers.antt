@@ -23,8 +23,7 @@ use native.Mathlib.Omega.{arith}
 use Rattle.group.proofs.reader.variables.Goals as goal
 
 pub loop-at-init : goal.loop-at-init
-loop-at-init c =
-    (search rules, search rules, stored_start c.requires.index_len, λ sig fs e r. listing_start r)
+loop-at-init c = (search rules, search rules, stored_start c.requires.index_len, λ sig fs e r. listing_start r)
 
 pub returns-in_default : goal.returns-in_default
 returns-in_default c =
@@ -37,8 +36,7 @@ returns-in_default c =
     }
 
 pub variable_fault-fault-requires : goal.variable_fault-fault-requires
-variable_fault-fault-requires c =
-    (rw c.in-Field.is at c.field_here.ensures).is.2
+variable_fault-fault-requires c = (rw c.in-Field.is at c.field_here.ensures).is.2
 
 pub returns-in_default-fault : goal.returns-in_default-fault
 returns-in_default-fault c =
@@ -51,8 +49,7 @@ returns-in_default-fault c =
     }
 
 pub overflow_cast-index : goal.overflow_cast-index
-overflow_cast-index c =
-    omega arith
+overflow_cast-index c = omega arith
 
 pub bounds-index-count : goal.bounds-index-count
 bounds-index-count c =

@@ -14,5 +14,4 @@ invariant-loop-at l =
     × ((sig : Signature) (fs : List Field) → length sig.types ≡ l.types → Run l.s l.from l.end fs → Listing sig l.s l.index l.from l.end fs l.at l.count)
 
 abbrev pub decreases-loop-at : goal.decreases-loop-at
-decreases-loop-at l =
-    l.end - l.at
+decreases-loop-at l = l.end - l.at

@@ -9,8 +9,7 @@ use native.Mathlib.Omega.{arith}
 use Rattle.group.proofs.write.write_statement.Goals as goal
 
 pub loop-i-init : goal.loop-i-init
-loop-i-init c =
-    (search rules, begin _ _ (search rules))
+loop-i-init c = (search rules, begin _ _ (search rules))
 
 pub loop-i-preserved : goal.loop-i-preserved
 loop-i-preserved c =

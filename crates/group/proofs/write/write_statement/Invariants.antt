@@ -9,5 +9,4 @@ invariant-loop-i l =
     (l.i ≤ l.x.count) × Writing l.initial.out l.out l.initial.at l.at (vars_from (take l.x.count l.x.vars) 0) (vars_from (take l.x.count l.x.vars) l.i)
 
 abbrev pub decreases-loop-i : goal.decreases-loop-i
-decreases-loop-i l =
-    l.x.count - l.i
+decreases-loop-i l = l.x.count - l.i

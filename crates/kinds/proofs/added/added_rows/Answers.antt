@@ -29,8 +29,7 @@ returns-in_default-f c =
     adds_funcs w (preds_new w c.new_section-p.ensures) _ (funcs_new w c.new_section-f.ensures) c.in-Of.is c.in_default-f.is
 
 pub new_unmarked-e-requires : goal.new_unmarked-e-requires
-new_unmarked-e-requires c =
-    c.requires
+new_unmarked-e-requires c = c.requires
 
 pub returns-in_default-e : goal.returns-in_default-e
 returns-in_default-e c =

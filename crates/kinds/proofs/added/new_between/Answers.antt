@@ -3,8 +3,7 @@ use Rattle.kinds.proofs.New.{rows_lack, rows_new, images_few}
 use Rattle.kinds.proofs.added.new_between.Goals as goal
 
 pub returns-in_default : goal.returns-in_default
-returns-in_default c =
-    λ kind columns fs gs r q a b. rows_lack (c.mapped_rel_apps-mapped.ensures.by_index kind fs r) c.in_default.is
+returns-in_default c = λ kind columns fs gs r q a b. rows_lack (c.mapped_rel_apps-mapped.ensures.by_index kind fs r) c.in_default.is
 
 pub new_rows-requires : goal.new_rows-requires
 new_rows-requires c =

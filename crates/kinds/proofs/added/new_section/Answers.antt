@@ -3,12 +3,10 @@ use Rattle.kinds.proofs.New.{no_rows, target_few, source_few}
 use Rattle.kinds.proofs.added.new_section.Goals as goal
 
 pub section_of-old-requires : goal.section_of-old-requires
-section_of-old-requires c =
-    let p = c.requires.between in (source_few p.0, p.1.0, p.1.1)
+section_of-old-requires c = let p = c.requires.between in (source_few p.0, p.1.0, p.1.1)
 
 pub section_of-new-requires : goal.section_of-new-requires
-section_of-new-requires c =
-    let p = c.requires.between in (target_few p.0, p.1.0, p.1.1)
+section_of-new-requires c = let p = c.requires.between in (target_few p.0, p.1.0, p.1.1)
 
 pub returns-then-new : goal.returns-then-new
 returns-then-new c =

@@ -19,8 +19,7 @@ mapped_members-mapped-requires c =
     }
 
 pub returns-in_default : goal.returns-in_default
-returns-in_default c =
-    members_lack c.requires c.mapped_members-mapped.ensures.imaged c.in_default.is _
+returns-in_default c = members_lack c.requires c.mapped_members-mapped.ensures.imaged c.in_default.is _
 
 pub new_members-new-requires : goal.new_members-new-requires
 new_members-new-requires c =
@@ -34,12 +33,10 @@ new_members-new-requires c =
     }
 
 pub element_count-requires : goal.element_count-requires
-element_count-requires c =
-    target_few c.requires
+element_count-requires c = target_few c.requires
 
 pub packed_less-requires : goal.packed_less-requires
-packed_less-requires c =
-    rw c.element_count.ensures (members_few c.requires)
+packed_less-requires c = rw c.element_count.ensures (members_few c.requires)
 
 pub returns : goal.returns
 returns c =

@@ -8,12 +8,10 @@ use Rattle.kinds.proofs.elements.free_els.Goals.{else-first-targetvars, then-fir
 use Rattle.kinds.proofs.elements.free_els.Goals as goal
 
 pub loop-i-init : goal.loop-i-init
-loop-i-init c =
-    (omega arith, free_start _ _ _)
+loop-i-init c = (omega arith, free_start _ _ _)
 
 pub with_flag-mask-requires : goal.with_flag-mask-requires
-with_flag-mask-requires c =
-    (search rules, c.loop-i.invariant.1.flags.above)
+with_flag-mask-requires c = (search rules, c.loop-i.invariant.1.flags.above)
 
 pub loop-i-preserved : goal.loop-i-preserved
 loop-i-preserved c =
@@ -29,5 +27,4 @@ loop-i-preserved c =
     )
 
 pub returns : goal.returns
-returns c =
-    let e : c.loop-i.i ≡ c.args.count = omega arith in λ p q els n k f. free_are (rw e at c.loop-i.invariant.1) p q els n k f
+returns c = let e : c.loop-i.i ≡ c.args.count = omega arith in λ p q els n k f. free_are (rw e at c.loop-i.invariant.1) p q els n k f

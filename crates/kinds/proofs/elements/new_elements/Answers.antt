@@ -11,8 +11,7 @@ use Rattle.kinds.proofs.elements.new_elements.Goals.{else-first-targetvars, then
 use Rattle.kinds.proofs.elements.new_elements.Goals as goal
 
 pub loop-i-init : goal.loop-i-init
-loop-i-init c =
-    λ p els n e. find_start p els
+loop-i-init c = λ p els n e. find_start p els
 
 pub returns-then-found-count : goal.returns-then-found-count
 returns-then-found-count c =
@@ -30,9 +29,7 @@ loop-i-preserved c =
     ]
 
 pub returns-then-found-count-2 : goal.returns-then-found-count-2
-returns-then-found-count-2 c =
-    λ p els n e. find_one n (c.loop-i.invariant p els n e) c.loop-i-test.false c.if-found-count-2.true
+returns-then-found-count-2 c = λ p els n e. find_one n (c.loop-i.invariant p els n e) c.loop-i-test.false c.if-found-count-2.true
 
 pub returns : goal.returns
-returns c =
-    λ p els n e. find_none n (c.loop-i.invariant p els n e) c.loop-i-test.false c.if-found-count-2.false
+returns c = λ p els n e. find_none n (c.loop-i.invariant p els n e) c.loop-i-test.false c.if-found-count-2.false

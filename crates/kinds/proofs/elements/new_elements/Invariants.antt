@@ -15,5 +15,4 @@ invariant-loop-i l =
     (p : ℕ → Bool) (els : List ℕ) → l.count ≡ length els → each given (kept_in l.first l.count l.targetvars) ≡ each p els → Finding p els l.count l.found l.i
 
 abbrev pub decreases-loop-i : goal.decreases-loop-i
-decreases-loop-i l =
-    l.count - l.i
+decreases-loop-i l = l.count - l.i

@@ -21,16 +21,13 @@ new_masks-step-requires c =
     }
 
 pub returns-in_default : goal.returns-in_default
-returns-in_default c =
-    λ table t. if_refused c.requires.reaches _ table _ (c.new_masks-step.ensures _ table _ t) c.in_default.is
+returns-in_default c = λ table t. if_refused c.requires.reaches _ table _ (c.new_masks-step.ensures _ table _ t) c.in_default.is
 
 pub element_count-requires : goal.element_count-requires
-element_count-requires c =
-    c.requires.sound_at.laid.few
+element_count-requires c = c.requires.sound_at.laid.few
 
 pub free_els-requires : goal.free_els-requires
-free_els-requires c =
-    count_few c.requires.reaches c.element_count.ensures
+free_els-requires c = count_few c.requires.reaches c.element_count.ensures
 
 pub returns : goal.returns
 returns c =

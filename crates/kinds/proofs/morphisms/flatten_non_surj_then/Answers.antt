@@ -8,12 +8,10 @@ use Rattle.kinds.proofs.Domains.{nothing_new, one_new, more_new}
 use Rattle.kinds.proofs.morphisms.flatten_non_surj_then.Goals as goal
 
 pub element_count-requires : goal.element_count-requires
-element_count-requires c =
-    c.requires.between.target_at.laid.few
+element_count-requires c = c.requires.between.target_at.laid.few
 
 pub new_elements-new-requires : goal.new_elements-new-requires
-new_elements-new-requires c =
-    count_few c.requires c.element_count.ensures
+new_elements-new-requires c = count_few c.requires c.element_count.ensures
 
 pub yielding_step-requires : goal.yielding_step-requires
 yielding_step-requires c =

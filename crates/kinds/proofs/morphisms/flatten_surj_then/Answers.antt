@@ -22,12 +22,10 @@ returns-in_default c =
     surj_refused c.requires.reaches sig table _ (c.new_masks-step.ensures sig table _ t) c.in_default.is
 
 pub element_count-requires : goal.element_count-requires
-element_count-requires c =
-    c.requires.reaches.between.target_at.laid.few
+element_count-requires c = c.requires.reaches.between.target_at.laid.few
 
 pub new_elements-new-requires : goal.new_elements-new-requires
-new_elements-new-requires c =
-    count_few c.requires.reaches c.element_count.ensures
+new_elements-new-requires c = count_few c.requires.reaches c.element_count.ensures
 
 pub returns-in-Nothing : goal.returns-in-Nothing
 returns-in-Nothing c =

@@ -4,8 +4,7 @@ use Rattle.kinds.proofs.Answers.{masks_clash, masks_added}
 use Rattle.kinds.proofs.morphisms.new_masks.Goals as goal
 
 pub returns-then-clashes : goal.returns-then-clashes
-returns-then-clashes c =
-    λ sig table target t. masks_clash sig table _ target (sym (c.clashes.ensures sig table target t) ∙ c.if-clashes.true)
+returns-then-clashes c = λ sig table target t. masks_clash sig table _ target (sym (c.clashes.ensures sig table target t) ∙ c.if-clashes.true)
 
 pub returns : goal.returns
 returns c =

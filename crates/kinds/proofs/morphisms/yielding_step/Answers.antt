@@ -24,12 +24,10 @@ element_number-e-requires c =
     }
 
 pub section_of-rows-requires : goal.section_of-rows-requires
-section_of-rows-requires c =
-    (c.requires.reaches.between.target_at.laid.few, search rules, search rules)
+section_of-rows-requires c = (c.requires.reaches.between.target_at.laid.few, search rules, search rules)
 
 pub yielding_row-y-requires : goal.yielding_row-y-requires
-yielding_row-y-requires c =
-    result_rows c.requires.reaches.between.target_at c.section_of-rows.ensures.0 c.section_of-rows.ensures.1
+yielding_row-y-requires c = result_rows c.requires.reaches.between.target_at c.section_of-rows.ensures.0 c.section_of-rows.ensures.1
 
 pub returns-in_default : goal.returns-in_default
 returns-in_default c =
@@ -41,12 +39,10 @@ returns-in_default c =
     λ sig table sourcevars one. no_row_lem sig table _ _ sourcevars _ (rw (← number) at one) yields c.in_default.is
 
 pub element_count-requires : goal.element_count-requires
-element_count-requires c =
-    c.requires.reaches.between.target_at.laid.few
+element_count-requires c = c.requires.reaches.between.target_at.laid.few
 
 pub image_els-images-requires : goal.image_els-images-requires
-image_els-images-requires c =
-    rw c.element_count.ensures c.requires.reaches.between.target_at.laid.elements.elements.few
+image_els-images-requires c = rw c.element_count.ensures c.requires.reaches.between.target_at.laid.elements.elements.few
 
 pub arguments-requires : goal.arguments-requires
 arguments-requires c =

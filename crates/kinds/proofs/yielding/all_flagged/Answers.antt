@@ -18,8 +18,7 @@ use Rattle.kinds.proofs.Seeking.{all_more, all_stop, all_named, all_done}
 use Rattle.kinds.proofs.yielding.all_flagged.Goals as goal
 
 pub loop-j-init : goal.loop-j-init
-loop-j-init c =
-    (omega arith, λ p f n. all_start p _)
+loop-j-init c = (omega arith, λ p f n. all_start p _)
 
 pub el_at-requires : goal.el_at-requires
 el_at-requires c =
@@ -42,8 +41,7 @@ returns-in_default c =
     all_named p _ _ (numbers_length _ _ _) f c.requires.k_lt_structure_limit.1 c.loop-j-test.true c.el_at.ensures n found
 
 pub bounds-flags-i : goal.bounds-flags-i
-bounds-flags-i c =
-    found_few c.requires.elements (rw c.in-At.is at c.find_element-f.ensures)
+bounds-flags-i c = found_few c.requires.elements (rw c.in-At.is at c.find_element-f.ensures)
 
 pub returns-then-not-flags-i : goal.returns-then-not-flags-i
 returns-then-not-flags-i c =
@@ -62,5 +60,4 @@ loop-j-preserved c = (
 )
 
 pub returns : goal.returns
-returns c =
-    λ p f n. sym (c.loop-j.invariant.1 p f n ∙ all_done p c.requires.k_lt_structure_limit.1 c.loop-j-test.false)
+returns c = λ p f n. sym (c.loop-j.invariant.1 p f n ∙ all_done p c.requires.k_lt_structure_limit.1 c.loop-j-test.false)

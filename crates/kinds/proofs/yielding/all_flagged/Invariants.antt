@@ -20,5 +20,4 @@ invariant-loop-j l =
     → ((e : ℕ) → e ∈ els_in l.s l.l → e ∈ element_numbers l.s l.index l.k) → all p (els_in l.s l.l) ≡ all_from p (els_in l.s l.l) l.j)
 
 abbrev pub decreases-loop-j : goal.decreases-loop-j
-decreases-loop-j l =
-    l.count - l.j
+decreases-loop-j l = l.count - l.j

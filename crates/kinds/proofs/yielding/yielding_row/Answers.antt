@@ -11,12 +11,10 @@ use Rattle.kinds.proofs.Seeking.{Sought, seek_start, seek_end, seek_stands, seek
 use Rattle.kinds.proofs.yielding.yielding_row.Goals as goal
 
 pub functions-init : goal.functions-init
-functions-init c =
-    (refl, seek_start)
+functions-init c = (refl, seek_start)
 
 pub read_row-first-requires : goal.read_row-first-requires
-read_row-first-requires c =
-    seek_stands c.functions.invariant.1 c.functions-test.true c.requires
+read_row-first-requires c = seek_stands c.functions.invariant.1 c.functions-test.true c.requires
 
 pub loop-row-init : goal.loop-row-init
 loop-row-init c =
@@ -29,8 +27,7 @@ functions-smaller c =
     ⊎_elim (λ same. absurd (c.loop-row-test.false same)) (λ on. omega arith) c.loop-row.invariant.5
 
 pub functions-preserved : goal.functions-preserved
-functions-preserved c =
-    let w = c.loop-row.invariant in (w.0, w.1)
+functions-preserved c = let w = c.loop-row.invariant in (w.0, w.1)
 
 pub row_result-result-requires : goal.row_result-result-requires
 row_result-result-requires c =
@@ -40,8 +37,7 @@ row_result-result-requires c =
     }
 
 pub overflow_add-place : goal.overflow_add-place
-overflow_add-place c =
-    let w = c.loop-row.invariant in let f = seek_few w.1 w.3 w.2 c.requires in omega arith
+overflow_add-place c = let w = c.loop-row.invariant in let f = seek_few w.1 w.3 w.2 c.requires in omega arith
 
 pub read_row-row-requires : goal.read_row-row-requires
 read_row-row-requires c =
@@ -51,8 +47,7 @@ read_row-row-requires c =
     seek_stands behind c.if-end-at.false c.requires
 
 pub loop-row-smaller : goal.loop-row-smaller
-loop-row-smaller c =
-    let w = c.loop-row.invariant in let h = w.3 in omega (arith, w.2.ahead)
+loop-row-smaller c = let w = c.loop-row.invariant in let h = w.3 in omega (arith, w.2.ahead)
 
 pub loop-row-preserved : goal.loop-row-preserved
 loop-row-preserved c =

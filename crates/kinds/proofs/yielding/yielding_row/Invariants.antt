@@ -13,13 +13,10 @@ invariant-loop-row l =
     × (l.initial.at ≤ l.at) × ((l.row.symbol ≡ l.first.symbol) ⊎ (l.initial.at < l.at))
 
 abbrev pub decreases-loop-row : goal.decreases-loop-row
-decreases-loop-row l =
-    l.end - l.at
+decreases-loop-row l = l.end - l.at
 
 abbrev pub invariant-functions : goal.invariant-functions
-invariant-functions l =
-    (l.found ≡ Nothing) × Sought l.s l.from l.end l.e.0 l.at l.place
+invariant-functions l = (l.found ≡ Nothing) × Sought l.s l.from l.end l.e.0 l.at l.place
 
 abbrev pub decreases-functions : goal.decreases-functions
-decreases-functions l =
-    l.end - l.at
+decreases-functions l = l.end - l.at

@@ -9,8 +9,7 @@ use native.Mathlib.Omega.{arith}
 use Rattle.naming.proofs.assign.carried.Goals as goal
 
 pub loop-p-init : goal.loop-p-init
-loop-p-init c =
-    (search rules, carrying c.requires.laid.0 c.requires.laid.1 c.requires.map_in.0 _)
+loop-p-init c = (search rules, carrying c.requires.laid.0 c.requires.laid.1 c.requires.map_in.0 _)
 
 pub find_element-from-requires : goal.find_element-from-requires
 find_element-from-requires c =
@@ -37,20 +36,16 @@ returns-in_default-to c =
     (rw (c.in_default-to.is, c.pair_image.ensures) at c.find_element-to.ensures)
 
 pub offset_bounds-vars-i : goal.offset_bounds-vars-i
-offset_bounds-vars-i c =
-    let f = found_few c.requires.laid.0 (rw c.in-At.is at c.find_element-from.ensures) in omega arith
+offset_bounds-vars-i c = let f = found_few c.requires.laid.0 (rw c.in-At.is at c.find_element-from.ensures) in omega arith
 
 pub bounds-vars-i : goal.bounds-vars-i
-bounds-vars-i c =
-    found_few c.requires.laid.0 (rw c.in-At.is at c.find_element-from.ensures)
+bounds-vars-i c = found_few c.requires.laid.0 (rw c.in-At.is at c.find_element-from.ensures)
 
 pub offset_bounds-row-j : goal.offset_bounds-row-j
-offset_bounds-row-j c =
-    let f = found_few c.requires.laid.1 (rw c.in-At-to.is at c.find_element-to.ensures) in omega arith
+offset_bounds-row-j c = let f = found_few c.requires.laid.1 (rw c.in-At-to.is at c.find_element-to.ensures) in omega arith
 
 pub bounds-row-j : goal.bounds-row-j
-bounds-row-j c =
-    found_few c.requires.laid.1 (rw c.in-At-to.is at c.find_element-to.ensures)
+bounds-row-j c = found_few c.requires.laid.1 (rw c.in-At-to.is at c.find_element-to.ensures)
 
 pub loop-p-preserved : goal.loop-p-preserved
 loop-p-preserved c = (

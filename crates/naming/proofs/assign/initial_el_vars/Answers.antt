@@ -3,5 +3,4 @@ use borrow.Author.Rules.{rules}
 use Rattle.naming.proofs.assign.initial_el_vars.Goals as goal
 
 pub returns : goal.returns
-returns c =
-    assigned_first c.requires c.element_count.ensures c.assign_structure_el_vars.ensures
+returns c = assigned_first c.requires c.element_count.ensures c.assign_structure_el_vars.ensures

@@ -12,12 +12,10 @@ use native.Mathlib.Omega.{arith}
 use Rattle.naming.proofs.bases.el_base_name.Goals as goal
 
 pub lists-init : goal.lists-init
-lists-init c =
-    (search rules, refl, refl)
+lists-init c = (search rules, refl, refl)
 
 pub name_section-names-requires : goal.name_section-names-requires
-name_section-names-requires c =
-    (c.requires.few, search rules, search rules)
+name_section-names-requires c = (c.requires.few, search rules, search rules)
 
 pub loop-at-init : goal.loop-at-init
 loop-at-init c =
@@ -32,8 +30,7 @@ read_name-f-requires c =
     }
 
 pub loop-at-smaller : goal.loop-at-smaller
-loop-at-smaller c =
-    omega (arith, c.read_name-f.ensures.ahead)
+loop-at-smaller c = omega (arith, c.read_name-f.ensures.ahead)
 
 pub loop-at-preserved : goal.loop-at-preserved
 loop-at-preserved c =

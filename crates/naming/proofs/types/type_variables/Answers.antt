@@ -7,8 +7,7 @@ use Rattle.naming.proofs.types.type_variables.Goals.{else-first-row, then-first-
 use Rattle.naming.proofs.types.type_variables.Goals as goal
 
 pub loop-i-init : goal.loop-i-init
-loop-i-init c =
-    (search rules, rw c.place-number.ensures.0 (typing _ _ _ _))
+loop-i-init c = (search rules, rw c.place-number.ensures.0 (typing _ _ _ _))
 
 pub read_element-e-requires : goal.read_element-e-requires
 read_element-e-requires c =
@@ -39,8 +38,7 @@ loop-i-preserved c =
     ]
 
 pub shape_of-types : goal.shape_of-types
-shape_of-types c =
-    c.loop-i.invariant.1.long
+shape_of-types c = c.loop-i.invariant.1.long
 
 pub returns : goal.returns
 returns c =

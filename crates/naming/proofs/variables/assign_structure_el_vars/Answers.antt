@@ -6,8 +6,7 @@ use Rattle.naming.proofs.variables.assign_structure_el_vars.Goals.{else-vars-i, 
 use Rattle.naming.proofs.variables.assign_structure_el_vars.Goals as goal
 
 pub loop-i-init : goal.loop-i-init
-loop-i-init c =
-    (search rules, numbering _ _ _)
+loop-i-init c = (search rules, numbering _ _ _)
 
 pub loop-i-preserved : goal.loop-i-preserved
 loop-i-preserved c =
@@ -23,5 +22,4 @@ loop-i-preserved c =
     ]
 
 pub returns : goal.returns
-returns c =
-    number_end c.loop-i.invariant.1 (search rules) (omega arith)
+returns c = number_end c.loop-i.invariant.1 (search rules) (omega arith)

@@ -5,8 +5,7 @@ use Rattle.naming.proofs.variables.fresh.Goals.{else-first-row, then-first-row}
 use Rattle.naming.proofs.variables.fresh.Goals as goal
 
 pub loop-i-init : goal.loop-i-init
-loop-i-init c =
-    (search rules, counting _ _ _)
+loop-i-init c = (search rules, counting _ _ _)
 
 pub loop-i-preserved : goal.loop-i-preserved
 loop-i-preserved c =
@@ -22,5 +21,4 @@ loop-i-preserved c =
     ]
 
 pub returns : goal.returns
-returns c =
-    count_end c.loop-i.invariant.1 (search rules) c.loop-i-test.false
+returns c = count_end c.loop-i.invariant.1 (search rules) c.loop-i-test.false

@@ -5,9 +5,7 @@ use borrow.Author.Rules.{rules}
 use Rattle.naming.proofs.variables.fresh.Given as goal
 
 abbrev pub invariant-loop-i : goal.invariant-loop-i
-invariant-loop-i l =
-    (l.i ≤ l.count) × Counting l.first l.count l.row l.n l.i
+invariant-loop-i l = (l.i ≤ l.count) × Counting l.first l.count l.row l.n l.i
 
 abbrev pub decreases-loop-i : goal.decreases-loop-i
-decreases-loop-i l =
-    l.count - l.i
+decreases-loop-i l = l.count - l.i

@@ -12,9 +12,7 @@ returns-then-name-eq0 c =
     (then c.put_bytes-at.ensures c.put_decimal.ensures)
 
 pub put_bytes-requires : goal.put_bytes-requires
-put_bytes-requires c =
-    (search rules, c.rule_name-name.ensures.name_inside.inside)
+put_bytes-requires c = (search rules, c.rule_name-name.ensures.name_inside.inside)
 
 pub returns : goal.returns
-returns c =
-    rw (group_named c.rule_name-name.ensures.result_value c.rule_name-name.ensures.name_inside c.if-name-eq0.false) c.put_bytes.ensures
+returns c = rw (group_named c.rule_name-name.ensures.result_value c.rule_name-name.ensures.name_inside c.if-name-eq0.false) c.put_bytes.ensures

@@ -3,5 +3,4 @@ use borrow.Author.Rules.{rules}
 use Rattle.naming.proofs.writer.put_name.Goals as goal
 
 pub returns : goal.returns
-returns c =
-    then c.put_base-at.ensures c.put_decimal.ensures
+returns c = then c.put_base-at.ensures c.put_decimal.ensures

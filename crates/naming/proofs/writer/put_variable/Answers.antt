@@ -3,5 +3,4 @@ use borrow.Author.Rules.{rules}
 use Rattle.naming.proofs.writer.put_variable.Goals as goal
 
 pub returns : goal.returns
-returns c =
-    variable_put _ _ _ _ c.name_length.ensures.0 c.put_variable_head-at.ensures c.put_name.ensures
+returns c = variable_put _ _ _ _ c.name_length.ensures.0 c.put_variable_head-at.ensures c.put_name.ensures

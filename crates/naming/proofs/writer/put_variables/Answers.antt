@@ -7,8 +7,7 @@ use Rattle.naming.proofs.writer.put_variables.Goals.{else-first-row, then-first-
 use Rattle.naming.proofs.writer.put_variables.Goals as goal
 
 pub loop-i-init : goal.loop-i-init
-loop-i-init c =
-    (search rules, printing _ _ _ _ _ (search rules))
+loop-i-init c = (search rules, printing _ _ _ _ _ (search rules))
 
 pub put_new_variable-at-requires : goal.put_new_variable-at-requires
 put_new_variable-at-requires c =
@@ -31,8 +30,7 @@ loop-i-preserved c =
     )
 
 pub shape_of-out : goal.shape_of-out
-shape_of-out c =
-    c.loop-i.invariant.1.writing.put.long
+shape_of-out c = c.loop-i.invariant.1.writing.put.long
 
 pub returns : goal.returns
 returns c =

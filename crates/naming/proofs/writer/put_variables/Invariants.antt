@@ -7,9 +7,7 @@ use borrow.Author.Rules.{rules}
 use Rattle.naming.proofs.writer.put_variables.Given as goal
 
 abbrev pub invariant-loop-i : goal.invariant-loop-i
-invariant-loop-i l =
-    (l.i ≤ l.count) × Printing l.initial.out l.out (structure_in l.s l.k) l.first l.row l.from l.at l.number l.i
+invariant-loop-i l = (l.i ≤ l.count) × Printing l.initial.out l.out (structure_in l.s l.k) l.first l.row l.from l.at l.number l.i
 
 abbrev pub decreases-loop-i : goal.decreases-loop-i
-decreases-loop-i l =
-    l.count - l.i
+decreases-loop-i l = l.count - l.i

@@ -9,8 +9,7 @@ use native.Mathlib.Omega.{arith}
 use Rattle.plan.proofs.sources.incoming_source.Goals as goal
 
 pub loop-at-init : goal.loop-at-init
-loop-at-init c =
-    asking _ (maps_from c.requires c.section_behind-maps.ensures)
+loop-at-init c = asking _ (maps_from c.requires c.section_behind-maps.ensures)
 
 pub returns-in_default : goal.returns-in_default
 returns-in_default c =
@@ -33,8 +32,7 @@ returns-then-target_at-target c =
     (source_here _ _ (c.target_at.ensures.by_index _) (c.source_at.ensures.by_index _) c.if-target_at-target.true))
 
 pub loop-at-smaller : goal.loop-at-smaller
-loop-at-smaller c =
-    let a = rw c.in-Got.is at c.read_field-f.ensures.ahead in omega arith
+loop-at-smaller c = let a = rw c.in-Got.is at c.read_field-f.ensures.ahead in omega arith
 
 pub loop-at-preserved : goal.loop-at-preserved
 loop-at-preserved c =
@@ -42,5 +40,4 @@ loop-at-preserved c =
     (source_behind _ _ (c.target_at.ensures.by_index _) c.if-target_at-target.false)
 
 pub returns : goal.returns
-returns c =
-    sym (asked_end c.loop-at.invariant c.loop-at-test.false ∙ source_none _)
+returns c = sym (asked_end c.loop-at.invariant c.loop-at-test.false ∙ source_none _)

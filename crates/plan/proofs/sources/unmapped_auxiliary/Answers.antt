@@ -11,8 +11,7 @@ use native.Mathlib.Omega.{arith}
 use Rattle.plan.proofs.sources.unmapped_auxiliary.Goals as goal
 
 pub loop-at-init : goal.loop-at-init
-loop-at-init c =
-    asking _ (auxiliaries_from c.requires c.section_behind-auxiliaries.ensures)
+loop-at-init c = asking _ (auxiliaries_from c.requires c.section_behind-auxiliaries.ensures)
 
 pub returns-in_default : goal.returns-in_default
 returns-in_default c =
@@ -42,5 +41,4 @@ loop-at-preserved c =
 
 pub returns : goal.returns
 unfolding unmapped_auxiliary any
-returns c =
-    sym (asked_end c.loop-at.invariant c.loop-at-test.false)
+returns c = sym (asked_end c.loop-at.invariant c.loop-at-test.false)

@@ -11,9 +11,7 @@ use native.Mathlib.Omega.{arith}
 use Rattle.plan.proofs.sources.unmapped_auxiliary.Given as goal
 
 abbrev pub invariant-loop-at : goal.invariant-loop-at
-invariant-loop-at l =
-    Asking l.s auxiliary_of 3 (any (no_source (rule_at l.s).maps)) (rule_at l.s).auxiliaries l.auxiliaries.to l.at
+invariant-loop-at l = Asking l.s auxiliary_of 3 (any (no_source (rule_at l.s).maps)) (rule_at l.s).auxiliaries l.auxiliaries.to l.at
 
 abbrev pub decreases-loop-at : goal.decreases-loop-at
-decreases-loop-at l =
-    l.auxiliaries.to - l.at
+decreases-loop-at l = l.auxiliaries.to - l.at

@@ -14,8 +14,7 @@ use native.Mathlib.Omega.{arith}
 use Rattle.plan.proofs.sources.unmapped_kind.Goals as goal
 
 pub loop-at-init : goal.loop-at-init
-loop-at-init c =
-    asking _ (kinds_from c.requires c.section_behind-kinds.ensures)
+loop-at-init c = asking _ (kinds_from c.requires c.section_behind-kinds.ensures)
 
 pub returns-in_default : goal.returns-in_default
 returns-in_default c =
@@ -40,8 +39,7 @@ returns-in_default-map c =
     c.find_map-map.ensures c.in_default-map.is))
 
 pub loop-at-smaller : goal.loop-at-smaller
-loop-at-smaller c =
-    let a = rw c.in-Got.is at c.read_field-f.ensures.ahead in omega arith
+loop-at-smaller c = let a = rw c.in-Got.is at c.read_field-f.ensures.ahead in omega arith
 
 pub loop-at-preserved : goal.loop-at-preserved
 loop-at-preserved c =
@@ -51,5 +49,4 @@ loop-at-preserved c =
 
 pub returns : goal.returns
 unfolding unmapped_kind any
-returns c =
-    sym (asked_end c.loop-at.invariant c.loop-at-test.false)
+returns c = sym (asked_end c.loop-at.invariant c.loop-at-test.false)

@@ -11,9 +11,7 @@ use native.Mathlib.Omega.{arith}
 use Rattle.plan.proofs.sources.unmapped_kind.Given as goal
 
 abbrev pub invariant-loop-at : goal.invariant-loop-at
-invariant-loop-at l =
-    Asking l.s kind_of 5 (any (no_map (rule_at l.s).maps)) (rule_at l.s).kinds l.kinds.to l.at
+invariant-loop-at l = Asking l.s kind_of 5 (any (no_map (rule_at l.s).maps)) (rule_at l.s).kinds l.kinds.to l.at
 
 abbrev pub decreases-loop-at : goal.decreases-loop-at
-decreases-loop-at l =
-    l.kinds.to - l.at
+decreases-loop-at l = l.kinds.to - l.at

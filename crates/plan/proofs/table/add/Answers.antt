@@ -2,22 +2,8 @@ use Rattle.plan.proofs.TableLaws.{kept, grown}
 use borrow.Author.Rules.{rules}
 use Rattle.plan.proofs.table.add.Goals as goal
 
--- TURN: no goal bounds-1-if1
--- index_1_if1 c = search rules
-
--- TURN: no goal bounds-2-if1
--- index_2_if1 c = search rules
-
 pub returns-then-table-source-lt-NO_KIND : goal.returns-then-table-source-lt-NO_KIND
-returns-then-table-source-lt-NO_KIND c =
-    record { tabled = λ ks k w p q m. kept w k c.requires.0 c.requires.1 p q c.if-table-source-lt-NO_KIND.true }
-
--- TURN: no goal bounds-1-table
--- index_1_table c = search rules
-
--- TURN: no goal bounds-2-table
--- index_2_table c = search rules
+returns-then-table-source-lt-NO_KIND c = record { tabled = λ ks k w p q m. kept w k c.requires.0 c.requires.1 p q c.if-table-source-lt-NO_KIND.true }
 
 pub returns : goal.returns
-returns c =
-    record { tabled = λ ks k w p q m. grown w k c.requires.0 c.requires.1 p q _ m c.if-table-source-lt-NO_KIND.false }
+returns c = record { tabled = λ ks k w p q m. grown w k c.requires.0 c.requires.1 p q _ m c.if-table-source-lt-NO_KIND.false }

@@ -11,8 +11,7 @@ use native.Mathlib.Omega.{arith}
 use Rattle.plan.proofs.table.complete.Goals as goal
 
 pub loop-at-init : goal.loop-at-init
-loop-at-init c =
-    complete_start c.requires.ready c.requires.tabled (auxiliaries_from c.requires.ready c.section_behind-auxiliaries.ensures)
+loop-at-init c = complete_start c.requires.ready c.requires.tabled (auxiliaries_from c.requires.ready c.section_behind-auxiliaries.ensures)
 
 pub returns-in_default : goal.returns-in_default
 returns-in_default c =
@@ -48,5 +47,4 @@ loop-at-preserved c =
     c.auxiliary_kind.ensures c.add.ensures
 
 pub returns : goal.returns
-returns c =
-    complete_end c.loop-at.invariant c.loop-at-test.false
+returns c = complete_end c.loop-at.invariant c.loop-at-test.false

@@ -11,8 +11,7 @@ use native.Mathlib.Omega.{arith}
 use Rattle.plan.proofs.table.stored.Goals as goal
 
 pub loop-at-init : goal.loop-at-init
-loop-at-init c =
-    store_start c.requires.ready c.requires.tabled (kinds_from c.requires.ready c.section_behind-kinds.ensures)
+loop-at-init c = store_start c.requires.ready c.requires.tabled (kinds_from c.requires.ready c.section_behind-kinds.ensures)
 
 pub returns-in_default : goal.returns-in_default
 returns-in_default c =
@@ -40,8 +39,7 @@ add-requires c =
     (c.source_at.ensures.by_index_2 _) (c.target_at.ensures.by_index_2 _)
 
 pub loop-at-smaller : goal.loop-at-smaller
-loop-at-smaller c =
-    let a = rw c.in-Got.is at c.read_field-f.ensures.ahead in omega arith
+loop-at-smaller c = let a = rw c.in-Got.is at c.read_field-f.ensures.ahead in omega arith
 
 pub loop-at-preserved : goal.loop-at-preserved
 loop-at-preserved c =
@@ -50,5 +48,4 @@ loop-at-preserved c =
     (c.kind_number-kind.ensures ∙ ap some (c.kind_at.ensures _)) c.add.ensures
 
 pub returns : goal.returns
-returns c =
-    store_end c.loop-at.invariant c.loop-at-test.false
+returns c = store_end c.loop-at.invariant c.loop-at-test.false

@@ -1,16 +1,12 @@
 use mathlib.Core.Path.{◌∙◌, sym}
-use borrow.Author.Rules.{rules}
 use Rattle.records.proofs.NameBytes.{name_short, name_long, name_fits}
 use Rattle.records.proofs.names.bad_name.Goals as goal
 
 pub returns-then-len-shortest : goal.returns-then-len-shortest
-returns-then-len-shortest c =
-    sym (name_short _ _ _ c.requires _ _ c.if-len-shortest.true)
+returns-then-len-shortest c = sym (name_short _ _ _ c.requires _ _ c.if-len-shortest.true)
 
 pub returns-then-longest-len : goal.returns-then-longest-len
-returns-then-longest-len c =
-    sym (name_long _ _ _ c.requires _ _ c.if-len-shortest.false c.if-longest-len.true)
+returns-then-longest-len c = sym (name_long _ _ _ c.requires _ _ c.if-len-shortest.false c.if-longest-len.true)
 
 pub returns : goal.returns
-returns c =
-    c.bad_bytes.ensures ∙ sym (name_fits _ _ _ c.requires _ _ c.if-len-shortest.false c.if-longest-len.false)
+returns c = c.bad_bytes.ensures ∙ sym (name_fits _ _ _ c.requires _ _ c.if-len-shortest.false c.if-longest-len.false)

@@ -1,13 +1,10 @@
 -- Invariant: the order from index i on is the order.
-use Prim.Native.Nat.{◌-◌}
-use mathlib.Core.Path.{◌≡◌, refl, ◌∙◌, sym}
-use borrow.Author.Rules.{rules}
-use Rattle.records.proofs.Along.{less_from, less_start, less_short, less_yes, less_no, less_on, less_end}
+use mathlib.Core.Path.{refl, ◌∙◌, sym}
+use Rattle.records.proofs.Along.{less_start, less_short, less_yes, less_no, less_on, less_end}
 use Rattle.records.proofs.order.less_bytes.Goals as goal
 
 pub loop-i-init : goal.loop-i-init
-loop-i-init c =
-    refl
+loop-i-init c = refl
 
 pub returns-then-n-i : goal.returns-then-n-i
 returns-then-n-i c =
@@ -31,5 +28,4 @@ loop-i-preserved c =
     c.if-x-y.false c.if-y-x.false
 
 pub returns : goal.returns
-returns c =
-    less_end _ _ _ _ _ c.requires _ c.loop-i-test.false ∙ sym (less_start _ _ _ _ _ ∙ c.loop-i.invariant)
+returns c = less_end _ _ _ _ _ c.requires _ c.loop-i-test.false ∙ sym (less_start _ _ _ _ _ ∙ c.loop-i.invariant)

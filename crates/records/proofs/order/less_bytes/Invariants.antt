@@ -1,13 +1,10 @@
 use Prim.Native.Nat.{◌-◌}
-use mathlib.Core.Path.{◌≡◌, refl, ◌∙◌, sym}
-use borrow.Author.Rules.{rules}
-use Rattle.records.proofs.Along.{less_from, less_start, less_short, less_yes, less_no, less_on, less_end}
+use mathlib.Core.Path.{◌≡◌}
+use Rattle.records.proofs.Along.{less_from}
 use Rattle.records.proofs.order.less_bytes.Given as goal
 
 abbrev pub invariant-loop-i : goal.invariant-loop-i
-invariant-loop-i l =
-    less_from l.s l.a l.m l.b l.n 0 ≡ less_from l.s l.a l.m l.b l.n l.i
+invariant-loop-i l = less_from l.s l.a l.m l.b l.n 0 ≡ less_from l.s l.a l.m l.b l.n l.i
 
 abbrev pub decreases-loop-i : goal.decreases-loop-i
-decreases-loop-i l =
-    l.m - l.i
+decreases-loop-i l = l.m - l.i

@@ -1,6 +1,5 @@
 use native.Mathlib.Omega.{arith}
 use mathlib.Core.Path.{◌∙◌}
-use borrow.Author.Rules.{rules}
 use Rattle.records.proofs.Pairs.{less_numbers}
 use Rattle.records.proofs.order.less_numbers.Goals as goal
 

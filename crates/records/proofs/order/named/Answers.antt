@@ -1,18 +1,13 @@
 -- Invariant: all are below the limit where all from index i on are.
-use Prim.Native.Nat.{ℕ, ◌-◌, ◌/◌}
-use mathlib.Core.Path.{◌≡◌, refl, ◌∙◌, sym}
-use lib.Dec.{ltb}
+use mathlib.Core.Path.{refl, ◌∙◌, sym}
 use borrow.Author.Tests.{le-ltb, lt-ltb}
 use borrow.Author.Rules.{rules}
-use Rattle.definition.specs.Records.{numbers}
-use Rattle.records.specs.Places.{stretch}
 use Rattle.records.proofs.Numbers.{length_numbers_in, numbers_in_lem}
-use Rattle.records.proofs.Along.{all_from, all_start, all_no, all_on, all_end}
+use Rattle.records.proofs.Along.{all_start, all_no, all_on, all_end}
 use Rattle.records.proofs.order.named.Goals as goal
 
 pub loop-i-init : goal.loop-i-init
-loop-i-init c =
-    (search rules, refl)
+loop-i-init c = (search rules, refl)
 
 pub returns-then-limit-two : goal.returns-then-limit-two
 returns-then-limit-two c =
@@ -29,5 +24,4 @@ loop-i-preserved c = (
 )
 
 pub returns : goal.returns
-returns c =
-    sym (all_start _ _ ∙ c.loop-i.invariant.1 ∙ all_end _ _ (length_numbers_in _ _ _ c.requires) (search rules))
+returns c = sym (all_start _ _ ∙ c.loop-i.invariant.1 ∙ all_end _ _ (length_numbers_in _ _ _ c.requires) (search rules))

@@ -1,12 +1,9 @@
 use Prim.Native.Nat.{ℕ, ◌-◌, ◌/◌}
-use mathlib.Core.Path.{◌≡◌, refl, ◌∙◌, sym}
+use mathlib.Core.Path.{◌≡◌}
 use lib.Dec.{ltb}
-use borrow.Author.Tests.{le-ltb, lt-ltb}
-use borrow.Author.Rules.{rules}
 use Rattle.definition.specs.Records.{numbers}
 use Rattle.records.specs.Places.{stretch}
-use Rattle.records.proofs.Numbers.{length_numbers_in, numbers_in_lem}
-use Rattle.records.proofs.Along.{all_from, all_start, all_no, all_on, all_end}
+use Rattle.records.proofs.Along.{all_from}
 use Rattle.records.proofs.order.named.Given as goal
 
 abbrev pub invariant-loop-i : goal.invariant-loop-i
@@ -15,5 +12,4 @@ invariant-loop-i l =
     ≡ all_from (λ (n : ℕ). ltb n l.limit) (numbers (stretch l.s l.start l.len)) l.i)
 
 abbrev pub decreases-loop-i : goal.decreases-loop-i
-decreases-loop-i l =
-    l.count - l.i
+decreases-loop-i l = l.count - l.i

@@ -1,13 +1,10 @@
 use Prim.Native.Nat.{◌-◌}
-use mathlib.Core.Path.{◌≡◌, refl, ◌∙◌, sym}
-use borrow.Author.Rules.{rules}
-use Rattle.records.proofs.Along.{same_from, same_start, same_sizes, same_no, same_on, same_end}
+use mathlib.Core.Path.{◌≡◌}
+use Rattle.records.proofs.Along.{same_from}
 use Rattle.records.proofs.order.same_bytes.Given as goal
 
 abbrev pub invariant-loop-i : goal.invariant-loop-i
-invariant-loop-i l =
-    same_from l.s l.a l.m l.b l.n 0 ≡ same_from l.s l.a l.m l.b l.n l.i
+invariant-loop-i l = same_from l.s l.a l.m l.b l.n 0 ≡ same_from l.s l.a l.m l.b l.n l.i
 
 abbrev pub decreases-loop-i : goal.decreases-loop-i
-decreases-loop-i l =
-    l.m - l.i
+decreases-loop-i l = l.m - l.i

@@ -1,13 +1,11 @@
-use Prim.Native.Nat.{◌-◌, ◌≤◌}
 use mathlib.Core.Path.{◌≡◌}
-use Rattle.records.proofs.Copying.{Copying, none, one}
+use Rattle.records.proofs.Copying.{none, one}
 use borrow.Author.Rules.{rules}
 use native.Mathlib.Omega.{arith}
 use Rattle.records.proofs.write.copy_bytes.Goals as goal
 
 pub loop-i-init : goal.loop-i-init
-loop-i-init c =
-    (search rules, none _ _ _ _)
+loop-i-init c = (search rules, none _ _ _ _)
 
 pub loop-i-preserved : goal.loop-i-preserved
 loop-i-preserved c =

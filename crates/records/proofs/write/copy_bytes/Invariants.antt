@@ -1,14 +1,9 @@
 use Prim.Native.Nat.{◌-◌, ◌≤◌}
-use mathlib.Core.Path.{◌≡◌}
-use Rattle.records.proofs.Copying.{Copying, none, one}
-use borrow.Author.Rules.{rules}
-use native.Mathlib.Omega.{arith}
+use Rattle.records.proofs.Copying.{Copying}
 use Rattle.records.proofs.write.copy_bytes.Given as goal
 
 abbrev pub invariant-loop-i : goal.invariant-loop-i
-invariant-loop-i l =
-    (l.i ≤ l.len) × Copying l.initial.out l.out l.s l.at l.start l.i
+invariant-loop-i l = (l.i ≤ l.len) × Copying l.initial.out l.out l.s l.at l.start l.i
 
 abbrev pub decreases-loop-i : goal.decreases-loop-i
-decreases-loop-i l =
-    l.len - l.i
+decreases-loop-i l = l.len - l.i

@@ -1,6 +1,5 @@
 use native.Mathlib.Omega.{arith}
 use mathlib.Core.List.{[], ◌∷◌}
-use borrow.Author.Rules.{rules}
 use Rattle.records.proofs.Tail.{stored, counted}
 use Rattle.records.proofs.write.put_byte.Goals as goal
 
@@ -10,5 +9,4 @@ returns-then-at-out c =
     c.past-end.ensures (omega arith)
 
 pub returns : goal.returns
-returns c =
-    counted _ _ _ c.past-end.ensures (omega arith)
+returns c = counted _ _ _ c.past-end.ensures (omega arith)

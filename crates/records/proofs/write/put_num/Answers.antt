@@ -1,15 +1,13 @@
 use native.Mathlib.Numerals.{add-one}
 use native.Mathlib.Omega.{arith}
-use lib.Bits.{and_mask, mask_lt}
+use lib.Bits.{and_mask}
 use lib.ListN.{length-set}
-use borrow.Author.Rules.{rules}
 use Rattle.definition.specs.Writer.{two_bytes}
 use Rattle.records.proofs.Tail.{stored, counted}
 use Rattle.records.proofs.write.put_num.Goals as goal
 
 pub bounds-out-at-then-at-out : goal.bounds-out-at-then-at-out
-bounds-out-at-then-at-out c =
-    simp length-set (omega arith)
+bounds-out-at-then-at-out c = simp length-set (omega arith)
 
 pub returns-then-at-out : goal.returns-then-at-out
 returns-then-at-out c =
@@ -17,5 +15,4 @@ returns-then-at-out c =
     rw (add-one, and_mask args.v 8) (stored args.out.now (two_bytes args.v) args.at c.past-end.ensures (omega arith))
 
 pub returns : goal.returns
-returns c =
-    counted _ _ _ c.past-end.ensures (omega arith)
+returns c = counted _ _ _ c.past-end.ensures (omega arith)

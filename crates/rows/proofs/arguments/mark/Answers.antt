@@ -16,8 +16,7 @@ use Rattle.rows.proofs.arguments.mark.Goals.{in-At, in_default}
 use Rattle.rows.proofs.arguments.mark.Goals as goal
 
 pub loop-j-init : goal.loop-j-init
-loop-j-init c =
-    (c.requires.k_lt_structure_limit.1, search rules, λ seen m. rw append-nil m)
+loop-j-init c = (c.requires.k_lt_structure_limit.1, search rules, λ seen m. rw append-nil m)
 
 pub find_element-f-requires : goal.find_element-f-requires
 find_element-f-requires c =
@@ -27,8 +26,7 @@ find_element-f-requires c =
     }
 
 pub bounds-flags-i : goal.bounds-flags-i
-bounds-flags-i c =
-    found_place c.requires.elements (rw c.in-At.is at c.find_element-f.ensures)
+bounds-flags-i c = found_place c.requires.elements (rw c.in-At.is at c.find_element-f.ensures)
 
 pub loop-j-preserved : goal.loop-j-preserved
 loop-j-preserved c =

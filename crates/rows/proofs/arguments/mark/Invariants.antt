@@ -21,5 +21,4 @@ invariant-loop-j l =
     → Marks l.flags (element_numbers l.s l.index l.k) (seen ++ take l.j (els_in l.s l.l)))
 
 abbrev pub decreases-loop-j : goal.decreases-loop-j
-decreases-loop-j l =
-    l.l.count - l.j
+decreases-loop-j l = l.l.count - l.j

@@ -16,8 +16,7 @@ use Rattle.rows.proofs.ArgumentLaws.{Along, along_start, along_next, known_here,
 use Rattle.rows.proofs.arguments.mark_rows.Goals as goal
 
 pub loop-at-init : goal.loop-at-init
-loop-at-init c =
-    (c.requires.k_lt_structure_limit.1, λ fs r. along_start r, λ seen fs r m. marking_start r m)
+loop-at-init c = (c.requires.k_lt_structure_limit.1, λ fs r. along_start r, λ seen fs r m. marking_start r m)
 
 pub returns : goal.returns
 returns c =
@@ -43,8 +42,7 @@ mark-requires c =
     }
 
 pub loop-at-smaller : goal.loop-at-smaller
-loop-at-smaller c =
-    omega (arith, c.read_row-row.ensures.ahead)
+loop-at-smaller c = omega (arith, c.read_row-row.ensures.ahead)
 
 pub loop-at-preserved : goal.loop-at-preserved
 loop-at-preserved c =

@@ -22,5 +22,4 @@ invariant-loop-at l =
     → Marking (signature_at l.sig l.symbols l.counts) l.kind l.s (element_numbers l.s l.index l.k) l.end seen fs l.flags l.at)
 
 abbrev pub decreases-loop-at : goal.decreases-loop-at
-decreases-loop-at l =
-    l.end - l.at
+decreases-loop-at l = l.end - l.at

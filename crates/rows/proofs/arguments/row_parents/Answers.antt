@@ -16,9 +16,7 @@ func_parents-requires c =
     }
 
 pub returns-in-Pred : goal.returns-in-Pred
-returns-in-Pred c =
-    rw c.in-Pred.is c.pred_parents.ensures
+returns-in-Pred c = rw c.in-Pred.is c.pred_parents.ensures
 
 pub returns-in-Func : goal.returns-in-Func
-returns-in-Func c =
-    rw c.in-Func.is c.func_parents.ensures
+returns-in-Func c = rw c.in-Func.is c.func_parents.ensures

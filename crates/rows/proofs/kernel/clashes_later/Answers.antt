@@ -8,16 +8,13 @@ use Rattle.rows.proofs.kernel.clashes_later.Goals.{else-image-other, then-image-
 use Rattle.rows.proofs.kernel.clashes_later.Goals as goal
 
 pub bounds-types-place : goal.bounds-types-place
-bounds-types-place c =
-    rw c.place.ensures.0 (c.requires.typed.below _ c.requires.p_lt_pairs)
+bounds-types-place c = rw c.place.ensures.0 (c.requires.typed.below _ c.requires.p_lt_pairs)
 
 pub loop-q-init : goal.loop-q-init
-loop-q-init c =
-    λ type f. refl
+loop-q-init c = λ type f. refl
 
 pub bounds-types-place-then-image-other : goal.bounds-types-place-then-image-other
-bounds-types-place-then-image-other c =
-    rw c.place-then-image-other.ensures.0 (c.requires.typed.below _ c.loop-q-test.true)
+bounds-types-place-then-image-other c = rw c.place-then-image-other.ensures.0 (c.requires.typed.below _ c.loop-q-test.true)
 
 pub returns-then-ty-types : goal.returns-then-ty-types
 returns-then-ty-types c =
@@ -38,5 +35,4 @@ loop-q-preserved c =
     ]
 
 pub returns : goal.returns
-returns c =
-    λ type f. sym (later_all type _ _ _ ∙ c.loop-q.invariant type f ∙ later_end type c.requires.map_in _ _ c.loop-q-test.false)
+returns c = λ type f. sym (later_all type _ _ _ ∙ c.loop-q.invariant type f ∙ later_end type c.requires.map_in _ _ c.loop-q-test.false)

@@ -12,5 +12,4 @@ invariant-loop-q l =
     (type : Pair → ℕ) → KeyTypes l.s l.m l.vars l.types type → later_from type l.s l.m l.p (l.p + 1) ≡ later_from type l.s l.m l.p l.q
 
 abbrev pub decreases-loop-q : goal.decreases-loop-q
-decreases-loop-q l =
-    l.m.pairs - l.q
+decreases-loop-q l = l.m.pairs - l.q

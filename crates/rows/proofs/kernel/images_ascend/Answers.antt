@@ -5,12 +5,10 @@ use Rattle.rows.proofs.Ascending.{Climbs, ascend_nothing, ascend_start, ascend_e
 use Rattle.rows.proofs.kernel.images_ascend.Goals as goal
 
 pub returns-then-m-eq0 : goal.returns-then-m-eq0
-returns-then-m-eq0 c =
-    sym (ascend_nothing c.requires c.if-m-eq0.true)
+returns-then-m-eq0 c = sym (ascend_nothing c.requires c.if-m-eq0.true)
 
 pub loop-p-init : goal.loop-p-init
-loop-p-init c =
-    ascend_start c.requires c.if-m-eq0.false c.pair_image-last.ensures
+loop-p-init c = ascend_start c.requires c.if-m-eq0.false c.pair_image-last.ensures
 
 pub returns-then-e-last : goal.returns-then-e-last
 returns-then-e-last c =
@@ -23,5 +21,4 @@ loop-p-preserved c =
     c.if-e-last.false
 
 pub returns : goal.returns
-returns c =
-    sym (ascend_end c.requires c.loop-p.invariant c.loop-p-test.false)
+returns c = sym (ascend_end c.requires c.loop-p.invariant c.loop-p-test.false)

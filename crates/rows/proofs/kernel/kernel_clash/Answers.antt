@@ -7,8 +7,7 @@ use Rattle.rows.proofs.KernelLaws.{keys_from, keys_on, keys_end, later_all, type
 use Rattle.rows.proofs.kernel.kernel_clash.Goals as goal
 
 pub loop-p-init : goal.loop-p-init
-loop-p-init c =
-    λ type f. refl
+loop-p-init c = λ type f. refl
 
 pub clashes_later-requires : goal.clashes_later-requires
 clashes_later-requires c =

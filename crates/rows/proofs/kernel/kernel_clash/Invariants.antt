@@ -7,9 +7,7 @@ use Rattle.rows.proofs.KernelLaws.{keys_from, keys_on, keys_end, later_all, type
 use Rattle.rows.proofs.kernel.kernel_clash.Given as goal
 
 abbrev pub invariant-loop-p : goal.invariant-loop-p
-invariant-loop-p l =
-    (type : Pair → ℕ) → KeyTypes l.s l.m l.vars l.types type → keys_from type l.s l.m 0 ≡ keys_from type l.s l.m l.p
+invariant-loop-p l = (type : Pair → ℕ) → KeyTypes l.s l.m l.vars l.types type → keys_from type l.s l.m 0 ≡ keys_from type l.s l.m l.p
 
 abbrev pub decreases-loop-p : goal.decreases-loop-p
-decreases-loop-p l =
-    l.m.pairs - l.p
+decreases-loop-p l = l.m.pairs - l.p

@@ -16,8 +16,7 @@ use Rattle.rule.proofs.ElementLaws.{found_few}
 use Rattle.rows.proofs.kernel.key_vars.Goals as goal
 
 pub loop-p-init : goal.loop-p-init
-loop-p-init c =
-    (search rules, search rules, λ source t. keys_start _ _ _)
+loop-p-init c = (search rules, search rules, λ source t. keys_start _ _ _)
 
 pub find_element-f-requires : goal.find_element-f-requires
 find_element-f-requires c =
@@ -32,24 +31,19 @@ returns-in_default c =
     c.pair_key.ensures (rw c.in_default.is at c.find_element-f.ensures))
 
 pub offset_bounds-row-i : goal.offset_bounds-row-i
-offset_bounds-row-i c =
-    let h = found_few c.requires.elements (rw c.in-At.is at c.find_element-f.ensures) in omega arith
+offset_bounds-row-i c = let h = found_few c.requires.elements (rw c.in-At.is at c.find_element-f.ensures) in omega arith
 
 pub bounds-row-i : goal.bounds-row-i
-bounds-row-i c =
-    found_few c.requires.elements (rw c.in-At.is at c.find_element-f.ensures)
+bounds-row-i c = found_few c.requires.elements (rw c.in-At.is at c.find_element-f.ensures)
 
 pub offset_bounds-vars-p : goal.offset_bounds-vars-p
-offset_bounds-vars-p c =
-    let h : c.loop-p.p < field_limit = omega (arith, c.requires.map_in.few, c.loop-p-test.true) in omega arith
+offset_bounds-vars-p c = let h : c.loop-p.p < field_limit = omega (arith, c.requires.map_in.few, c.loop-p-test.true) in omega arith
 
 pub bounds-vars-p : goal.bounds-vars-p
-bounds-vars-p c =
-    let h : c.loop-p.p < field_limit = omega (arith, c.requires.map_in.few, c.loop-p-test.true) in omega arith
+bounds-vars-p c = let h : c.loop-p.p < field_limit = omega (arith, c.requires.map_in.few, c.loop-p-test.true) in omega arith
 
 pub overflow_add-p : goal.overflow_add-p
-overflow_add-p c =
-    let h : c.loop-p.p < field_limit = omega (arith, c.requires.map_in.few, c.loop-p-test.true) in omega arith
+overflow_add-p c = let h : c.loop-p.p < field_limit = omega (arith, c.requires.map_in.few, c.loop-p-test.true) in omega arith
 
 pub loop-p-preserved : goal.loop-p-preserved
 loop-p-preserved c =
@@ -62,5 +56,4 @@ loop-p-preserved c =
     )
 
 pub returns : goal.returns
-returns c =
-    λ source t. keys_all c.requires.map_in (c.loop-p.invariant.2 source t) c.loop-p-test.false c.loop-p.invariant.1
+returns c = λ source t. keys_all c.requires.map_in (c.loop-p.invariant.2 source t) c.loop-p-test.false c.loop-p.invariant.1

@@ -18,5 +18,4 @@ invariant-loop-p l =
     × ((source : Side) → SideAt (element_numbers l.s l.index l.k) l.row source → KeysDone source (pairs_in l.s l.m) l.vars l.p)
 
 abbrev pub decreases-loop-p : goal.decreases-loop-p
-decreases-loop-p l =
-    l.m.pairs - l.p
+decreases-loop-p l = l.m.pairs - l.p

@@ -14,12 +14,10 @@ use Rattle.rows.proofs.Places.{found_place}
 use Rattle.rows.proofs.kernel.merged_els.Goals as goal
 
 pub returns-then-images_ascend : goal.returns-then-images_ascend
-returns-then-images_ascend c =
-    λ structure same named. ascend_merged structure _ (sym c.images_ascend.ensures ∙ c.if-images_ascend.true)
+returns-then-images_ascend c = λ structure same named. ascend_merged structure _ (sym c.images_ascend.ensures ∙ c.if-images_ascend.true)
 
 pub loop-p-init : goal.loop-p-init
-loop-p-init c =
-    (search rules, search rules, search rules, several_start c.requires.elements)
+loop-p-init c = (search rules, search rules, search rules, several_start c.requires.elements)
 
 pub returns-in_default : goal.returns-in_default
 returns-in_default c =
@@ -28,16 +26,13 @@ returns-in_default c =
     c.pair_image.ensures structure same named (rw c.in_default.is at c.find_element-f.ensures))
 
 pub bounds-seen-j : goal.bounds-seen-j
-bounds-seen-j c =
-    found_place c.requires.elements (rw c.in-At.is at c.find_element-f.ensures)
+bounds-seen-j c = found_place c.requires.elements (rw c.in-At.is at c.find_element-f.ensures)
 
 pub bounds-merged-j : goal.bounds-merged-j
-bounds-merged-j c =
-    (found_place c.requires.elements (rw c.in-At.is at c.find_element-f.ensures))
+bounds-merged-j c = (found_place c.requires.elements (rw c.in-At.is at c.find_element-f.ensures))
 
 pub bounds-seen-j-in-loop-p : goal.bounds-seen-j-in-loop-p
-bounds-seen-j-in-loop-p c =
-    (found_place c.requires.elements (rw c.in-At.is at c.find_element-f.ensures))
+bounds-seen-j-in-loop-p c = (found_place c.requires.elements (rw c.in-At.is at c.find_element-f.ensures))
 
 pub loop-p-preserved : goal.loop-p-preserved
 loop-p-preserved c =
@@ -51,8 +46,7 @@ loop-p-preserved c =
     )
 
 pub packed_less-requires : goal.packed_less-requires
-packed_less-requires c =
-    omega (arith, c.requires.elements.few, c.element_count.ensures)
+packed_less-requires c = omega (arith, c.requires.elements.few, c.element_count.ensures)
 
 pub returns : goal.returns
 returns c =

@@ -15,5 +15,4 @@ invariant-loop-p l =
     (length l.seen ≡ places) × (length l.merged ≡ places) × (l.p ≤ l.m.pairs) × Several l.s l.m (element_numbers l.s l.index l.target) l.seen l.merged l.p
 
 abbrev pub decreases-loop-p : goal.decreases-loop-p
-decreases-loop-p l =
-    l.m.pairs - l.p
+decreases-loop-p l = l.m.pairs - l.p

@@ -10,8 +10,7 @@ use Rattle.rows.proofs.MemberLaws.{some_here, some_later, some_end}
 use Rattle.rows.proofs.members.has_members.Goals as goal
 
 pub loop-i-init : goal.loop-i-init
-loop-i-init c =
-    (c.element_count-count.ensures, refl)
+loop-i-init c = (c.element_count-count.ensures, refl)
 
 pub read_element-e-requires : goal.read_element-e-requires
 read_element-e-requires c =
@@ -35,5 +34,4 @@ loop-i-preserved c = (
 )
 
 pub returns : goal.returns
-returns c =
-    sym (c.loop-i.invariant.1 ∙ some_end _ _ _ _ c.loop-i.invariant.0 c.loop-i-test.false)
+returns c = sym (c.loop-i.invariant.1 ∙ some_end _ _ _ _ c.loop-i.invariant.0 c.loop-i-test.false)

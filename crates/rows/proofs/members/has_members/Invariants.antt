@@ -14,5 +14,4 @@ invariant-loop-i l =
     (l.count ≡ count_at l.index l.k) × (any has_parents (elements_in l.s l.index l.k) ≡ any has_parents (drop l.i (elements_in l.s l.index l.k)))
 
 abbrev pub decreases-loop-i : goal.decreases-loop-i
-decreases-loop-i l =
-    l.count - l.i
+decreases-loop-i l = l.count - l.i

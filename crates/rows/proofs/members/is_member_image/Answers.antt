@@ -15,8 +15,7 @@ use Rattle.rows.proofs.members.is_member_image.Goals as goal
 
 pub loop-i-init : goal.loop-i-init
 unfolding member_row
-loop-i-init c =
-    λ columns qs h n a d. search_start h n a
+loop-i-init c = λ columns qs h n a d. search_start h n a
 
 pub returns-then-same_member : goal.returns-then-same_member
 unfolding member_row
@@ -35,5 +34,4 @@ loop-i-preserved c =
     ]
 
 pub returns : goal.returns
-returns c =
-    λ columns qs h n a d. search_end (c.loop-i.invariant columns qs h n a d) c.loop-i-test.false
+returns c = λ columns qs h n a d. search_end (c.loop-i.invariant columns qs h n a d) c.loop-i-test.false

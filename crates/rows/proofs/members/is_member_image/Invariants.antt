@@ -19,5 +19,4 @@ invariant-loop-i l =
     → Searching columns (member_row (element_from l.s l.e)) qs l.symbols l.els l.i l.images
 
 abbrev pub decreases-loop-i : goal.decreases-loop-i
-decreases-loop-i l =
-    l.images - l.i
+decreases-loop-i l = l.images - l.i

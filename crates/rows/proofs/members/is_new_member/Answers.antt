@@ -6,8 +6,7 @@ use Rattle.rows.proofs.Turns.{alike_images}
 use Rattle.rows.proofs.members.is_new_member.Goals as goal
 
 pub returns-then-e-eq0 : goal.returns-then-e-eq0
-returns-then-e-eq0 c =
-    λ columns pairs sources h d. not_new c.requires.within pairs sources c.if-e-eq0.true
+returns-then-e-eq0 c = λ columns pairs sources h d. not_new c.requires.within pairs sources c.if-e-eq0.true
 
 pub returns : goal.returns
 returns c =

@@ -14,8 +14,7 @@ use Rattle.rows.proofs.MemberLaws.{Filling, filling_start, filling_skip, filling
 use Rattle.rows.proofs.members.mapped_members.Goals as goal
 
 pub loop-i-init : goal.loop-i-init
-loop-i-init c =
-    (c.requires.symbols_len.0, c.requires.symbols_len.1, c.element_count-count.ensures, filling_start _ _ _ _ _ _)
+loop-i-init c = (c.requires.symbols_len.0, c.requires.symbols_len.1, c.element_count-count.ensures, filling_start _ _ _ _ _ _)
 
 pub read_element-e-requires : goal.read_element-e-requires
 read_element-e-requires c =

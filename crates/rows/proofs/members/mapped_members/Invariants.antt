@@ -16,5 +16,4 @@ invariant-loop-i l =
     × Filling (pairs_in l.s l.m) l.s l.index l.k l.i l.n l.symbols l.els
 
 abbrev pub decreases-loop-i : goal.decreases-loop-i
-decreases-loop-i l =
-    l.count - l.i
+decreases-loop-i l = l.count - l.i

@@ -18,8 +18,7 @@ use Rattle.rows.proofs.members.new_members.Goals as goal
 
 pub loop-i-init : goal.loop-i-init
 unfolding each
-loop-i-init c =
-    (search rules, c.element_count-count.ensures, search rules, λ columns pairs sources h a. refl)
+loop-i-init c = (search rules, c.element_count-count.ensures, search rules, λ columns pairs sources h a. refl)
 
 pub read_element-e-requires : goal.read_element-e-requires
 read_element-e-requires c =

@@ -24,5 +24,4 @@ invariant-loop-i l =
     → take l.i l.flags ≡ each (new_member pairs sources) (take l.i (elements_in l.s l.index l.k)))
 
 abbrev pub decreases-loop-i : goal.decreases-loop-i
-decreases-loop-i l =
-    l.count - l.i
+decreases-loop-i l = l.count - l.i

@@ -5,8 +5,7 @@ use Rattle.rows.proofs.MemberLaws.{last_differs, last_same}
 use Rattle.rows.proofs.members.same_member.Goals as goal
 
 pub returns-then-els-at : goal.returns-then-els-at
-returns-then-els-at c =
-    sym (last_differs c.requires.within _ _ (search rules) c.if-els-at.true)
+returns-then-els-at c = sym (last_differs c.requires.within _ _ (search rules) c.if-els-at.true)
 
 pub same_elements-requires : goal.same_elements-requires
 same_elements-requires c =

@@ -11,8 +11,7 @@ use Rattle.rows.proofs.table.is_image.Goals.{else-held-row, then-held-row+else-s
 use Rattle.rows.proofs.table.is_image.Goals as goal
 
 pub loop-i-init : goal.loop-i-init
-loop-i-init c =
-    λ kind columns qs h n a e. search_start h n a
+loop-i-init c = λ kind columns qs h n a e. search_start h n a
 
 pub returns-then-same_elements : goal.returns-then-same_elements
 returns-then-same_elements c =
@@ -32,5 +31,4 @@ loop-i-preserved c =
     ]
 
 pub returns : goal.returns
-returns c =
-    λ kind columns qs h n a e. search_end (c.loop-i.invariant kind columns qs h n a e) c.loop-i-test.false
+returns c = λ kind columns qs h n a e. search_end (c.loop-i.invariant kind columns qs h n a e) c.loop-i-test.false

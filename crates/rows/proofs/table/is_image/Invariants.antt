@@ -16,5 +16,4 @@ invariant-loop-i l =
     → l.row.els.count ≡ columns l.row.symbol → Searching columns (row_from l.s kind l.row) qs l.symbols l.els l.i l.images
 
 abbrev pub decreases-loop-i : goal.decreases-loop-i
-decreases-loop-i l =
-    l.images - l.i
+decreases-loop-i l = l.images - l.i

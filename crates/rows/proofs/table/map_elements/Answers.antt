@@ -9,8 +9,7 @@ use Rattle.rule.proofs.ListLaws.{els_many}
 use Rattle.rows.proofs.table.map_elements.Goals as goal
 
 pub loop-j-init : goal.loop-j-init
-loop-j-init c =
-    (search rules, mapping_start _ _ _ _)
+loop-j-init c = (search rules, mapping_start _ _ _ _)
 
 pub returns-in_default : goal.returns-in_default
 returns-in_default c =
@@ -29,5 +28,4 @@ loop-j-preserved c =
     (search rules, mapping_next m (rw (els_many w) l) (rw m.long (search rules)) (sym c.el_at.ensures) i)
 
 pub returns : goal.returns
-returns c =
-    mapping_end c.loop-j.invariant.1 (els_many c.requires.els_inside ∙ search rules)
+returns c = mapping_end c.loop-j.invariant.1 (els_many c.requires.els_inside ∙ search rules)

@@ -19,8 +19,7 @@ use Rattle.rule.proofs.RowReading.{row_stands, next_row}
 use Rattle.rows.proofs.table.mapped_rel_apps.Goals as goal
 
 pub loop-at-init : goal.loop-at-init
-loop-at-init c =
-    (c.requires.symbols_len.0, c.requires.symbols_len.1, λ fs r. passed_start r, λ kind fs r. rows_start _ kind fs _ _)
+loop-at-init c = (c.requires.symbols_len.0, c.requires.symbols_len.1, λ fs r. passed_start r, λ kind fs r. rows_start _ kind fs _ _)
 
 pub returns-in_default : goal.returns-in_default
 returns-in_default c =
@@ -76,8 +75,7 @@ overflow_add-i c =
     omega (arith, n.inside, p.few) in omega arith
 
 pub loop-at-smaller : goal.loop-at-smaller
-loop-at-smaller c =
-    let q = c.read_row-row.ensures in omega (arith, q.ahead)
+loop-at-smaller c = let q = c.read_row-row.ensures in omega (arith, q.ahead)
 
 pub loop-at-preserved : goal.loop-at-preserved
 loop-at-preserved c =
@@ -95,5 +93,4 @@ loop-at-preserved c =
     )
 
 pub read_row-row-requires : goal.read_row-row-requires
-read_row-row-requires c =
-    let p = c.requires.rows_from in row_stands p (c.loop-at.invariant.2 _ p.run) c.loop-at-test.true
+read_row-row-requires c = let p = c.requires.rows_from in row_stands p (c.loop-at.invariant.2 _ p.run) c.loop-at-test.true

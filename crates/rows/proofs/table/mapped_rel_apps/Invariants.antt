@@ -24,5 +24,4 @@ invariant-loop-at l =
     × ((kind : ℕ) (fs : List Field) → Run l.s l.from l.end fs → Filled (pairs_in l.s l.m) (each (row_of kind) (take l.i fs)) l.symbols l.els)
 
 abbrev pub decreases-loop-at : goal.decreases-loop-at
-decreases-loop-at l =
-    l.end - l.at
+decreases-loop-at l = l.end - l.at

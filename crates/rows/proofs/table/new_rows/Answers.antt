@@ -21,12 +21,10 @@ use Rattle.rows.proofs.table.new_rows.Goals.{else-not-is_image, then-not-is_imag
 use Rattle.rows.proofs.table.new_rows.Goals as goal
 
 pub loop-at-init : goal.loop-at-init
-loop-at-init c =
-    (above_none 0, λ fs r. passed_start r, λ kind columns pairs sources fs h r a. record { flags = flags_start _ })
+loop-at-init c = (above_none 0, λ fs r. passed_start r, λ kind columns pairs sources fs h r a. record { flags = flags_start _ })
 
 pub read_row-row-requires : goal.read_row-row-requires
-read_row-row-requires c =
-    let p = c.requires.rows_from in row_stands p (c.loop-at.invariant.1 _ p.run) c.loop-at-test.true
+read_row-row-requires c = let p = c.requires.rows_from in row_stands p (c.loop-at.invariant.1 _ p.run) c.loop-at-test.true
 
 pub with_flag-mask-requires : goal.with_flag-mask-requires
 with_flag-mask-requires c = (
@@ -43,8 +41,7 @@ overflow_add-i c =
     omega (arith, n.inside, p.few) in search rules
 
 pub loop-at-smaller : goal.loop-at-smaller
-loop-at-smaller c =
-    let q = c.read_row-row.ensures in omega (arith, q.ahead)
+loop-at-smaller c = let q = c.read_row-row.ensures in omega (arith, q.ahead)
 
 pub loop-at-preserved : goal.loop-at-preserved
 loop-at-preserved c =

@@ -26,5 +26,4 @@ invariant-loop-at l =
     → Run l.s l.from l.end fs → Alike kind columns (each (row_of kind) fs) → Packed l.mask (each (is_new pairs sources) (each (row_of kind) fs)) l.i)
 
 abbrev pub decreases-loop-at : goal.decreases-loop-at
-decreases-loop-at l =
-    l.end - l.at
+decreases-loop-at l = l.end - l.at

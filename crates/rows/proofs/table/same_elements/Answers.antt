@@ -11,8 +11,7 @@ use Rattle.rule.proofs.ListLaws.{els_many}
 use Rattle.rows.proofs.table.same_elements.Goals as goal
 
 pub loop-j-init : goal.loop-j-init
-loop-j-init c =
-    refl
+loop-j-init c = refl
 
 pub returns-then-e-els : goal.returns-then-e-els
 returns-then-e-els c =

@@ -15,5 +15,4 @@ invariant-loop-j l =
     same_list (els_in l.s l.l) (stretch l.els l.at l.l.count) ≡ same_list (drop l.j (els_in l.s l.l)) (drop l.j (stretch l.els l.at l.l.count))
 
 abbrev pub decreases-loop-j : goal.decreases-loop-j
-decreases-loop-j l =
-    l.l.count - l.j
+decreases-loop-j l = l.l.count - l.j

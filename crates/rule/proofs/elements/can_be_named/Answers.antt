@@ -10,8 +10,7 @@ use native.Mathlib.Omega.{arith}
 use Rattle.rule.proofs.elements.can_be_named.Goals as goal
 
 pub loop-at-init : goal.loop-at-init
-loop-at-init c =
-    λ body r. scan_start body r
+loop-at-init c = λ body r. scan_start body r
 
 pub returns-in_default : goal.returns-in_default
 returns-in_default c =
@@ -19,8 +18,7 @@ returns-in_default c =
     (sym c.read_field-f.ensures.value ∙ c.in_default.is)
 
 pub num-requires : goal.num-requires
-num-requires c =
-    let a = rw c.in-Got.is at c.read_field-f.ensures.ahead in omega arith
+num-requires c = let a = rw c.in-Got.is at c.read_field-f.ensures.ahead in omega arith
 
 pub returns-then-num-e : goal.returns-then-num-e
 returns-then-num-e c =
@@ -28,8 +26,7 @@ returns-then-num-e c =
     c.if-len-ge2.true c.num.ensures c.if-num-e.true)
 
 pub loop-at-smaller-else-num-e : goal.loop-at-smaller-else-num-e
-loop-at-smaller-else-num-e c =
-    let a = rw c.in-Got.is at c.read_field-f.ensures.ahead in omega arith
+loop-at-smaller-else-num-e c = let a = rw c.in-Got.is at c.read_field-f.ensures.ahead in omega arith
 
 pub loop-at-preserved-else-num-e : goal.loop-at-preserved-else-num-e
 loop-at-preserved-else-num-e c =
@@ -37,8 +34,7 @@ loop-at-preserved-else-num-e c =
     c.if-len-ge2.true c.num.ensures c.if-num-e.false
 
 pub loop-at-smaller : goal.loop-at-smaller
-loop-at-smaller c =
-    let a = rw c.in-Got.is at c.read_field-f.ensures.ahead in omega arith
+loop-at-smaller c = let a = rw c.in-Got.is at c.read_field-f.ensures.ahead in omega arith
 
 pub loop-at-preserved : goal.loop-at-preserved
 loop-at-preserved c =
@@ -46,5 +42,4 @@ loop-at-preserved c =
     (sym c.read_field-f.ensures.value ∙ c.in-Got.is) c.if-len-ge2.false
 
 pub returns : goal.returns
-returns c =
-    λ body r. sym (scan_end (c.loop-at.invariant body r) c.loop-at-test.false)
+returns c = λ body r. sym (scan_end (c.loop-at.invariant body r) c.loop-at-test.false)

@@ -10,9 +10,7 @@ use native.Mathlib.Omega.{arith}
 use Rattle.rule.proofs.elements.can_be_named.Given as goal
 
 abbrev pub invariant-loop-at : goal.invariant-loop-at
-invariant-loop-at l =
-    (body : List Field) → Run l.s l.from l.to (with_letter letter_e body) → Scanning l.s l.to l.e.0 body l.at
+invariant-loop-at l = (body : List Field) → Run l.s l.from l.to (with_letter letter_e body) → Scanning l.s l.to l.e.0 body l.at
 
 abbrev pub decreases-loop-at : goal.decreases-loop-at
-decreases-loop-at l =
-    l.to - l.at
+decreases-loop-at l = l.to - l.at

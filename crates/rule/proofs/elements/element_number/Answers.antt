@@ -9,5 +9,4 @@ num-requires c =
     let b = c.requires.elements.sized _ c.requires.k_lt_structure_limit.1 in rw c.element_field.ensures.0 (omega arith)
 
 pub returns : goal.returns
-returns c =
-    c.num.ensures ∙ rw c.element_field.ensures.0
+returns c = c.num.ensures ∙ rw c.element_field.ensures.0

@@ -11,8 +11,7 @@ use borrow.Author.Rules.{rules}
 use Rattle.rule.proofs.elements.elements_named.Goals as goal
 
 pub loop-i-init : goal.loop-i-init
-loop-i-init c =
-    (search rules, refl)
+loop-i-init c = (search rules, refl)
 
 pub returns-then-not-has_element : goal.returns-then-not-has_element
 returns-then-not-has_element c =
@@ -29,5 +28,4 @@ loop-i-preserved c = (
 )
 
 pub returns : goal.returns
-returns c =
-    sym (all_start _ _ ∙ c.loop-i.invariant.1 ∙ all_end _ _ (length_numbers_in _ _ _ c.requires.len_in_bounds) (search rules))
+returns c = sym (all_start _ _ ∙ c.loop-i.invariant.1 ∙ all_end _ _ (length_numbers_in _ _ _ c.requires.len_in_bounds) (search rules))

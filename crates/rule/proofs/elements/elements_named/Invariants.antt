@@ -16,5 +16,4 @@ invariant-loop-i l =
     ≡ all_from (λ (e : ℕ). has e (element_numbers l.s l.index l.k)) (numbers (stretch l.s l.start l.len)) l.i)
 
 abbrev pub decreases-loop-i : goal.decreases-loop-i
-decreases-loop-i l =
-    l.count - l.i
+decreases-loop-i l = l.count - l.i

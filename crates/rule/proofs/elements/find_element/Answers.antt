@@ -21,12 +21,10 @@ returns-then-x-e c =
     (sym c.element_number-x.ensures ∙ c.if-x-e.true)
 
 pub loop-low-init : goal.loop-low-init
-loop-low-init c =
-    (omega arith, search_start c.requires.elements _ c.element_count-n.ensures)
+loop-low-init c = (omega arith, search_start c.requires.elements _ c.element_count-n.ensures)
 
 pub overflow_add-mid : goal.overflow_add-mid
-overflow_add-mid c =
-    let within = c.loop-low.invariant.1.within in let few = c.requires.elements.few in omega arith
+overflow_add-mid c = let within = c.loop-low.invariant.1.within in let few = c.requires.elements.few in omega arith
 
 pub element_number-x-requires-in-loop-low : goal.element_number-x-requires-in-loop-low
 element_number-x-requires-in-loop-low c =
@@ -41,8 +39,7 @@ returns-then-x-e-2 c =
     search_found c.requires.elements _ _ (omega arith) (sym c.element_number-x-in-loop-low.ensures ∙ c.if-x-e-2.true)
 
 pub overflow_add-low : goal.overflow_add-low
-overflow_add-low c =
-    let within = c.loop-low.invariant.1.within in let few = c.requires.elements.few in omega arith
+overflow_add-low c = let within = c.loop-low.invariant.1.within in let few = c.requires.elements.few in omega arith
 
 pub loop-low-preserved-then-x-e-3 : goal.loop-low-preserved-then-x-e-3
 loop-low-preserved-then-x-e-3 c = (
@@ -60,5 +57,4 @@ loop-low-preserved c =
     )
 
 pub returns : goal.returns
-returns c =
-    search_none c.requires.elements _ c.loop-low.invariant.1 c.loop-low-test.false
+returns c = search_none c.requires.elements _ c.loop-low.invariant.1 c.loop-low-test.false

@@ -13,8 +13,7 @@ use borrow.Author.Rules.{rules}
 use Rattle.rule.proofs.elements.parents_named.Goals as goal
 
 pub loop-i-init : goal.loop-i-init
-loop-i-init c =
-    (search rules, λ body r. refl)
+loop-i-init c = (search rules, λ body r. refl)
 
 pub returns-then-not-can_be_named : goal.returns-then-not-can_be_named
 returns-then-not-can_be_named c =
@@ -31,5 +30,4 @@ loop-i-preserved c = (
 )
 
 pub returns : goal.returns
-returns c =
-    λ body r. sym (all_start _ _ ∙ c.loop-i.invariant.1 body r ∙ all_end _ _ (length_numbers_in _ _ _ c.requires) (search rules))
+returns c = λ body r. sym (all_start _ _ ∙ c.loop-i.invariant.1 body r ∙ all_end _ _ (length_numbers_in _ _ _ c.requires) (search rules))

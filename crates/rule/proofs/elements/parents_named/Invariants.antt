@@ -19,5 +19,4 @@ invariant-loop-i l =
     ≡ all_from (λ (e : ℕ). has e (named_elements body)) (numbers (stretch l.s l.start l.len)) l.i)
 
 abbrev pub decreases-loop-i : goal.decreases-loop-i
-decreases-loop-i l =
-    l.count - l.i
+decreases-loop-i l = l.count - l.i

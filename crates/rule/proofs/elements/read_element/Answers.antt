@@ -4,8 +4,7 @@ use Rattle.rule.proofs.ElementLaws.{element_within, element_is}
 use Rattle.rule.proofs.elements.read_element.Goals as goal
 
 pub num-requires : goal.num-requires
-num-requires c =
-    let w = element_within c.requires.elements_at _ c.requires.k_lt_structure_limit.1 in rw c.element_field-at.ensures.0 (omega arith)
+num-requires c = let w = element_within c.requires.elements_at _ c.requires.k_lt_structure_limit.1 in rw c.element_field-at.ensures.0 (omega arith)
 
 pub num-requires-2 : goal.num-requires-2
 num-requires-2 c =

@@ -7,8 +7,7 @@ use borrow.Author.Rules.{rules}
 use Rattle.rule.proofs.faults.auxiliary_fault.Goals as goal
 
 pub returns-then-f-ne3 : goal.returns-then-f-ne3
-returns-then-f-ne3 c =
-    λ letter named n. sym (auxiliary_short _ _ _ c.requires.0 letter named _ _ c.if-f-ne3.true)
+returns-then-f-ne3 c = λ letter named n. sym (auxiliary_short _ _ _ c.requires.0 letter named _ _ c.if-f-ne3.true)
 
 pub returns-then-f-ge-MAPS : goal.returns-then-f-ge-MAPS
 returns-then-f-ge-MAPS c =

@@ -19,8 +19,7 @@ name_in : {l : ℕ} → l ≡ letter_i ⊎ l ≡ letter_v → l ≡ letter_r ⊎
 name_in = ⊎_elim (λ i. inr (inr (inr i))) (λ v. inr (inr (inl v)))
 
 pub overflow_sub-structures : goal.overflow_sub-structures
-overflow_sub-structures c =
-    let h = c.requires.le_structures (row_in c.in-82.is) in omega arith
+overflow_sub-structures c = let h = c.requires.le_structures (row_in c.in-82.is) in omega arith
 
 pub row_fault-requires : goal.row_fault-requires
 row_fault-requires c =
@@ -33,8 +32,7 @@ row_fault-requires c =
     }
 
 pub overflow_sub-structures-in-86 : goal.overflow_sub-structures-in-86
-overflow_sub-structures-in-86 c =
-    let h = c.requires.le_structures (name_in c.in-86.is) in omega arith
+overflow_sub-structures-in-86 c = let h = c.requires.le_structures (name_in c.in-86.is) in omega arith
 
 pub name_fault-requires : goal.name_fault-requires
 name_fault-requires c =
@@ -48,18 +46,15 @@ name_fault-requires c =
 
 pub returns-in-78 : goal.returns-in-78
 unfolding check_of
-returns-in-78 c =
-    rw c.in-78.is (c.head_fault.ensures 78 _ _)
+returns-in-78 c = rw c.in-78.is (c.head_fault.ensures 78 _ _)
 
 pub returns-in-77 : goal.returns-in-77
 unfolding check_of
-returns-in-77 c =
-    rw c.in-77.is (c.map_fault.ensures 77)
+returns-in-77 c = rw c.in-77.is (c.map_fault.ensures 77)
 
 pub returns-in-75 : goal.returns-in-75
 unfolding check_of
-returns-in-75 c =
-    rw c.in-75.is (c.kind_fault.ensures 75 _ (named_length _ _ _))
+returns-in-75 c = rw c.in-75.is (c.kind_fault.ensures 75 _ (named_length _ _ _))
 
 pub returns-in-82 : goal.returns-in-82
 returns-in-82 c =

@@ -5,8 +5,7 @@ use borrow.Author.Rules.{rules}
 use Rattle.rule.proofs.faults.head_fault.Goals as goal
 
 pub returns-then-len-lt2 : goal.returns-then-len-lt2
-returns-then-len-lt2 c =
-    λ letter before last. sym (head_tests _ _ _ c.requires letter before last ∙ rw (lt-ltb _ _ c.if-len-lt2.true))
+returns-then-len-lt2 c = λ letter before last. sym (head_tests _ _ _ c.requires letter before last ∙ rw (lt-ltb _ _ c.if-len-lt2.true))
 
 pub returns-then-bad_name : goal.returns-then-bad_name
 returns-then-bad_name c =

@@ -7,8 +7,7 @@ use native.Mathlib.Omega.{arith}
 use Rattle.rule.proofs.faults.keys_ascend.Goals as goal
 
 pub loop-i-init : goal.loop-i-init
-loop-i-init c =
-    (omega arith, refl)
+loop-i-init c = (omega arith, refl)
 
 pub returns-then-num : goal.returns-then-num
 returns-then-num c =
@@ -23,5 +22,4 @@ loop-i-preserved c = (
 )
 
 pub returns : goal.returns
-returns c =
-    sym (keys_start _ _ _ ∙ c.loop-i.invariant.1 ∙ keys_end _ _ _ c.requires _ c.loop-i-test.false)
+returns c = sym (keys_start _ _ _ ∙ c.loop-i.invariant.1 ∙ keys_end _ _ _ c.requires _ c.loop-i-test.false)

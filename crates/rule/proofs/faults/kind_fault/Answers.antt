@@ -5,8 +5,7 @@ use borrow.Author.Rules.{rules}
 use Rattle.rule.proofs.faults.kind_fault.Goals as goal
 
 pub returns-then-f-ne5 : goal.returns-then-f-ne5
-returns-then-f-ne5 c =
-    λ letter named n. sym (kind_short _ _ _ c.requires.0 letter named _ _ c.if-f-ne5.true)
+returns-then-f-ne5 c = λ letter named n. sym (kind_short _ _ _ c.requires.0 letter named _ _ c.if-f-ne5.true)
 
 pub returns-then-f-ge-MAPS : goal.returns-then-f-ge-MAPS
 returns-then-f-ge-MAPS c =

@@ -11,12 +11,10 @@ use native.Mathlib.Omega.{arith}
 use Rattle.rule.proofs.faults.map_fault.Goals as goal
 
 pub returns-then-len-lt4 : goal.returns-then-len-lt4
-returns-then-len-lt4 c =
-    λ letter. sym (map_short _ _ _ c.requires.lies.0 letter _ _ _ c.if-len-lt4.true)
+returns-then-len-lt4 c = λ letter. sym (map_short _ _ _ c.requires.lies.0 letter _ _ _ c.if-len-lt4.true)
 
 pub returns-then-len-ne0 : goal.returns-then-len-ne0
-returns-then-len-ne0 c =
-    λ letter. sym (map_odd _ _ _ c.requires.lies.0 letter _ _ _ c.if-len-lt4.false (low_bits_not _ 2 c.if-len-ne0.true))
+returns-then-len-ne0 c = λ letter. sym (map_odd _ _ _ c.requires.lies.0 letter _ _ _ c.if-len-lt4.false (low_bits_not _ 2 c.if-len-ne0.true))
 
 pub returns-then-f-ge-MAPS : goal.returns-then-f-ge-MAPS
 returns-then-f-ge-MAPS c =

@@ -5,8 +5,7 @@ use borrow.Author.Rules.{rules}
 use Rattle.rule.proofs.faults.name_fault.Goals as goal
 
 pub returns-then-f-count : goal.returns-then-f-count
-returns-then-f-count c =
-    λ letter. sym (name_short _ _ _ c.requires.lies.0 letter _ _ _ _ _ c.if-f-count.true)
+returns-then-f-count c = λ letter. sym (name_short _ _ _ c.requires.lies.0 letter _ _ _ _ _ c.if-f-count.true)
 
 pub returns-then-f-ge-FIELDS : goal.returns-then-f-ge-FIELDS
 returns-then-f-ge-FIELDS c =

@@ -10,8 +10,7 @@ use borrow.Author.Rules.{rules}
 use Rattle.rule.proofs.faults.pairs_named.Goals as goal
 
 pub loop-i-init : goal.loop-i-init
-loop-i-init c =
-    refl
+loop-i-init c = refl
 
 pub has_element-requires : goal.has_element-requires
 has_element-requires c =
@@ -55,5 +54,4 @@ loop-i-preserved c =
     ))
 
 pub returns : goal.returns
-returns c =
-    sym (pairs_start _ _ _ _ ∙ c.loop-i.invariant ∙ pairs_end _ _ _ c.requires.source_lt_structure_limit.2 _ _ c.loop-i-test.false)
+returns c = sym (pairs_start _ _ _ _ ∙ c.loop-i.invariant ∙ pairs_end _ _ _ c.requires.source_lt_structure_limit.2 _ _ c.loop-i-test.false)

@@ -13,5 +13,4 @@ invariant-loop-i l =
     all_pairs l.s l.start l.count part 0 ≡ all_pairs l.s l.start l.count part l.i
 
 abbrev pub decreases-loop-i : goal.decreases-loop-i
-decreases-loop-i l =
-    l.count - l.i
+decreases-loop-i l = l.count - l.i

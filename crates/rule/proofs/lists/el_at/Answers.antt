@@ -4,5 +4,4 @@ use borrow.Author.Rules.{rules}
 use Rattle.rule.proofs.lists.el_at.Goals as goal
 
 pub returns : goal.returns
-returns c =
-    c.num.ensures ∙ el_is c.requires.els_inside _ c.requires.i_lt_count
+returns c = c.num.ensures ∙ el_is c.requires.els_inside _ c.requires.i_lt_count

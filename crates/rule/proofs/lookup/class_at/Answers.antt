@@ -5,5 +5,4 @@ use native.Mathlib.Omega.{arith}
 use Rattle.rule.proofs.lookup.class_at.Goals as goal
 
 pub returns : goal.returns
-returns c =
-    λ letter. sym (class_is _ _ _ c.requires.0 letter (omega (arith, c.requires.1)))
+returns c = λ letter. sym (class_is _ _ _ c.requires.0 letter (omega (arith, c.requires.1)))

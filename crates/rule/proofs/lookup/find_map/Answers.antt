@@ -7,8 +7,7 @@ use native.Mathlib.Omega.{arith}
 use Rattle.rule.proofs.lookup.find_map.Goals as goal
 
 pub loop-at-init : goal.loop-at-init
-loop-at-init c =
-    rw (c.bound-to.ensures, c.bound-at.ensures) (seek_start c.requires _ _)
+loop-at-init c = rw (c.bound-to.ensures, c.bound-at.ensures) (seek_start c.requires _ _)
 
 pub returns-in_default : goal.returns-in_default
 returns-in_default c =
@@ -29,8 +28,7 @@ returns-then-joins c =
     (c.joins.ensures letter_m) c.if-joins.true
 
 pub loop-at-smaller : goal.loop-at-smaller
-loop-at-smaller c =
-    let a = rw c.in-Got.is at c.read_field-f.ensures.ahead in omega arith
+loop-at-smaller c = let a = rw c.in-Got.is at c.read_field-f.ensures.ahead in omega arith
 
 pub loop-at-preserved : goal.loop-at-preserved
 loop-at-preserved c =
@@ -38,5 +36,4 @@ loop-at-preserved c =
     (c.joins.ensures letter_m) c.if-joins.false
 
 pub returns : goal.returns
-returns c =
-    seek_end c.loop-at.invariant c.loop-at-test.false
+returns c = seek_end c.loop-at.invariant c.loop-at-test.false

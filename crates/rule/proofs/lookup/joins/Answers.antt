@@ -4,8 +4,7 @@ use borrow.Author.Rules.{rules}
 use Rattle.rule.proofs.lookup.joins.Goals as goal
 
 pub returns-then-source_at-source : goal.returns-then-source_at-source
-returns-then-source_at-source c =
-    λ letter. sym (rw (← (c.source_at.ensures.by_index letter), ne_eqb _ _ c.if-source_at-source.true))
+returns-then-source_at-source c = λ letter. sym (rw (← (c.source_at.ensures.by_index letter), ne_eqb _ _ c.if-source_at-source.true))
 
 pub returns : goal.returns
 returns c =

@@ -4,16 +4,13 @@ use borrow.Author.Rules.{rules}
 use Rattle.rule.proofs.lookup.kind_at.Goals as goal
 
 pub returns-in-1 : goal.returns-in-1
-returns-in-1 c =
-    λ letter. sym (kind_is _ _ _ letter c.requires.1 ∙ rw c.in-1.is)
+returns-in-1 c = λ letter. sym (kind_is _ _ _ letter c.requires.1 ∙ rw c.in-1.is)
 
 pub returns-in-2 : goal.returns-in-2
-returns-in-2 c =
-    λ letter. sym (kind_is _ _ _ letter c.requires.1 ∙ rw c.in-2.is)
+returns-in-2 c = λ letter. sym (kind_is _ _ _ letter c.requires.1 ∙ rw c.in-2.is)
 
 pub returns-in-3 : goal.returns-in-3
-returns-in-3 c =
-    λ letter. sym (kind_is _ _ _ letter c.requires.1 ∙ rw c.in-3.is)
+returns-in-3 c = λ letter. sym (kind_is _ _ _ letter c.requires.1 ∙ rw c.in-3.is)
 
 pub returns-in_default : goal.returns-in_default
 returns-in_default c =

@@ -4,5 +4,4 @@ use borrow.Author.Rules.{rules}
 use Rattle.rule.proofs.lookup.structure_at.Goals as goal
 
 pub returns : goal.returns
-returns c =
-    λ letter. c.two.ensures.value ∙ structure_number_is _ _ _ c.requires.0 letter c.requires.1
+returns c = λ letter. c.two.ensures.value ∙ structure_number_is _ _ _ c.requires.0 letter c.requires.1

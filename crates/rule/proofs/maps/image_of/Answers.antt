@@ -12,8 +12,7 @@ returns-then-x-e c =
     ∙ found c.requires _ _ c.if-guess-m.true (sym c.pair_key-x.ensures ∙ c.if-x-e.true)
 
 pub loop-low-init : goal.loop-low-init
-loop-low-init c =
-    between_all _ _ _
+loop-low-init c = between_all _ _ _
 
 pub pair_key-x-requires-in-loop-low : goal.pair_key-x-requires-in-loop-low
 pair_key-x-requires-in-loop-low c =
@@ -35,13 +34,10 @@ returns-then-x-e-2 c =
     ∙ found c.requires _ _ (omega (arith, c.loop-low.invariant.within)) (sym c.pair_key-x-in-loop-low.ensures ∙ c.if-x-e-2.true)
 
 pub loop-low-preserved-then-x-e-3 : goal.loop-low-preserved-then-x-e-3
-loop-low-preserved-then-x-e-3 c =
-    between_up c.requires c.loop-low.invariant _ (omega arith) (rw c.pair_key-x-in-loop-low.ensures at c.if-x-e-3.true)
+loop-low-preserved-then-x-e-3 c = between_up c.requires c.loop-low.invariant _ (omega arith) (rw c.pair_key-x-in-loop-low.ensures at c.if-x-e-3.true)
 
 pub loop-low-preserved : goal.loop-low-preserved
-loop-low-preserved c =
-    between_down c.requires c.loop-low.invariant _ (omega arith) (rw (← c.pair_key-x-in-loop-low.ensures) (omega arith))
+loop-low-preserved c = between_down c.requires c.loop-low.invariant _ (omega arith) (rw (← c.pair_key-x-in-loop-low.ensures) (omega arith))
 
 pub returns : goal.returns
-returns c =
-    not_found c.requires c.loop-low.invariant c.loop-low-test.false
+returns c = not_found c.requires c.loop-low.invariant c.loop-low-test.false

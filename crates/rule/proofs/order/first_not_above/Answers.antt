@@ -4,12 +4,10 @@ use native.Mathlib.Omega.{arith}
 use Rattle.rule.proofs.order.first_not_above.Goals as goal
 
 pub less_numbers-requires : goal.less_numbers-requires
-less_numbers-requires c =
-    let l = rw c.in-Content.is at c.requires.last_in.is in omega arith
+less_numbers-requires c = let l = rw c.in-Content.is at c.requires.last_in.is in omega arith
 
 pub returns-in-Nothing : goal.returns-in-Nothing
-returns-in-Nothing c =
-    λ letter. rw c.in-Nothing.is
+returns-in-Nothing c = λ letter. rw c.in-Nothing.is
 
 pub returns-in-Content : goal.returns-in-Content
 returns-in-Content c =

@@ -4,16 +4,13 @@ use native.Mathlib.Omega.{arith}
 use Rattle.rule.proofs.order.name_not_above.Goals as goal
 
 pub overflow_add-a : goal.overflow_add-a
-overflow_add-a c =
-    let l = rw c.in-Content.is at c.requires.last_in.is in omega arith
+overflow_add-a c = let l = rw c.in-Content.is at c.requires.last_in.is in omega arith
 
 pub less_bytes-requires : goal.less_bytes-requires
-less_bytes-requires c =
-    let l = rw c.in-Content.is at c.requires.last_in.is in omega arith
+less_bytes-requires c = let l = rw c.in-Content.is at c.requires.last_in.is in omega arith
 
 pub returns-in-Nothing : goal.returns-in-Nothing
-returns-in-Nothing c =
-    λ letter. rw c.in-Nothing.is
+returns-in-Nothing c = λ letter. rw c.in-Nothing.is
 
 pub returns-in-Content : goal.returns-in-Content
 returns-in-Content c =

@@ -6,12 +6,10 @@ use native.Mathlib.Omega.{arith}
 use Rattle.rule.proofs.pass.fill.Goals as goal
 
 pub loop-i-init : goal.loop-i-init
-loop-i-init c =
-    (search rules, search rules, fill_start _ _ _ c.requires.index_len)
+loop-i-init c = (search rules, search rules, fill_start _ _ _ c.requires.index_len)
 
 pub loop-i-preserved : goal.loop-i-preserved
-loop-i-preserved c =
-    (omega arith, omega arith, fill_next c.loop-i.invariant.2 (omega arith))
+loop-i-preserved c = (omega arith, omega arith, fill_next c.loop-i.invariant.2 (omega arith))
 
 pub returns : goal.returns
 returns c =

@@ -6,9 +6,7 @@ use native.Mathlib.Omega.{arith}
 use Rattle.rule.proofs.pass.fill.Given as goal
 
 abbrev pub invariant-loop-i : goal.invariant-loop-i
-invariant-loop-i l =
-    (l.section ≤ l.i) × (l.i ≤ l.to) × Filling l.initial.index l.index l.section l.at l.i
+invariant-loop-i l = (l.section ≤ l.i) × (l.i ≤ l.to) × Filling l.initial.index l.index l.section l.at l.i
 
 abbrev pub decreases-loop-i : goal.decreases-loop-i
-decreases-loop-i l =
-    l.to - l.i
+decreases-loop-i l = l.to - l.i

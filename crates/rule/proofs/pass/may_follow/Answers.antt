@@ -4,18 +4,15 @@ use Rattle.rule.proofs.pass.may_follow.Goals as goal
 
 pub returns-then-at-eq-PLACE_N : goal.returns-then-at-eq-PLACE_N
 unfolding may_follow
-returns-then-at-eq-PLACE_N c =
-    rw (eq-eqb _ _ c.if-at-eq-PLACE_N.true)
+returns-then-at-eq-PLACE_N c = rw (eq-eqb _ _ c.if-at-eq-PLACE_N.true)
 
 pub returns-then-behind-lt-PLACE_N : goal.returns-then-behind-lt-PLACE_N
 unfolding may_follow
-returns-then-behind-lt-PLACE_N c =
-    rw (ne_eqb _ _ c.if-at-eq-PLACE_N.false, lt-ltb _ _ c.if-behind-lt-PLACE_N.true)
+returns-then-behind-lt-PLACE_N c = rw (ne_eqb _ _ c.if-at-eq-PLACE_N.false, lt-ltb _ _ c.if-behind-lt-PLACE_N.true)
 
 pub returns-then-at-eq-PLACE_S : goal.returns-then-at-eq-PLACE_S
 unfolding may_follow
-returns-then-at-eq-PLACE_S c =
-    rw (ne_eqb _ _ c.if-at-eq-PLACE_N.false, le-ltb _ _ c.if-behind-lt-PLACE_N.false, eq-eqb _ _ c.if-at-eq-PLACE_S.true)
+returns-then-at-eq-PLACE_S c = rw (ne_eqb _ _ c.if-at-eq-PLACE_N.false, le-ltb _ _ c.if-behind-lt-PLACE_N.false, eq-eqb _ _ c.if-at-eq-PLACE_S.true)
 
 pub returns-then-behind-lt-PLACE_S : goal.returns-then-behind-lt-PLACE_S
 unfolding may_follow

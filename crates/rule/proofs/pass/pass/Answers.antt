@@ -35,8 +35,7 @@ returns-in_default c =
     }
 
 pub loop-at-smaller-then-behind-gt-PLACE_S : goal.loop-at-smaller-then-behind-gt-PLACE_S
-loop-at-smaller-then-behind-gt-PLACE_S c =
-    let ahead = rw c.in-Got.is at c.read_field-f.ensures.ahead in omega arith
+loop-at-smaller-then-behind-gt-PLACE_S c = let ahead = rw c.in-Got.is at c.read_field-f.ensures.ahead in omega arith
 
 pub loop-at-preserved-then-behind-gt-PLACE_S : goal.loop-at-preserved-then-behind-gt-PLACE_S
 loop-at-preserved-then-behind-gt-PLACE_S c =
@@ -64,8 +63,7 @@ returns-then-not-may_follow c =
     }
 
 pub counted-n-requires : goal.counted-n-requires
-counted-n-requires c =
-    let few = c.loop-at.invariant.1.few in omega arith
+counted-n-requires c = let few = c.loop-at.invariant.1.few in omega arith
 
 pub ended-requires-then-n-gt-STRUCTURES : goal.ended-requires-then-n-gt-STRUCTURES
 ended-requires-then-n-gt-STRUCTURES c =

@@ -11,9 +11,7 @@ use native.Mathlib.Omega.{arith}
 use Rattle.rule.proofs.pass.pass.Given as goal
 
 abbrev pub invariant-loop-at : goal.invariant-loop-at
-invariant-loop-at l =
-    (length l.index ≡ rule_index) × Passing l.s l.index l.at l.behind l.section l.structures × (l.behind ≡ place_of l.last)
+invariant-loop-at l = (length l.index ≡ rule_index) × Passing l.s l.index l.at l.behind l.section l.structures × (l.behind ≡ place_of l.last)
 
 abbrev pub decreases-loop-at : goal.decreases-loop-at
-decreases-loop-at l =
-    length l.s - l.at
+decreases-loop-at l = length l.s - l.at

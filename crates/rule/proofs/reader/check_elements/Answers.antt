@@ -10,8 +10,7 @@ use native.Mathlib.Omega.{arith}
 use Rattle.rule.proofs.reader.check_elements.Goals as goal
 
 pub loop-at-init : goal.loop-at-init
-loop-at-init c =
-    (record { is = tt }, store_start _ _ _ c.requires.index_len, λ body r. list_start body r)
+loop-at-init c = (record { is = tt }, store_start _ _ _ c.requires.index_len, λ body r. list_start body r)
 
 pub returns-in_default : goal.returns-in_default
 returns-in_default c =
@@ -42,8 +41,7 @@ returns-in_default-fault c =
     }
 
 pub overflow_cast-index : goal.overflow_cast-index
-overflow_cast-index c =
-    let a = rw c.in-Got.is at c.read_field-f.ensures.ahead in omega arith
+overflow_cast-index c = let a = rw c.in-Got.is at c.read_field-f.ensures.ahead in omega arith
 
 pub overflow_add-index-in-loop-at : goal.overflow_add-index-in-loop-at
 overflow_add-index-in-loop-at c =
@@ -61,12 +59,10 @@ overflow_add-count c =
     omega arith
 
 pub overflow_add-at : goal.overflow_add-at
-overflow_add-at c =
-    let a = rw c.in-Got.is at c.read_field-f.ensures.ahead in omega arith
+overflow_add-at c = let a = rw c.in-Got.is at c.read_field-f.ensures.ahead in omega arith
 
 pub loop-at-smaller : goal.loop-at-smaller
-loop-at-smaller c =
-    let a = rw c.in-Got.is at c.read_field-f.ensures.ahead in omega arith
+loop-at-smaller c = let a = rw c.in-Got.is at c.read_field-f.ensures.ahead in omega arith
 
 pub loop-at-preserved : goal.loop-at-preserved
 loop-at-preserved c =
@@ -80,8 +76,7 @@ loop-at-preserved c =
     )
 
 pub overflow_cast-index-2 : goal.overflow_cast-index-2
-overflow_cast-index-2 c =
-    let a = c.loop-at.invariant.1.few in omega arith
+overflow_cast-index-2 c = let a = c.loop-at.invariant.1.few in omega arith
 
 pub returns : goal.returns
 returns c =

@@ -18,5 +18,4 @@ invariant-loop-at l =
     l.to l.k body l.at l.count (last_field l.s letter_e l.last))
 
 abbrev pub decreases-loop-at : goal.decreases-loop-at
-decreases-loop-at l =
-    l.to - l.at
+decreases-loop-at l = l.to - l.at

@@ -17,8 +17,7 @@ check_section-r-requires c =
     }
 
 pub returns-in_default : goal.returns-in_default
-returns-in_default c =
-    λ body b e. rest_r _ b e c.check_section-r.ensures c.in_default.is
+returns-in_default c = λ body b e. rest_r _ b e c.check_section-r.ensures c.in_default.is
 
 pub returns-then-bound : goal.returns-then-bound
 returns-then-bound c =
@@ -35,8 +34,7 @@ check_section-a-requires c =
     }
 
 pub returns-in_default-a : goal.returns-in_default-a
-returns-in_default-a c =
-    λ body b e. rest_a _ b e c.check_section-r.ensures c.in-Sound.is c.check_section-a.ensures c.in_default-a.is
+returns-in_default-a c = λ body b e. rest_a _ b e c.check_section-r.ensures c.in-Sound.is c.check_section-a.ensures c.in_default-a.is
 
 pub check_section-v-requires : goal.check_section-v-requires
 check_section-v-requires c =

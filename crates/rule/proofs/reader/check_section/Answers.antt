@@ -7,12 +7,10 @@ use native.Mathlib.Omega.{arith}
 use Rattle.rule.proofs.reader.check_section.Goals as goal
 
 pub loop-at-init : goal.loop-at-init
-loop-at-init c =
-    (omega arith, record { is = tt }, λ fs r. rw (c.bound-to.ensures, c.bound-at.ensures) (check_start fs r))
+loop-at-init c = (omega arith, record { is = tt }, λ fs r. rw (c.bound-to.ensures, c.bound-at.ensures) (check_start fs r))
 
 pub returns-in_default : goal.returns-in_default
-returns-in_default c =
-    λ fs r. check_bad (c.loop-at.invariant.2 fs r) c.loop-at-test.true (sym c.read_field-f.ensures.value ∙ c.in_default.is)
+returns-in_default c = λ fs r. check_bad (c.loop-at.invariant.2 fs r) c.loop-at-test.true (sym c.read_field-f.ensures.value ∙ c.in_default.is)
 
 pub field_fault-fault-requires : goal.field_fault-fault-requires
 field_fault-fault-requires c =
@@ -30,16 +28,13 @@ returns-in_default-fault c =
     c.in_default-fault.is (rw c.spot_of-spot.ensures at c.field_fault-fault.ensures)
 
 pub overflow_add-count : goal.overflow_add-count
-overflow_add-count c =
-    let ahead = rw c.in-Got.is at c.read_field-f.ensures.ahead in omega arith
+overflow_add-count c = let ahead = rw c.in-Got.is at c.read_field-f.ensures.ahead in omega arith
 
 pub overflow_add-at : goal.overflow_add-at
-overflow_add-at c =
-    let ahead = rw c.in-Got.is at c.read_field-f.ensures.ahead in omega arith
+overflow_add-at c = let ahead = rw c.in-Got.is at c.read_field-f.ensures.ahead in omega arith
 
 pub loop-at-smaller : goal.loop-at-smaller
-loop-at-smaller c =
-    let ahead = rw c.in-Got.is at c.read_field-f.ensures.ahead in omega arith
+loop-at-smaller c = let ahead = rw c.in-Got.is at c.read_field-f.ensures.ahead in omega arith
 
 pub loop-at-preserved : goal.loop-at-preserved
 loop-at-preserved c =
@@ -51,5 +46,4 @@ loop-at-preserved c =
     )
 
 pub returns : goal.returns
-returns c =
-    λ fs r. check_end (c.loop-at.invariant.2 fs r) c.loop-at-test.false
+returns c = λ fs r. check_end (c.loop-at.invariant.2 fs r) c.loop-at-test.false

@@ -17,5 +17,4 @@ invariant-loop-at l =
     l.to fs l.at l.count (last_field l.s l.letter l.last))
 
 abbrev pub decreases-loop-at : goal.decreases-loop-at
-decreases-loop-at l =
-    l.to - l.at
+decreases-loop-at l = l.to - l.at

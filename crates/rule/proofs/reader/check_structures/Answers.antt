@@ -8,12 +8,10 @@ use native.Mathlib.Omega.{arith}
 use Rattle.rule.proofs.reader.check_structures.Goals as goal
 
 pub loop-k-init : goal.loop-k-init
-loop-k-init c =
-    (omega arith, c.requires.index_len, kept_same, known_none, λ bs w. go_start bs)
+loop-k-init c = (omega arith, c.requires.index_len, kept_same, known_none, λ bs w. go_start bs)
 
 pub check_head-h-requires : goal.check_head-h-requires
-check_head-h-requires c =
-    let a = c.loop-k.invariant.3.few in omega arith
+check_head-h-requires c = let a = c.loop-k.invariant.3.few in omega arith
 
 pub returns-in_default : goal.returns-in_default
 returns-in_default c =

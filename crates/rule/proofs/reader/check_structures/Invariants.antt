@@ -16,5 +16,4 @@ invariant-loop-k l =
     × ((bs : List Block) → Structured l.s l.initial.index l.structures bs → Going (signature_at l.sig l.symbols l.counts) l.s l.index bs l.k)
 
 abbrev pub decreases-loop-k : goal.decreases-loop-k
-decreases-loop-k l =
-    l.structures - l.k
+decreases-loop-k l = l.structures - l.k

@@ -14,8 +14,7 @@ check_section-m-requires c =
     }
 
 pub returns-in_default : goal.returns-in_default
-returns-in_default c =
-    λ fs b e. tail_m _ _ b e c.check_section-m.ensures c.in_default.is
+returns-in_default c = λ fs b e. tail_m _ _ b e c.check_section-m.ensures c.in_default.is
 
 pub check_section-k-requires : goal.check_section-k-requires
 check_section-k-requires c =

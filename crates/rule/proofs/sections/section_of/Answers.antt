@@ -4,5 +4,4 @@ use Rattle.rule.proofs.sections.section_of.Goals as goal
 
 pub returns : goal.returns
 unfolding section_from section_to
-returns c =
-    (c.bound.ensures, c.bound-2.ensures)
+returns c = (c.bound.ensures, c.bound-2.ensures)

@@ -4,10 +4,8 @@ use Rattle.scope.proofs.rules.part_of.Goals as goal
 
 pub returns-in-Premises : goal.returns-in-Premises
 unfolding begin_of end_of
-returns-in-Premises c =
-    search rules
+returns-in-Premises c = search rules
 
 pub returns-in-Conclusions : goal.returns-in-Conclusions
 unfolding begin_of end_of
-returns-in-Conclusions c =
-    search rules
+returns-in-Conclusions c = search rules

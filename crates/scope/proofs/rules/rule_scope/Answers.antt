@@ -11,8 +11,7 @@ returns-then-rule c =
     }
 
 pub read_statement-first-requires : goal.read_statement-first-requires
-read_statement-first-requires c =
-    statement_here c.requires.rule_stands.conclusion c.if-rule.false
+read_statement-first-requires c = statement_here c.requires.rule_stands.conclusion c.if-rule.false
 
 pub output_scope-requires : goal.output_scope-requires
 output_scope-requires c =

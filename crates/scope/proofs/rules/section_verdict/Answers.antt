@@ -14,12 +14,10 @@ use native.Mathlib.Omega.{arith}
 use Rattle.scope.proofs.rules.section_verdict.Goals as goal
 
 pub loop-at-init : goal.loop-at-init
-loop-at-init c =
-    (rw (c.part_of-part.ensures.0, c.part_of-part.ensures.1) (section_of c.requires.rule_stands _), refl)
+loop-at-init c = (rw (c.part_of-part.ensures.0, c.part_of-part.ensures.1) (section_of c.requires.rule_stands _), refl)
 
 pub read_statement-t-requires : goal.read_statement-t-requires
-read_statement-t-requires c =
-    statement_here c.loop-at.invariant.0 c.loop-at-test.true
+read_statement-t-requires c = statement_here c.loop-at.invariant.0 c.loop-at-test.true
 
 pub statement_verdict-v-requires : goal.statement_verdict-v-requires
 statement_verdict-v-requires c =
@@ -39,8 +37,7 @@ returns-then-not-is_open c =
     (sym (c.loop-at.invariant.1 ∙ stops _ n v.result v.ensures c.is_open.ensures (not-true c.is_open.result c.if-not-is_open.true-raw)))
 
 pub loop-at-smaller : goal.loop-at-smaller
-loop-at-smaller c =
-    let e = c.read_statement-t.ensures.ends in omega arith
+loop-at-smaller c = let e = c.read_statement-t.ensures.ends in omega arith
 
 pub loop-at-preserved : goal.loop-at-preserved
 loop-at-preserved c =

@@ -19,5 +19,4 @@ invariant-loop-at l =
     × (first_of f (statements_in l.s l.part.from l.part.end) ≡ first_of f (statements_in l.s l.at l.part.end))
 
 abbrev pub decreases-loop-at : goal.decreases-loop-at
-decreases-loop-at l =
-    l.part.end - l.at
+decreases-loop-at l = l.part.end - l.at

@@ -30,5 +30,4 @@ loop-i-preserved c = (
 )
 
 pub returns : goal.returns
-returns c =
-    sym (c.loop-i.invariant.1 ∙ has_end _ _ _ c.type_parents-n.ensures c.loop-i-test.false)
+returns c = sym (c.loop-i.invariant.1 ∙ has_end _ _ _ c.type_parents-n.ensures c.loop-i-test.false)

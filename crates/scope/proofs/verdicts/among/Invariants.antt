@@ -15,5 +15,4 @@ invariant-loop-i l =
     (l.i ≤ l.n) × (has l.x.0 part ≡ has l.x.0 (drop l.i part))
 
 abbrev pub decreases-loop-i : goal.decreases-loop-i
-decreases-loop-i l =
-    l.n - l.i
+decreases-loop-i l = l.n - l.i

@@ -4,8 +4,7 @@ use Rattle.scope.proofs.Settling.{enough, prefix_at, short, alike, unlike}
 use Rattle.scope.proofs.verdicts.compared.Goals as goal
 
 pub returns-then-too_few : goal.returns-then-too_few
-returns-then-too_few c =
-    short _ _ c.args.t c.requires.count_le_count c.requires.variables_at (sym c.too_few.ensures ∙ c.if-too_few.true)
+returns-then-too_few c = short _ _ c.args.t c.requires.count_le_count c.requires.variables_at (sym c.too_few.ensures ∙ c.if-too_few.true)
 
 pub same_variables-requires : goal.same_variables-requires
 same_variables-requires c =

@@ -3,8 +3,7 @@ use Rattle.signature.proofs.ByKind.{counted, kind_known}
 use Rattle.scope.proofs.verdicts.statement_model.Goals as goal
 
 pub relation-requires : goal.relation-requires
-relation-requires c =
-    kind_known _ _ c.requires.symbol_bound
+relation-requires c = kind_known _ _ c.requires.symbol_bound
 
 pub parent_model_type-requires : goal.parent_model_type-requires
 parent_model_type-requires c =

@@ -6,8 +6,7 @@ use native.Mathlib.Omega.{arith}
 use Rattle.scope.proofs.verdicts.statement_verdict.Goals as goal
 
 pub returns-in_default : goal.returns-in_default
-returns-in_default c =
-    c.without_model.ensures ∙ no_model _ _ _ _ _ c.statement_model-p.ensures.result_value _ c.in_default.is
+returns-in_default c = c.without_model.ensures ∙ no_model _ _ _ _ _ c.statement_model-p.ensures.result_value _ c.in_default.is
 
 pub suits-requires : goal.suits-requires
 suits-requires c =

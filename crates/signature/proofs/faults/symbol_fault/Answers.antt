@@ -6,8 +6,7 @@ use Rattle.signature.proofs.Drawn.{symbol_even, symbol_short, symbol_columns}
 use Rattle.signature.proofs.faults.symbol_fault.Goals as goal
 
 pub returns-then-len-ne1 : goal.returns-then-len-ne1
-returns-then-len-ne1 c =
-    λ letter last. symbol_even _ _ _ c.requires.0 _ _ letter last _ (low_bits_not _ 1 c.if-len-ne1.true)
+returns-then-len-ne1 c = λ letter last. symbol_even _ _ _ c.requires.0 _ _ letter last _ (low_bits_not _ 1 c.if-len-ne1.true)
 
 pub returns-then-len-wide : goal.returns-then-len-wide
 returns-then-len-wide c =

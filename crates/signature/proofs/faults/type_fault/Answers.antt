@@ -5,8 +5,7 @@ use Rattle.signature.proofs.Drawn.{type_odd, type_even}
 use Rattle.signature.proofs.faults.type_fault.Goals as goal
 
 pub returns-then-len-eq1 : goal.returns-then-len-eq1
-returns-then-len-eq1 c =
-    λ letter last. type_odd _ _ _ c.requires _ _ letter last (low_bits _ 1 c.if-len-eq1.true)
+returns-then-len-eq1 c = λ letter last. type_odd _ _ _ c.requires _ _ letter last (low_bits _ 1 c.if-len-eq1.true)
 
 pub returns : goal.returns
 returns c =

@@ -43,30 +43,24 @@ flat_domain-requires c =
 
 pub returns-in-Predicate : goal.returns-in-Predicate
 unfolding arity
-returns-in-Predicate c =
-    rw c.in-Predicate.is c.pred_columns.ensures
+returns-in-Predicate c = rw c.in-Predicate.is c.pred_columns.ensures
 
 pub returns-in-Function : goal.returns-in-Function
 unfolding arity
-returns-in-Function c =
-    rw c.in-Function.is c.func_columns.ensures
+returns-in-Function c = rw c.in-Function.is c.func_columns.ensures
 
 pub returns-in-Member : goal.returns-in-Member
 unfolding arity
-returns-in-Member c =
-    rw (c.in-Member.is, c.type_parents.ensures)
+returns-in-Member c = rw (c.in-Member.is, c.type_parents.ensures)
 
 pub returns-in-Equality : goal.returns-in-Equality
 unfolding arity
-returns-in-Equality c =
-    search rules
+returns-in-Equality c = search rules
 
 pub returns-in-TypeSet : goal.returns-in-TypeSet
 unfolding arity
-returns-in-TypeSet c =
-    search rules
+returns-in-TypeSet c = search rules
 
 pub returns-in-FuncDomain : goal.returns-in-FuncDomain
 unfolding arity
-returns-in-FuncDomain c =
-    rw c.in-FuncDomain.is c.flat_domain.ensures
+returns-in-FuncDomain c = rw c.in-FuncDomain.is c.flat_domain.ensures

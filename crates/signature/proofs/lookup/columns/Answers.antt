@@ -10,5 +10,4 @@ content_at-c-requires c =
     }
 
 pub returns : goal.returns
-returns c =
-    rw c.content_at-c.ensures.len_value (sym (columns_of_lem c.requires.columned))
+returns c = rw c.content_at-c.ensures.len_value (sym (columns_of_lem c.requires.columned))

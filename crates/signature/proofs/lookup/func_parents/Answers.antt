@@ -10,5 +10,4 @@ parents-requires c =
     }
 
 pub returns : goal.returns
-returns c =
-    rw (func_at c.requires.indexed _ c.requires.f_lt_funcs, ← c.place.ensures.0) c.parents.ensures
+returns c = rw (func_at c.requires.indexed _ c.requires.f_lt_funcs, ← c.place.ensures.0) c.parents.ensures

@@ -12,16 +12,13 @@ content_at-c-requires c =
     }
 
 pub overflow_mul-i : goal.overflow_mul-i
-overflow_mul-i c =
-    omega (arith, parent_room c.requires.columned _ c.requires.lt_index_size.1)
+overflow_mul-i c = omega (arith, parent_room c.requires.columned _ c.requires.lt_index_size.1)
 
 pub overflow_add-c-2 : goal.overflow_add-c-2
-overflow_add-c-2 c =
-    omega (arith, parent_room c.requires.columned _ c.requires.lt_index_size.1)
+overflow_add-c-2 c = omega (arith, parent_room c.requires.columned _ c.requires.lt_index_size.1)
 
 pub num-requires : goal.num-requires
-num-requires c =
-    rw c.content_at-c.ensures.start_value (parent_room c.requires.columned _ c.requires.lt_index_size.1)
+num-requires c = rw c.content_at-c.ensures.start_value (parent_room c.requires.columned _ c.requires.lt_index_size.1)
 
 pub returns : goal.returns
 returns c =

@@ -43,13 +43,11 @@ returns-in-Member c =
 
 pub returns-in-Equality : goal.returns-in-Equality
 unfolding parent_model
-returns-in-Equality c =
-    search rules
+returns-in-Equality c = search rules
 
 pub returns-in-TypeSet : goal.returns-in-TypeSet
 unfolding parent_model
-returns-in-TypeSet c =
-    search rules
+returns-in-TypeSet c = search rules
 
 pub returns-in-Function : goal.returns-in-Function
 unfolding parent_model

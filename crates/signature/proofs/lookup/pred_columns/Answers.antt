@@ -10,5 +10,4 @@ columns-requires c =
     }
 
 pub returns : goal.returns
-returns c =
-    rw (pred_at c.requires.indexed _ c.requires.p_lt_preds, ← c.place.ensures.0) c.columns.ensures
+returns c = rw (pred_at c.requires.indexed _ c.requires.p_lt_preds, ← c.place.ensures.0) c.columns.ensures

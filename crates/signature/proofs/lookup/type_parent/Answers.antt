@@ -12,8 +12,7 @@ content_at-c-requires c =
     }
 
 pub overflow_mul-i : goal.overflow_mul-i
-overflow_mul-i c =
-    omega (arith, type_room c.requires.indexed _ c.requires.t_lt_types.0 _ c.requires.t_lt_types.1)
+overflow_mul-i c = omega (arith, type_room c.requires.indexed _ c.requires.t_lt_types.0 _ c.requires.t_lt_types.1)
 
 pub overflow_add-c : goal.overflow_add-c
 overflow_add-c c =

@@ -13,8 +13,7 @@ use Rattle.signature.proofs.Checking.{check_end, check_bad, check_stop, check_fa
 use Rattle.signature.proofs.reader.check.Goals as goal
 
 pub loop-at-init : goal.loop-at-init
-loop-at-init c =
-    (stored_start c.requires.symbol_limit_bound.1, λ fs rest r f. check_start r f)
+loop-at-init c = (stored_start c.requires.symbol_limit_bound.1, λ fs rest r f. check_start r f)
 
 pub returns-in_default : goal.returns-in_default
 returns-in_default c =
@@ -33,8 +32,7 @@ returns-then-l-letter c =
     }
 
 pub field_fault-fault-requires : goal.field_fault-fault-requires
-field_fault-fault-requires c =
-    let a = rw c.in-Got.is at c.read_field.ensures.ahead in omega arith
+field_fault-fault-requires c = let a = rw c.in-Got.is at c.read_field.ensures.ahead in omega arith
 
 pub returns-in_default-fault : goal.returns-in_default-fault
 returns-in_default-fault c =
@@ -51,8 +49,7 @@ bounds-index-from c =
     let l = c.loop-at.invariant.0.long in omega arith
 
 pub loop-at-smaller : goal.loop-at-smaller
-loop-at-smaller c =
-    let a = rw c.in-Got.is at c.read_field.ensures.ahead in omega arith
+loop-at-smaller c = let a = rw c.in-Got.is at c.read_field.ensures.ahead in omega arith
 
 pub loop-at-preserved : goal.loop-at-preserved
 loop-at-preserved c =

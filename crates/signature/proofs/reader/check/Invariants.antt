@@ -15,5 +15,4 @@ invariant-loop-at l =
     → Checking l.s l.index l.letter l.types l.from l.end fs rest l.at l.count)
 
 abbrev pub decreases-loop-at : goal.decreases-loop-at
-decreases-loop-at l =
-    l.end - l.at
+decreases-loop-at l = l.end - l.at

@@ -7,8 +7,7 @@ use Rattle.signature.proofs.reader.may_follow.Goals as goal
 
 pub returns-in-0 : goal.returns-in-0
 unfolding follows any has
-returns-in-0 c =
-    rw c.in-84.is (⊎_elim (λ e. rw e) (λ e. rw e) c.in-0.is)
+returns-in-0 c = rw c.in-84.is (⊎_elim (λ e. rw e) (λ e. rw e) c.in-0.is)
 
 pub returns-in_default-behind : goal.returns-in_default-behind
 unfolding follows any has
@@ -21,8 +20,7 @@ returns-in_default-behind c =
 
 pub returns-in-0-behind : goal.returns-in-0-behind
 unfolding follows any has
-returns-in-0-behind c =
-    rw c.in-80.is (⊎_elim (λ e. rw e) (⊎_elim (λ e. rw e) (λ e. rw e)) c.in-0-behind.is)
+returns-in-0-behind c = rw c.in-80.is (⊎_elim (λ e. rw e) (⊎_elim (λ e. rw e) (λ e. rw e)) c.in-0-behind.is)
 
 pub returns-in_default-behind-2 : goal.returns-in_default-behind-2
 unfolding follows any has
@@ -36,8 +34,7 @@ returns-in_default-behind-2 c =
 
 pub returns-in-0-behind-2 : goal.returns-in-0-behind-2
 unfolding follows any has
-returns-in-0-behind-2 c =
-    rw c.in-70.is (⊎_elim (λ e. rw e) (⊎_elim (λ e. rw e) (⊎_elim (λ e. rw e) (λ e. rw e))) c.in-0-behind-2.is)
+returns-in-0-behind-2 c = rw c.in-70.is (⊎_elim (λ e. rw e) (⊎_elim (λ e. rw e) (⊎_elim (λ e. rw e) (λ e. rw e))) c.in-0-behind-2.is)
 
 pub returns-in_default-behind-3 : goal.returns-in_default-behind-3
 unfolding follows any has

@@ -9,8 +9,7 @@ use Rattle.signature.proofs.Passing.{Passing, pass_start, pass_next, pass_stop, 
 use Rattle.signature.proofs.reader.pass.Goals as goal
 
 pub loop-at-init : goal.loop-at-init
-loop-at-init c =
-    pass_start _
+loop-at-init c = pass_start _
 
 pub returns-in_default : goal.returns-in_default
 returns-in_default c =
@@ -23,8 +22,7 @@ returns-then-not-may_follow c =
     (sym c.may_follow.ensures ∙ c.if-not-may_follow.true) in record { parted = pair.0; types_value = pair.1 }
 
 pub loop-at-smaller-then-letter-eq-LETTER_T : goal.loop-at-smaller-then-letter-eq-LETTER_T
-loop-at-smaller-then-letter-eq-LETTER_T c =
-    let a = rw c.in-Got.is at c.read_field-f.ensures.ahead in omega arith
+loop-at-smaller-then-letter-eq-LETTER_T c = let a = rw c.in-Got.is at c.read_field-f.ensures.ahead in omega arith
 
 pub loop-at-preserved-then-letter-eq-LETTER_T : goal.loop-at-preserved-then-letter-eq-LETTER_T
 loop-at-preserved-then-letter-eq-LETTER_T c =
@@ -33,8 +31,7 @@ loop-at-preserved-then-letter-eq-LETTER_T c =
     (sym c.may_follow.ensures ∙ c.if-not-may_follow.false))
 
 pub loop-at-smaller : goal.loop-at-smaller
-loop-at-smaller c =
-    let a = rw c.in-Got.is at c.read_field-f.ensures.ahead in omega arith
+loop-at-smaller c = let a = rw c.in-Got.is at c.read_field-f.ensures.ahead in omega arith
 
 pub loop-at-preserved : goal.loop-at-preserved
 loop-at-preserved c =
@@ -43,5 +40,4 @@ loop-at-preserved c =
     (sym c.may_follow.ensures ∙ c.if-not-may_follow.false))
 
 pub returns : goal.returns
-returns c =
-    let pair = pass_end c.loop-at.invariant c.loop-at-test.false in record { parted = pair.0; types_value = pair.1 }
+returns c = let pair = pass_end c.loop-at.invariant c.loop-at-test.false in record { parted = pair.0; types_value = pair.1 }

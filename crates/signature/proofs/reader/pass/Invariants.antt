@@ -8,9 +8,7 @@ use Rattle.signature.proofs.Passing.{Passing, pass_start, pass_next, pass_stop, 
 use Rattle.signature.proofs.reader.pass.Given as goal
 
 abbrev pub invariant-loop-at : goal.invariant-loop-at
-invariant-loop-at l =
-    Passing l.s l.at l.behind l.types
+invariant-loop-at l = Passing l.s l.at l.behind l.types
 
 abbrev pub decreases-loop-at : goal.decreases-loop-at
-decreases-loop-at l =
-    length l.s - l.at
+decreases-loop-at l = length l.s - l.at

@@ -15,8 +15,7 @@ use Rattle.statements.proofs.equalities.fiber_vars.Goals.{else-image-e, then-ima
 use Rattle.statements.proofs.equalities.fiber_vars.Goals as goal
 
 pub loop-p-init : goal.loop-p-init
-loop-p-init c =
-    (search rules, search rules, search rules, fiber_start _ _ _ _ _ _)
+loop-p-init c = (search rules, search rules, search rules, fiber_start _ _ _ _ _ _)
 
 pub pair_key-requires : goal.pair_key-requires
 pair_key-requires c =
@@ -31,12 +30,10 @@ returns-in_default c =
     (rw c.in_default.is at c.find_element-f.ensures))
 
 pub offset_bounds-row-i : goal.offset_bounds-row-i
-offset_bounds-row-i c =
-    let f = found_few c.requires.elements (rw c.in-At.is at c.find_element-f.ensures) in search rules
+offset_bounds-row-i c = let f = found_few c.requires.elements (rw c.in-At.is at c.find_element-f.ensures) in search rules
 
 pub bounds-row-i : goal.bounds-row-i
-bounds-row-i c =
-    let f = found_few c.requires.elements (rw c.in-At.is at c.find_element-f.ensures) in search rules
+bounds-row-i c = let f = found_few c.requires.elements (rw c.in-At.is at c.find_element-f.ensures) in search rules
 
 pub offset_bounds-vars-count : goal.offset_bounds-vars-count
 offset_bounds-vars-count c =
@@ -51,8 +48,7 @@ overflow_add-count c =
     let r : c.loop-p.count < field_limit = omega (arith, c.requires.map_in.few, c.loop-p.invariant.1, c.loop-p-test.true) in search rules
 
 pub overflow_add-p : goal.overflow_add-p
-overflow_add-p c =
-    let f = c.requires.map_in.few in search rules
+overflow_add-p c = let f = c.requires.map_in.few in search rules
 
 pub loop-p-preserved : goal.loop-p-preserved
 loop-p-preserved c =

@@ -16,5 +16,4 @@ invariant-loop-p l =
     (length l.vars ≡ field_limit) × (l.count ≤ l.p) × (l.p ≤ l.m.pairs) × FiberTo l.s l.m (element_numbers l.s l.index l.source) l.row l.e.0 l.vars l.count l.p
 
 abbrev pub decreases-loop-p : goal.decreases-loop-p
-decreases-loop-p l =
-    l.m.pairs - l.p
+decreases-loop-p l = l.m.pairs - l.p

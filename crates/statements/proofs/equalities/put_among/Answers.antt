@@ -9,20 +9,16 @@ use native.Mathlib.Omega.{arith}
 use Rattle.statements.proofs.equalities.put_among.Goals as goal
 
 pub overflow_mul-count : goal.overflow_mul-count
-overflow_mul-count c =
-    let f = c.requires.typed_vars.few in omega (arith, mul-le-mul f f)
+overflow_mul-count c = let f = c.requires.typed_vars.few in omega (arith, mul-le-mul f f)
 
 pub overflow_sub-count : goal.overflow_sub-count
-overflow_sub-count c =
-    square_most _
+overflow_sub-count c = square_most _
 
 pub overflow_mul-count-then-out-from : goal.overflow_mul-count-then-out-from
-overflow_mul-count-then-out-from c =
-    let f = c.requires.typed_vars.few in omega (arith, mul-le-mul f f)
+overflow_mul-count-then-out-from c = let f = c.requires.typed_vars.few in omega (arith, mul-le-mul f f)
 
 pub past-requires : goal.past-requires
-past-requires c =
-    let f = c.requires.typed_vars.few in (c.requires.from_le_count_limit, omega (arith, mul-le-mul f f))
+past-requires c = let f = c.requires.typed_vars.few in (c.requires.from_le_count_limit, omega (arith, mul-le-mul f f))
 
 pub returns-then-out-from : goal.returns-then-out-from
 returns-then-out-from c =
@@ -30,8 +26,7 @@ returns-then-out-from c =
     c.requires.from_le_count_limit
 
 pub loop-i-init : goal.loop-i-init
-loop-i-init c =
-    (search rules, begin _ _ (search rules))
+loop-i-init c = (search rules, begin _ _ (search rules))
 
 pub put_later-at-requires : goal.put_later-at-requires
 put_later-at-requires c =
@@ -54,9 +49,7 @@ loop-i-preserved c = (
 )
 
 pub shape_of-out : goal.shape_of-out
-shape_of-out c =
-    c.loop-i.invariant.1.put.long
+shape_of-out c = c.loop-i.invariant.1.put.long
 
 pub returns : goal.returns
-returns c =
-    rw (← (among_all _ _ _)) (finish c.loop-i.invariant.1 (among_none _ _ (firsts_end c.requires.typed_vars _ c.loop-i-test.false)))
+returns c = rw (← (among_all _ _ _)) (finish c.loop-i.invariant.1 (among_none _ _ (firsts_end c.requires.typed_vars _ c.loop-i-test.false)))

@@ -14,5 +14,4 @@ invariant-loop-i l =
     (among_bytes l.letter l.types (drop l.i (take l.count l.vars)))
 
 abbrev pub decreases-loop-i : goal.decreases-loop-i
-decreases-loop-i l =
-    l.count - l.i
+decreases-loop-i l = l.count - l.i

@@ -19,12 +19,10 @@ use Rattle.statements.proofs.equalities.put_equalities.Goals.{else-flag, then-fl
 use Rattle.statements.proofs.equalities.put_equalities.Goals as goal
 
 pub element_count-count-requires : goal.element_count-count-requires
-element_count-count-requires c =
-    c.requires.between.target_at.laid.few
+element_count-count-requires c = c.requires.between.target_at.laid.few
 
 pub loop-j-init : goal.loop-j-init
-loop-j-init c =
-    (search rules, begin _ _ (search rules))
+loop-j-init c = (search rules, begin _ _ (search rules))
 
 pub flag-requires : goal.flag-requires
 flag-requires c =
@@ -66,8 +64,7 @@ loop-j-preserved c =
     ]
 
 pub shape_of-out : goal.shape_of-out
-shape_of-out c =
-    c.loop-j.invariant.1.put.long
+shape_of-out c = c.loop-j.invariant.1.put.long
 
 pub returns : goal.returns
 returns c =

@@ -23,5 +23,4 @@ invariant-loop-j l =
     (over_bytes l.letter (variable_in (side_in l.s l.m.source l.row)) (pairs_by l.s l.m) l.types (drop l.j (numbers_of (target_in l.s l.m))))
 
 abbrev pub decreases-loop-j : goal.decreases-loop-j
-decreases-loop-j l =
-    l.count - l.j
+decreases-loop-j l = l.count - l.j

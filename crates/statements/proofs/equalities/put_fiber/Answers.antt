@@ -20,5 +20,4 @@ put_among-requires c =
     }
 
 pub returns : goal.returns
-returns c =
-    rw (← (c.fiber_vars-fiber.ensures.vars_value _ (side_at c.requires.stands.at.laid _))) c.put_among.ensures
+returns c = rw (← (c.fiber_vars-fiber.ensures.vars_value _ (side_at c.requires.stands.at.laid _))) c.put_among.ensures

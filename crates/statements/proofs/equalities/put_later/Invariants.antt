@@ -12,5 +12,4 @@ invariant-loop-j l =
     (later_bytes l.letter l.types (get_or l.vars l.i 0) (drop l.j (take l.count l.vars)))
 
 abbrev pub decreases-loop-j : goal.decreases-loop-j
-decreases-loop-j l =
-    l.count - l.j
+decreases-loop-j l = l.count - l.j

@@ -22,12 +22,10 @@ returns-then-none_set-2 c =
     }
 
 pub loop-i-init : goal.loop-i-init
-loop-i-init c =
-    (search rules, search rules, λ letter row. record { same = refl })
+loop-i-init c = (search rules, search rules, λ letter row. record { same = refl })
 
 pub flag-requires : goal.flag-requires
-flag-requires c =
-    few_places c.requires.stands c.element_count-n.ensures c.loop-i-test.true
+flag-requires c = few_places c.requires.stands c.element_count-n.ensures c.loop-i-test.true
 
 pub loop-i-preserved : goal.loop-i-preserved
 loop-i-preserved c =

@@ -18,5 +18,4 @@ invariant-loop-i l =
     (elements_size letter (structure_in l.s l.k) row l.members l.free l.i))
 
 abbrev pub decreases-loop-i : goal.decreases-loop-i
-decreases-loop-i l =
-    l.n - l.i
+decreases-loop-i l = l.n - l.i

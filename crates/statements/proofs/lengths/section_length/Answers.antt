@@ -25,12 +25,10 @@ loop-field-init c = (
 )
 
 pub read_row-r-requires : goal.read_row-r-requires
-read_row-r-requires c =
-    row_here c.loop-field.invariant.0 c.loop-field-test.true
+read_row-r-requires c = row_here c.loop-field.invariant.0 c.loop-field-test.true
 
 pub flag-requires : goal.flag-requires
-flag-requires c =
-    let few = row_few c.loop-field.invariant.0 c.loop-field-test.true c.read_row-r.ensures in omega arith
+flag-requires c = let few = row_few c.loop-field.invariant.0 c.loop-field-test.true c.read_row-r.ensures in omega arith
 
 pub overflow_sub-els : goal.overflow_sub-els
 overflow_sub-els c =
@@ -38,8 +36,7 @@ overflow_sub-els c =
     row_wide r c.loop-field-test.true c.read_row-r.ensures
 
 pub counted-at-requires : goal.counted-at-requires
-counted-at-requires c =
-    (search rules, omega (arith, c.read_row-r.ensures.few))
+counted-at-requires c = (search rules, omega (arith, c.read_row-r.ensures.few))
 
 pub overflow_add-i : goal.overflow_add-i
 overflow_add-i c =
@@ -47,8 +44,7 @@ overflow_add-i c =
     let few = row_few r c.loop-field-test.true c.read_row-r.ensures in omega arith
 
 pub loop-field-smaller : goal.loop-field-smaller
-loop-field-smaller c =
-    let a = c.read_row-r.ensures.ahead in omega arith
+loop-field-smaller c = let a = c.read_row-r.ensures.ahead in omega arith
 
 pub loop-field-preserved : goal.loop-field-preserved
 loop-field-preserved c =

@@ -19,5 +19,4 @@ invariant-loop-field l =
     (length (rows_from letter variable l.chosen rows l.i)))
 
 abbrev pub decreases-loop-field : goal.decreases-loop-field
-decreases-loop-field l =
-    l.end - l.field
+decreases-loop-field l = l.end - l.field

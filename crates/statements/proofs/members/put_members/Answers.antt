@@ -13,8 +13,7 @@ use Rattle.statements.proofs.members.put_members.Goals.{else-flag, then-flag}
 use Rattle.statements.proofs.members.put_members.Goals as goal
 
 pub returns-then-none_set : goal.returns-then-none_set
-returns-then-none_set c =
-    unsaid _ _ (members_none _ _ _ (sym c.none_set.ensures ∙ c.if-none_set.true)) (search rules)
+returns-then-none_set c = unsaid _ _ (members_none _ _ _ (sym c.none_set.ensures ∙ c.if-none_set.true)) (search rules)
 
 pub sorted_members-m-requires : goal.sorted_members-m-requires
 sorted_members-m-requires c =
@@ -37,12 +36,10 @@ loop-n-init c = (
 )
 
 pub bounds-order-n : goal.bounds-order-n
-bounds-order-n c =
-    let o = c.loop-n.invariant.0 in omega (arith, o.few, c.loop-n-test.true)
+bounds-order-n c = let o = c.loop-n.invariant.0 in omega (arith, o.few, c.loop-n-test.true)
 
 pub flag-requires : goal.flag-requires
-flag-requires c =
-    rw c.wide-i.ensures.0 (order_few c.requires.stands c.loop-n.invariant.0 _ c.loop-n-test.true)
+flag-requires c = rw c.wide-i.ensures.0 (order_few c.requires.stands c.loop-n.invariant.0 _ c.loop-n-test.true)
 
 pub put_element-at-requires : goal.put_element-at-requires
 put_element-at-requires c =
@@ -71,8 +68,7 @@ loop-n-preserved c =
     ]
 
 pub shape_of-out : goal.shape_of-out
-shape_of-out c =
-    c.loop-n.invariant.2.put.long
+shape_of-out c = c.loop-n.invariant.2.put.long
 
 pub returns : goal.returns
 returns c =

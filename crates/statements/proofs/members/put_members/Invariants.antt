@@ -16,5 +16,4 @@ invariant-loop-n l =
     (members_from l.letter (structure_in l.s l.k) l.row l.mask l.n)
 
 abbrev pub decreases-loop-n : goal.decreases-loop-n
-decreases-loop-n l =
-    l.m.count - l.n
+decreases-loop-n l = l.m.count - l.n

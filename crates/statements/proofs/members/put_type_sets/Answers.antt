@@ -10,16 +10,13 @@ use Rattle.statements.proofs.members.put_type_sets.Goals.{else-flag, then-flag}
 use Rattle.statements.proofs.members.put_type_sets.Goals as goal
 
 pub returns-then-none_set : goal.returns-then-none_set
-returns-then-none_set c =
-    unsaid _ _ (types_none _ _ _ (sym c.none_set.ensures ∙ c.if-none_set.true) _) (search rules)
+returns-then-none_set c = unsaid _ _ (types_none _ _ _ (sym c.none_set.ensures ∙ c.if-none_set.true) _) (search rules)
 
 pub loop-i-init : goal.loop-i-init
-loop-i-init c =
-    (search rules, begin _ _ (search rules))
+loop-i-init c = (search rules, begin _ _ (search rules))
 
 pub flag-requires : goal.flag-requires
-flag-requires c =
-    few_places c.requires.stands c.element_count-count.ensures c.loop-i-test.true
+flag-requires c = few_places c.requires.stands c.element_count-count.ensures c.loop-i-test.true
 
 pub loop-i-preserved : goal.loop-i-preserved
 loop-i-preserved c =
@@ -41,8 +38,7 @@ loop-i-preserved c =
     ]
 
 pub shape_of-out : goal.shape_of-out
-shape_of-out c =
-    c.loop-i.invariant.1.put.long
+shape_of-out c = c.loop-i.invariant.1.put.long
 
 pub returns : goal.returns
 returns c =

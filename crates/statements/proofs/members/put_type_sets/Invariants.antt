@@ -16,5 +16,4 @@ invariant-loop-i l =
     (types_from l.letter (variable_by (structure_in l.s l.k) l.row) l.mask (structure_in l.s l.k).elements l.i)
 
 abbrev pub decreases-loop-i : goal.decreases-loop-i
-decreases-loop-i l =
-    l.count - l.i
+decreases-loop-i l = l.count - l.i

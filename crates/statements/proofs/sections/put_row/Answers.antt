@@ -3,5 +3,4 @@ use borrow.Author.Rules.{rules}
 use Rattle.statements.proofs.sections.put_row.Goals as goal
 
 pub returns : goal.returns
-returns c =
-    lent c.rest_at-rest.ensures c.write_row-len.ensures c.past.ensures c.requires.from_le_count_limit.0
+returns c = lent c.rest_at-rest.ensures c.write_row-len.ensures c.past.ensures c.requires.from_le_count_limit.0

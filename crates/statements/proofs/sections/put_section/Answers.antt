@@ -23,16 +23,13 @@ loop-field-init c = (
 )
 
 pub read_row-r-requires : goal.read_row-r-requires
-read_row-r-requires c =
-    row_here c.loop-field.invariant.0 c.loop-field-test.true
+read_row-r-requires c = row_here c.loop-field.invariant.0 c.loop-field-test.true
 
 pub flag-requires : goal.flag-requires
-flag-requires c =
-    let few = row_few c.loop-field.invariant.0 c.loop-field-test.true c.read_row-r.ensures in omega arith
+flag-requires c = let few = row_few c.loop-field.invariant.0 c.loop-field-test.true c.read_row-r.ensures in omega arith
 
 pub overflow_sub-els : goal.overflow_sub-els
-overflow_sub-els c =
-    row_wide c.loop-field.invariant.0 c.loop-field-test.true c.read_row-r.ensures
+overflow_sub-els c = row_wide c.loop-field.invariant.0 c.loop-field-test.true c.read_row-r.ensures
 
 pub first-said-requires : goal.first-said-requires
 first-said-requires c =
@@ -51,12 +48,10 @@ put_row-at-requires c =
     }
 
 pub overflow_add-i : goal.overflow_add-i
-overflow_add-i c =
-    let few = row_few c.loop-field.invariant.0 c.loop-field-test.true c.read_row-r.ensures in omega arith
+overflow_add-i c = let few = row_few c.loop-field.invariant.0 c.loop-field-test.true c.read_row-r.ensures in omega arith
 
 pub loop-field-smaller : goal.loop-field-smaller
-loop-field-smaller c =
-    let a = c.read_row-r.ensures.ahead in omega arith
+loop-field-smaller c = let a = c.read_row-r.ensures.ahead in omega arith
 
 pub loop-field-preserved : goal.loop-field-preserved
 loop-field-preserved c =
@@ -71,9 +66,7 @@ loop-field-preserved c =
     )
 
 pub shape_of-out : goal.shape_of-out
-shape_of-out c =
-    c.loop-field.invariant.1.put.long
+shape_of-out c = c.loop-field.invariant.1.put.long
 
 pub returns : goal.returns
-returns c =
-    rw (← (rows_all _ _ _ _)) (finish c.loop-field.invariant.1 (rows_end c.loop-field.invariant.0 c.loop-field-test.false _ _ _))
+returns c = rw (← (rows_all _ _ _ _)) (finish c.loop-field.invariant.1 (rows_end c.loop-field.invariant.0 c.loop-field-test.false _ _ _))

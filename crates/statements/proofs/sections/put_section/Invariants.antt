@@ -17,5 +17,4 @@ invariant-loop-field l =
     Rowing l.s (structure_in l.s l.k) rows l.chosen.omitted l.field l.end l.i × Writing l.initial.out l.out l.from l.at (bytes 0) (bytes l.i)
 
 abbrev pub decreases-loop-field : goal.decreases-loop-field
-decreases-loop-field l =
-    l.end - l.field
+decreases-loop-field l = l.end - l.field

@@ -12,8 +12,7 @@ use native.Mathlib.Omega.{arith}
 use Rattle.statements.proofs.sections.vars_of.Goals as goal
 
 pub loop-i-init : goal.loop-i-init
-loop-i-init c =
-    (search rules, filling _ (search rules))
+loop-i-init c = (search rules, filling _ (search rules))
 
 pub returns-in_default : goal.returns-in_default
 returns-in_default c =
@@ -21,12 +20,10 @@ returns-in_default c =
     named_at c.requires.laid c.requires.els_inside.0 c.loop-i-test.true c.el_at.ensures c.requires.named_in f
 
 pub offset_bounds-row-j : goal.offset_bounds-row-j
-offset_bounds-row-j c =
-    let f = found_few c.requires.laid.elements.elements (rw c.in-At.is at c.find_element-f.ensures) in omega arith
+offset_bounds-row-j c = let f = found_few c.requires.laid.elements.elements (rw c.in-At.is at c.find_element-f.ensures) in omega arith
 
 pub bounds-row-j : goal.bounds-row-j
-bounds-row-j c =
-    found_few c.requires.laid.elements.elements (rw c.in-At.is at c.find_element-f.ensures)
+bounds-row-j c = found_few c.requires.laid.elements.elements (rw c.in-At.is at c.find_element-f.ensures)
 
 pub loop-i-preserved : goal.loop-i-preserved
 loop-i-preserved c =
@@ -36,5 +33,4 @@ loop-i-preserved c =
     (search rules, fill_next (els_said c.requires.els_inside.0 _) c.loop-i.invariant.1 c.requires.els_inside.1 l v)
 
 pub returns : goal.returns
-returns c =
-    filled (els_said c.requires.els_inside.0 _) c.loop-i.invariant.1 c.loop-i.invariant.0 c.loop-i-test.false
+returns c = filled (els_said c.requires.els_inside.0 _) c.loop-i.invariant.1 c.loop-i.invariant.0 c.loop-i-test.false

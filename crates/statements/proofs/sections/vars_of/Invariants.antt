@@ -11,9 +11,7 @@ use native.Mathlib.Omega.{arith}
 use Rattle.statements.proofs.sections.vars_of.Given as goal
 
 abbrev pub invariant-loop-i : goal.invariant-loop-i
-invariant-loop-i l =
-    (l.i ≤ l.els.count) × Filling (each (variable_by (structure_in l.s l.k) l.row) (els_in l.s l.els)) l.vars l.i
+invariant-loop-i l = (l.i ≤ l.els.count) × Filling (each (variable_by (structure_in l.s l.k) l.row) (els_in l.s l.els)) l.vars l.i
 
 abbrev pub decreases-loop-i : goal.decreases-loop-i
-decreases-loop-i l =
-    l.els.count - l.i
+decreases-loop-i l = l.els.count - l.i

@@ -14,8 +14,7 @@ use native.Mathlib.Omega.{arith}
 use Rattle.statements.proofs.sections.write_row.Goals as goal
 
 pub loop-i-init : goal.loop-i-init
-loop-i-init c =
-    (search rules, begin _ _ (search rules))
+loop-i-init c = (search rules, begin _ _ (search rules))
 
 pub returns-in_default : goal.returns-in_default
 returns-in_default c =
@@ -28,8 +27,7 @@ offset_bounds-row-j c =
     let few = found_few c.requires.laid.elements.elements f in omega arith
 
 pub bounds-row-j : goal.bounds-row-j
-bounds-row-j c =
-    found_few c.requires.laid.elements.elements (rw c.in-At.is at c.find_element-f.ensures)
+bounds-row-j c = found_few c.requires.laid.elements.elements (rw c.in-At.is at c.find_element-f.ensures)
 
 pub loop-i-preserved : goal.loop-i-preserved
 loop-i-preserved c = (

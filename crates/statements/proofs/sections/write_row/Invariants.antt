@@ -17,5 +17,4 @@ invariant-loop-i l =
     (l.i ≤ l.els.count) × Writing l.initial.out l.out l.initial.at l.at (vars_from vs 0) (vars_from vs l.i)
 
 abbrev pub decreases-loop-i : goal.decreases-loop-i
-decreases-loop-i l =
-    l.els.count - l.i
+decreases-loop-i l = l.els.count - l.i

@@ -3,8 +3,7 @@ use borrow.Author.Rules.{rules}
 use Rattle.walk.proofs.walk.flatten_map.Goals as goal
 
 pub returns-then-v-eq-SURJ_THEN : goal.returns-then-v-eq-SURJ_THEN
-returns-then-v-eq-SURJ_THEN c =
-    λ table k y h. surj_does _ _ _ _ _ _ _ (c.flatten_surj_then.ensures _ table y) c.if-v-eq-SURJ_THEN.true h
+returns-then-v-eq-SURJ_THEN c = λ table k y h. surj_does _ _ _ _ _ _ _ (c.flatten_surj_then.ensures _ table y) c.if-v-eq-SURJ_THEN.true h
 
 pub returns-then-v-eq-NON_SURJ_THEN : goal.returns-then-v-eq-NON_SURJ_THEN
 returns-then-v-eq-NON_SURJ_THEN c =

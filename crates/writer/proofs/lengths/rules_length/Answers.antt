@@ -28,12 +28,10 @@ loop-t-init c = (
 )
 
 pub bounds-sources-t : goal.bounds-sources-t
-bounds-sources-t c =
-    let k = c.requires.ended.ground.few in search rules
+bounds-sources-t c = let k = c.requires.ended.ground.few in search rules
 
 pub bounds-sources-t-then-sources-t-lt-UNREACHED : goal.bounds-sources-t-then-sources-t-lt-UNREACHED
-bounds-sources-t-then-sources-t-lt-UNREACHED c =
-    let k = c.requires.ended.ground.few in search rules
+bounds-sources-t-then-sources-t-lt-UNREACHED c = let k = c.requires.ended.ground.few in search rules
 
 pub offset_bounds-lengths-place : goal.offset_bounds-lengths-place
 offset_bounds-lengths-place c =
@@ -53,8 +51,7 @@ emits-requires c =
     both_small c.requires.ended (ruling_reaching r c.requires.ended c.requires.from_le_count_limit.1 c.loop-t-test.true c.if-sources-t-lt-UNREACHED.true)
 
 pub name_length-named-requires : goal.name_length-named-requires
-name_length-named-requires c =
-    (c.loop-t.invariant.1.small, c.requires.ended.ground.headed)
+name_length-named-requires c = (c.loop-t.invariant.1.small, c.requires.ended.ground.headed)
 
 pub body_length-at-requires : goal.body_length-at-requires
 body_length-at-requires c =
@@ -69,8 +66,7 @@ body_length-at-requires c =
     }
 
 pub overflow_add-count : goal.overflow_add-count
-overflow_add-count c =
-    let f = c.loop-t.invariant.1.few in let n = c.requires.ended.ground.few in search rules
+overflow_add-count c = let f = c.loop-t.invariant.1.few in let n = c.requires.ended.ground.few in search rules
 
 pub own_length-requires-then-sources-t-lt-UNREACHED : goal.own_length-requires-then-sources-t-lt-UNREACHED
 own_length-requires-then-sources-t-lt-UNREACHED c =
@@ -82,12 +78,10 @@ own_length-requires-then-sources-t-lt-UNREACHED c =
     }
 
 pub offset_bounds-lengths-t : goal.offset_bounds-lengths-t
-offset_bounds-lengths-t c =
-    let k = c.requires.ended.ground.few in search rules
+offset_bounds-lengths-t c = let k = c.requires.ended.ground.few in search rules
 
 pub bounds-lengths-t : goal.bounds-lengths-t
-bounds-lengths-t c =
-    let k = c.requires.ended.ground.few in search rules
+bounds-lengths-t c = let k = c.requires.ended.ground.few in search rules
 
 pub loop-t-preserved : goal.loop-t-preserved
 loop-t-preserved c =

@@ -11,5 +11,4 @@ invariant-loop-t l =
     × Measured l.s l.index l.types l.kinds (tables l.sources l.masks l.vars) l.lengths l.t
 
 abbrev pub decreases-loop-t : goal.decreases-loop-t
-decreases-loop-t l =
-    l.n - l.t
+decreases-loop-t l = l.n - l.t

@@ -4,16 +4,13 @@ use Rattle.writer.proofs.Premises.{place_small, stands_at, both_put}
 use Rattle.writer.proofs.premise.put_both.Goals as goal
 
 pub offset_bounds-vars-t : goal.offset_bounds-vars-t
-offset_bounds-vars-t c =
-    let p = place_small c.requires.by_index.1 c.requires.reaching in search rules
+offset_bounds-vars-t c = let p = place_small c.requires.by_index.1 c.requires.reaching in search rules
 
 pub bounds-vars-t : goal.bounds-vars-t
-bounds-vars-t c =
-    let p = place_small c.requires.by_index.1 c.requires.reaching in search rules
+bounds-vars-t c = let p = place_small c.requires.by_index.1 c.requires.reaching in search rules
 
 pub masks_at-requires : goal.masks_at-requires
-masks_at-requires c =
-    place_small c.requires.by_index.1 c.requires.reaching
+masks_at-requires c = place_small c.requires.by_index.1 c.requires.reaching
 
 pub put_said-requires : goal.put_said-requires
 put_said-requires c =

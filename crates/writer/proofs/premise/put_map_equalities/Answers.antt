@@ -6,8 +6,7 @@ use Rattle.writer.proofs.Premises.{place_small, source_small, source_reaching, r
 use Rattle.writer.proofs.premise.put_map_equalities.Goals as goal
 
 pub mask_at-merged-requires : goal.mask_at-merged-requires
-mask_at-merged-requires c =
-    let p = place_small c.requires.by_index.1 c.requires.reaching in search rules
+mask_at-merged-requires c = let p = place_small c.requires.by_index.1 c.requires.reaching in search rules
 
 pub returns-then-none_set : goal.returns-then-none_set
 returns-then-none_set c =
@@ -17,8 +16,7 @@ returns-then-none_set c =
     }
 
 pub bounds-sources-t : goal.bounds-sources-t
-bounds-sources-t c =
-    let p = place_small c.requires.by_index.1 c.requires.reaching in search rules
+bounds-sources-t c = let p = place_small c.requires.by_index.1 c.requires.reaching in search rules
 
 pub map_between-map-requires : goal.map_between-map-requires
 map_between-map-requires c =

@@ -6,8 +6,7 @@ use Rattle.writer.proofs.premise.put_own.Goals.{then-kind-eq-IF-via-else-kind-eq
 use Rattle.writer.proofs.premise.put_own.Goals as goal
 
 pub reached_by-kind-requires : goal.reached_by-kind-requires
-reached_by-kind-requires c =
-    both_small c.requires.ended c.requires.reaching
+reached_by-kind-requires c = both_small c.requires.ended c.requires.reaching
 
 pub returns-then-kind-eq-SURJ_THEN : goal.returns-then-kind-eq-SURJ_THEN
 returns-then-kind-eq-SURJ_THEN c =
@@ -38,16 +37,13 @@ returns-then-kind-eq-IF c =
     }
 
 pub offset_bounds-vars-t : goal.offset_bounds-vars-t
-offset_bounds-vars-t c =
-    let p = place_small c.requires.ended c.requires.reaching in search rules
+offset_bounds-vars-t c = let p = place_small c.requires.ended c.requires.reaching in search rules
 
 pub bounds-vars-t : goal.bounds-vars-t
-bounds-vars-t c =
-    let p = place_small c.requires.ended c.requires.reaching in search rules
+bounds-vars-t c = let p = place_small c.requires.ended c.requires.reaching in search rules
 
 pub masks_at-requires : goal.masks_at-requires
-masks_at-requires c =
-    place_small c.requires.ended c.requires.reaching
+masks_at-requires c = place_small c.requires.ended c.requires.reaching
 
 pub put_said-requires : goal.put_said-requires
 put_said-requires c =

@@ -4,8 +4,7 @@ use native.Mathlib.Omega.{arith}
 use Rattle.writer.proofs.rules.put_conclusion.Goals as goal
 
 pub reached_by-kind-requires : goal.reached_by-kind-requires
-reached_by-kind-requires c =
-    both_small c.requires.ended c.requires.reaching
+reached_by-kind-requires c = both_small c.requires.ended c.requires.reaching
 
 pub put_both-requires : goal.put_both-requires
 put_both-requires c =

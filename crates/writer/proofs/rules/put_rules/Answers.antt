@@ -6,12 +6,10 @@ use Rattle.writer.proofs.rules.put_rules.Goals.{else-sources-t-lt-UNREACHED, the
 use Rattle.writer.proofs.rules.put_rules.Goals as goal
 
 pub loop-t-init : goal.loop-t-init
-loop-t-init c =
-    (omega (arith, c.requires.ended.ground.some_one), ruling_start _ _ _ _ _ _ _ c.requires.from_le_count_limit.0)
+loop-t-init c = (omega (arith, c.requires.ended.ground.some_one), ruling_start _ _ _ _ _ _ _ c.requires.from_le_count_limit.0)
 
 pub bounds-sources-t : goal.bounds-sources-t
-bounds-sources-t c =
-    let k = c.requires.ended.ground.few in search rules
+bounds-sources-t c = let k = c.requires.ended.ground.few in search rules
 
 pub emits-requires : goal.emits-requires
 emits-requires c =
@@ -19,8 +17,7 @@ emits-requires c =
     (ruling_reaching c.loop-t.invariant.1 c.requires.ended c.requires.from_le_count_limit.1 c.loop-t-test.true c.if-sources-t-lt-UNREACHED.true)
 
 pub put_name_field-named-requires : goal.put_name_field-named-requires
-put_name_field-named-requires c =
-    (c.loop-t.invariant.1.small, c.requires.ended.ground.headed)
+put_name_field-named-requires c = (c.loop-t.invariant.1.small, c.requires.ended.ground.headed)
 
 pub put_body-at-requires : goal.put_body-at-requires
 put_body-at-requires c =
@@ -31,8 +28,7 @@ put_body-at-requires c =
     }
 
 pub overflow_add-k : goal.overflow_add-k
-overflow_add-k c =
-    let f = c.loop-t.invariant.1.few in let n = c.requires.ended.ground.few in search rules
+overflow_add-k c = let f = c.loop-t.invariant.1.few in let n = c.requires.ended.ground.few in search rules
 
 pub loop-t-preserved : goal.loop-t-preserved
 loop-t-preserved c =
@@ -50,8 +46,7 @@ loop-t-preserved c =
     )
 
 pub shape_of-out : goal.shape_of-out
-shape_of-out c =
-    (c.loop-t.invariant.1.put c.requires.ended).long
+shape_of-out c = (c.loop-t.invariant.1.put c.requires.ended).long
 
 pub returns : goal.returns
 returns c =

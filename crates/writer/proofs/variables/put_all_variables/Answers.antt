@@ -6,8 +6,7 @@ use Rattle.writer.proofs.variables.put_all_variables.Goals.{else-sources-t-lt-UN
 use Rattle.writer.proofs.variables.put_all_variables.Goals as goal
 
 pub loop-t-init : goal.loop-t-init
-loop-t-init c =
-    (search rules, naming_start _ _ _ _ (search rules))
+loop-t-init c = (search rules, naming_start _ _ _ _ (search rules))
 
 pub put_variables-at-requires : goal.put_variables-at-requires
 put_variables-at-requires c =
