@@ -11,19 +11,19 @@ use Rattle.definition.specs.Kinds.{Side, Emitted, Step, initial_statements, map_
 
 -- A map's source, where it leads to the structure.
 abbrev pub source_into : ℕ → Map → Option ℕ
-source_into target m = pick (eqb m.target target) (some m.source) none
+source_into t m = pick (eqb m.target t) (some m.source) none
 
 -- incoming_source: 'the lowest source with a map to its structure' (maps stand by source, then target).
 unfoldable pub incoming_source : List Map → ℕ → Option ℕ
-incoming_source maps target = first_of (source_into target) maps
+incoming_source maps t = first_of (source_into t) maps
 
 -- A map's pairs, where it is between the two structures.
 abbrev pub map_of_pair : ℕ → ℕ → Map → Option (List Pair)
-map_of_pair source target m = pick (eqb m.source source && eqb m.target target) (some m.pairs) none
+map_of_pair s t m = pick (eqb m.source s && eqb m.target t) (some m.pairs) none
 
 -- 'a pair without a map': the pairs of the map between two structures, if there is one.
 unfoldable pub pairs_between : List Map → ℕ → ℕ → Option (List Pair)
-pairs_between maps source target = first_of (map_of_pair source target) maps
+pairs_between maps s t = first_of (map_of_pair s t) maps
 
 -- 21: 'an X structure has no map into it'.
 unfoldable pub unmapped_auxiliary : Rule → Bool
@@ -35,7 +35,7 @@ unmapped_kind rule = any (λ (k : Kind). not (given (pairs_between rule.maps k.s
 
 -- Whether a kind is that of a pair.
 abbrev pub of_pair : ℕ → ℕ → Kind → Bool
-of_pair source target k = eqb k.source source && eqb k.target target
+of_pair s t k = eqb k.source s && eqb k.target t
 
 -- 'Noop for class 0, else If'.
 abbrev pub auxiliary_kind : ℕ → MorphismKind
@@ -56,8 +56,7 @@ completed maps kinds (x ∷ xs) = completed maps (add_pair kinds (record {
 
 -- 'Pairs are walked by target, then source. Maps without kind are ignored.'
 unfoldable pub walked_kinds : Rule → List Kind
-walked_kinds rule = joined (λ (target : ℕ). joined (λ (source : ℕ).
-    keep (of_pair source target) (completed rule.maps rule.kinds rule.auxiliaries))
+walked_kinds rule = joined (λ (t : ℕ). joined (λ (s : ℕ). keep (of_pair s t) (completed rule.maps rule.kinds rule.auxiliaries))
     (span (length rule.structures) 0)) (span (length rule.structures) 0)
 
 -- A structure that has been reached: its elements' variables and its statements.

@@ -18,7 +18,7 @@ use Rattle.records.specs.declared.fields.Field.TheVariants.{Got}
 use Rattle.records.proofs.Link.{got_is}
 use Rattle.records.proofs.Index.{got_field}
 use Rattle.records.proofs.Lists.{keep_append}
-use Rattle.group.specs.Sections.{leading, trailing, Ordered, AtRule, Stated, statement_kinds, block_fault}
+use Rattle.group.specs.Sections.{leading, trailing, Ordered, AtRule, Stated, kinds_of, block_fault}
 use Rattle.group.specs.Answers.{Section, Rule}
 use Rattle.group.specs.declared.reader.Checked.TheVariants as checked
 use Rattle.group.specs.declared.reader.Ruled.TheVariants as ruled
@@ -81,11 +81,11 @@ or_else_none (some n) b e = let z : ◌≡◌ {A = ℕ} 0 1 = cc in absurd (omeg
 
 -- Fields without a fault.
 pub stated : (sig : Signature) (letter variables before : ℕ) (last : Option Field) (fs : List Field)
-    → fault_from (statement_fault sig (statement_kinds letter) variables) before last fs ≡ none → Stated sig letter variables fs
+    → fault_from (statement_fault sig (kinds_of letter) variables) before last fs ≡ none → Stated sig letter variables fs
 unfolding fault_from statement_fault
 stated sig letter variables before last [] e = tt
 stated sig letter variables before last (f ∷ fs) e =
-    let q = or_else_none (statement_fault sig (statement_kinds letter) variables before last f) _ e in
+    let q = or_else_none (statement_fault sig (kinds_of letter) variables before last f) _ e in
     (q.0, stated sig letter variables (before + 1) (some f) fs q.1)
 
 -- A U field without a fault stands behind fewer than the limit.
@@ -98,12 +98,12 @@ module _ (sig : Signature) (variables before : ℕ) {s : List ℕ} {at end : ℕ
     {l start len next : ℕ} (e : field_at s at ≡ Got l start len next) where
   -- The checks of the two sections, as the definition has them.
   premise_check : fault_among letter_b (statement_fault sig premise_kinds variables) (up_to letter_u fs)
-      ≡ fault_from (statement_fault sig (statement_kinds letter_b) variables) 0 none (leading letter_b fs)
+      ≡ fault_from (statement_fault sig (kinds_of letter_b) variables) 0 none (leading letter_b fs)
   unfolding fault_among
   premise_check = rw (premises_are fs o.1)
 
   conclusion_check : fault_among letter_h (statement_fault sig conclusion_kinds variables) (up_to letter_u fs)
-      ≡ fault_from (statement_fault sig (statement_kinds letter_h) variables) 0 none (leading letter_h (trailing letter_b fs))
+      ≡ fault_from (statement_fault sig (kinds_of letter_h) variables) 0 none (leading letter_h (trailing letter_b fs))
   unfolding fault_among
   conclusion_check = rw (conclusions_are fs o.1)
 
@@ -118,13 +118,13 @@ module _ (sig : Signature) (variables before : ℕ) {s : List ℕ} {at end : ℕ
 
     pub premise_fault : {n : ℕ}
         → ((gs : List Field) → Run s next end gs
-        → Section (checked.Refused n) s next end letter_b (statement_fault sig (statement_kinds letter_b) variables) gs)
+        → Section (checked.Refused n) s next end letter_b (statement_fault sig (kinds_of letter_b) variables) gs)
         → Rule (ruled.Refused n) sig variables before s at end f fs
     unfolding block_fault
     premise_fault p = record { is = rw (head_sound, premise_check ∙ (p fs (run_cons r e).1).is) }
 
     module _ {n₁ conclusions : ℕ} (p : (gs : List Field) → Run s next end gs
-        → Section (checked.Upto n₁ conclusions) s next end letter_b (statement_fault sig (statement_kinds letter_b) variables) gs) where
+        → Section (checked.Upto n₁ conclusions) s next end letter_b (statement_fault sig (kinds_of letter_b) variables) gs) where
       premise_sound : fault_among letter_b (statement_fault sig premise_kinds variables) (up_to letter_u fs) ≡ none
       premise_sound = premise_check ∙ (p fs (run_cons r e).1).is.0
 
@@ -132,7 +132,7 @@ module _ (sig : Signature) (variables before : ℕ) {s : List ℕ} {at end : ℕ
       mid_run = (p fs (run_cons r e).1).is.3
 
       pub conclusion_fault : {n : ℕ} → ((gs : List Field) → Run s conclusions end gs
-          → Section (checked.Refused n) s conclusions end letter_h (statement_fault sig (statement_kinds letter_h) variables) gs)
+          → Section (checked.Refused n) s conclusions end letter_h (statement_fault sig (kinds_of letter_h) variables) gs)
           → Rule (ruled.Refused n) sig variables before s at end f fs
       unfolding block_fault
       conclusion_fault q = record { is = rw (head_sound, premise_sound, conclusion_check ∙ (q (trailing letter_b fs) mid_run).is) }
@@ -156,7 +156,7 @@ module _ (sig : Signature) (variables before : ℕ) {s : List ℕ} {at end : ℕ
           ∙ found (trailing letter_b fs) conclusions m
 
       pub rule_done : {n₂ behind : ℕ} → ((gs : List Field) → Run s conclusions end gs
-          → Section (checked.Upto n₂ behind) s conclusions end letter_h (statement_fault sig (statement_kinds letter_h) variables) gs)
+          → Section (checked.Upto n₂ behind) s conclusions end letter_h (statement_fault sig (kinds_of letter_h) variables) gs)
           → Rule (ruled.Upto conclusions behind) sig variables before s at end f fs
       unfolding block_fault
       rule_done q =

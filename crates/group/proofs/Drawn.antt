@@ -25,7 +25,7 @@ use Rattle.signature.specs.Relations.{kind_of}
 use Rattle.signature.specs.declared.ids.Relation.{Relation}
 use Rattle.signature.specs.contracts.ids.Relation.{the_type}
 use Rattle.signature.specs.declared.ids.Relation.TheVariants.{Predicate, Function, Member, Equality, TypeSet, FuncDomain}
-use Rattle.group.specs.Sections.{statement_kinds}
+use Rattle.group.specs.Sections.{kinds_of}
 use Rattle.records.proofs.Numbers.{length_stretch, stretch_at, drop_stretch, number_in, length_numbers_in}
 
 module _ (s : List ℕ) (start len : ℕ) (h : start + len ≤ length s) (letter : ℕ) where
@@ -114,7 +114,7 @@ no_member (FuncDomain f) o = refl
 
 -- The kinds that may stand in a B or an H.
 module _ (letter : ℕ) where
-  pub type_set_lem : eqb letter letter_b ≡ has type_set (statement_kinds letter)
+  pub type_set_lem : eqb letter letter_b ≡ has type_set (kinds_of letter)
   unfolding has any
   type_set_lem = go (eqb letter letter_b)
     where
@@ -122,7 +122,7 @@ module _ (letter : ℕ) where
       go true = refl
       go false = refl
 
-  pub func_domain_lem : not (eqb letter letter_b) ≡ has func_domain (statement_kinds letter)
+  pub func_domain_lem : not (eqb letter letter_b) ≡ has func_domain (kinds_of letter)
   unfolding has any
   func_domain_lem = go (eqb letter letter_b)
     where
@@ -130,7 +130,7 @@ module _ (letter : ℕ) where
       go true = refl
       go false = refl
 
-  pub low_kind : (kind : ℕ) → kind < type_set → has kind (statement_kinds letter) ≡ true
+  pub low_kind : (kind : ℕ) → kind < type_set → has kind (kinds_of letter) ≡ true
   unfolding has any
   low_kind kind h = go (eqb letter letter_b) kind h
     where
@@ -146,7 +146,7 @@ module _ (letter : ℕ) where
       go false (suc (suc (suc zero))) h = refl
       go false (suc (suc (suc (suc k)))) h = absurd (omega arith)
 
-  pub high_kind : (kind : ℕ) → func_domain < kind → has kind (statement_kinds letter) ≡ false
+  pub high_kind : (kind : ℕ) → func_domain < kind → has kind (kinds_of letter) ≡ false
   unfolding has any
   high_kind kind h = go (eqb letter letter_b)
     where
@@ -166,7 +166,7 @@ module _ (letter : ℕ) where
         ne_eqb 5 kind (λ e. omega arith),
       )
 
-  pub known_kind : (kind : ℕ) → has kind (statement_kinds letter) ≡ true → kind ≤ func_domain
+  pub known_kind : (kind : ℕ) → has kind (kinds_of letter) ≡ true → kind ≤ func_domain
   known_kind kind e = go (dec_lt func_domain kind)
     where
       go : Dec (func_domain < kind) → kind ≤ func_domain

@@ -12,7 +12,7 @@ use Rattle.definition.specs.Signature.{Signature, symbol_count, named}
 use Rattle.definition.specs.Group.{Statement, statement_of, statement_fault}
 use Rattle.laws.proofs.Lists.{lowest_none, or_left, or_right}
 use Rattle.records.proofs.Lists.{all_get}
-use Rattle.group.specs.Sections.{statement_kinds}
+use Rattle.group.specs.Sections.{kinds_of}
 
 -- Its length, its symbol and its variables.
 pub record SoundStatement (sig : Signature) (variables : ℕ) (f : Field) : Type 0 where
@@ -30,14 +30,14 @@ module _ (sig : Signature) (letter variables : ℕ) (f : Field) where
   first = not (odd (length f.content)) || ltb (length f.content) 3
 
   abbrev second : Bool
-  second = not (has it.kind (statement_kinds letter)) || not (ltb it.symbol (symbol_count sig it.kind)) || not (named variables it.variables)
+  second = not (has it.kind (kinds_of letter)) || not (ltb it.symbol (symbol_count sig it.kind)) || not (named variables it.variables)
 
-  pub sound_statement : statement_fault sig (statement_kinds letter) variables 0 none f ≡ none → SoundStatement sig variables f
+  pub sound_statement : statement_fault sig (kinds_of letter) variables 0 none f ≡ none → SoundStatement sig variables f
   unfolding statement_fault
   sound_statement e =
       let a = lowest_none 3 first _ e in
       let b = lowest_none 5 second _ a.1 in
-      let p : Bool = not (has it.kind (statement_kinds letter)) in
+      let p : Bool = not (has it.kind (kinds_of letter)) in
       let q : Bool = not (ltb it.symbol (symbol_count sig it.kind)) in
       let r : Bool = not (named variables it.variables) in
       let n : named variables it.variables ≡ true = not-false _ (or_right (p || q) r b.0) in

@@ -27,13 +27,13 @@ AtRule [] = Unit
 AtRule (f ∷ fs) = (f.letter ≡ letter_u) × Ordered group_grammar letter_u fs
 
 -- The kinds that a statement of a letter may have.
-abbrev pub statement_kinds : ℕ → List ℕ
-statement_kinds letter = pick (eqb letter letter_b) premise_kinds conclusion_kinds
+abbrev pub kinds_of : ℕ → List ℕ
+kinds_of letter = pick (eqb letter letter_b) premise_kinds conclusion_kinds
 
 -- The fields of a B or H section have no fault.
 abbrev pub Stated : Signature → ℕ → ℕ → List Field → Type 0
 Stated sig letter variables [] = Unit
-Stated sig letter variables (f ∷ fs) = (statement_fault sig (statement_kinds letter) variables 0 none f ≡ none) × Stated sig letter variables fs
+Stated sig letter variables (f ∷ fs) = (statement_fault sig (kinds_of letter) variables 0 none f ≡ none) × Stated sig letter variables fs
 
 -- The first fault of a rule.
 unfoldable pub block_fault : Signature → ℕ → ℕ → Block → Option ℕ

@@ -10,7 +10,7 @@ ghost use Rattle.records.specs.Places.{field_of};
 ghost use Rattle.signature.specs.Faults.{fault_of};
 ghost use Rattle.signature.specs.Index.{signature_at, Indexed};
 ghost use Rattle.signature.specs.Relations.{kind_of, number_of, count_of};
-ghost use Rattle.group.specs.Sections.{statement_kinds};
+ghost use Rattle.group.specs.Sections.{kinds_of};
 ghost use Rattle.group.specs.Answers.{columns_differ};
 
 use crate::ids::{LETTER_B, NAME_AT, NAME_BYTES, RULES, VARIABLES, VARS_AT};
@@ -72,7 +72,7 @@ pub fn rule_fault(s: &[u8], start: usize, len: usize, before: usize) -> Fault
 
 // May a statement of a kind stand in a field of a letter, B or H?
 fn may_state(letter: u8, kind: u8) -> bool
-    ensures { result ≡ has kind (statement_kinds letter) }
+    ensures { result ≡ has kind (kinds_of letter) }
 {
     match kind {
         PREDICATE | FUNCTION | MEMBER | EQUALITY => true,
@@ -128,7 +128,7 @@ pub fn statement_fault(
     requires len_in_bounds { start + len ≤ length s.now }
     ensures { (before : ℕ) (last : Option Field) → fault_of result
         ≡ statement_fault (signature_at sig.now symbols.now counts)
-        (statement_kinds letter) variables before last (field_of s.now letter start len) }
+        (kinds_of letter) variables before last (field_of s.now letter start len) }
 {
     if (len & 1) != 1 {
         return Fault::Draws(3);

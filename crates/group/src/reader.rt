@@ -8,7 +8,7 @@ ghost use Rattle.definition.specs.Signature.{Signature};
 ghost use Rattle.definition.specs.Group.{group_grammar, group_part, read_group, title_fault, statement_fault};
 ghost use Rattle.records.specs.Places.{Run, Parted};
 ghost use Rattle.signature.specs.Index.{signature_at, Indexed};
-ghost use Rattle.group.specs.Sections.{AtRule, statement_kinds};
+ghost use Rattle.group.specs.Sections.{AtRule, kinds_of};
 ghost use Rattle.group.specs.Index.{index_size};
 ghost use Rattle.group.specs.Answers.{
   group_reading,
@@ -224,7 +224,7 @@ fn statements(
     requires from_in_bounds { from ≤ length s.now }
     ensures section { (fs : List definition.Field) → Run s.now from end fs
         → Section result s.now from end letter
-        (statement_fault (signature_at sig.now symbols.now counts) (statement_kinds letter) variables) fs }
+        (statement_fault (signature_at sig.now symbols.now counts) (kinds_of letter) variables) fs }
     ensures onward { Onward result from (length s.now) }
 {
     let mut at = from;

@@ -7,15 +7,15 @@ use Rattle.definition.specs.Walk.{of_pair}
 
 -- The kind of a pair, if it has one.
 abbrev pub kind_of_pair : ℕ → ℕ → Kind → Option MorphismKind
-kind_of_pair source target k = pick (of_pair source target k) (some k.kind) none
+kind_of_pair s t k = pick (of_pair s t k) (some k.kind) none
 
 unfoldable pub kind_at : List Kind → ℕ → ℕ → Option MorphismKind
-kind_at ks source target = first_of (kind_of_pair source target) ks
+kind_at ks s t = first_of (kind_of_pair s t) ks
 
 -- As a list of kinds.
 abbrev pub kinds_of : ℕ → ℕ → Option MorphismKind → List Kind
-kinds_of source target none = []
-kinds_of source target (some k) = record { source = source; target = target; kind = k } ∷ []
+kinds_of s t none = []
+kinds_of s t (some k) = record { source = s; target = t; kind = k } ∷ []
 
 -- Kinds in which a pair stands once.
 abbrev pub Once : List Kind → Type 0

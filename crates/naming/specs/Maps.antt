@@ -9,4 +9,4 @@ use Rattle.naming.specs.Variables.{variables_in}
 
 -- What the target's elements take over, where the source's variables stand in a row.
 abbrev pub taken_over : List ℕ → List ℕ → ℕ → ℕ → Map → List (Option ℕ)
-taken_over s row source target m = carried (structure_in s source) (variables_in (structure_in s source) row) (pairs_in s m) (structure_in s target)
+taken_over s row src tgt m = carried (structure_in s src) (variables_in (structure_in s src) row) (pairs_in s m) (structure_in s tgt)

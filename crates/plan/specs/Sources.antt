@@ -5,5 +5,5 @@ use Rattle.plan.specs.declared.sources.Source.{Source}
 use Rattle.plan.specs.declared.sources.Source.TheVariants.{At, Nothing}
 
 abbrev pub source_is : Source → Option ℕ
-source_is (At source) = some source
+source_is (At u) = some u
 source_is Nothing = none

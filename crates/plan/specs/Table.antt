@@ -12,14 +12,14 @@ kind_in n = get_or (some If ∷ some SurjThen ∷ some NonSurjThen ∷ some Noop
 
 -- The number of a pair.
 abbrev pub entry_at : List (List ℕ) → ℕ → ℕ → ℕ
-entry_at table source target = get_or (get_or table source []) target 0
+entry_at table u t = get_or (get_or table u []) t 0
 
 -- The table has the kinds of a list, each pair by the first of its kinds.
 pub record Tabled (table : List (List ℕ)) (ks : List Kind) : Type 0 where
   pub long : length table ≡ structure_limit
-  pub wide : (source : ℕ) → source < structure_limit → length (get_or table source []) ≡ structure_limit
-  pub same : (source target : ℕ) → source < structure_limit → target < structure_limit → kind_in (entry_at table source target) ≡ kind_at ks source target
+  pub wide : (u : ℕ) → u < structure_limit → length (get_or table u []) ≡ structure_limit
+  pub same : (u t : ℕ) → u < structure_limit → t < structure_limit → kind_in (entry_at table u t) ≡ kind_at ks u t
 
 -- A pair with the kind of a number is added to a table, unless it has one by then.
-pub record Adds (table more : List (List ℕ)) (source target n : ℕ) : Type 0 where
-  pub tabled : (ks : List Kind) (k : Kind) → Tabled table ks → source ≡ k.source → target ≡ k.target → kind_in n ≡ some k.kind → Tabled more (add_pair ks k)
+pub record Adds (table more : List (List ℕ)) (u t n : ℕ) : Type 0 where
+  pub tabled : (ks : List Kind) (k : Kind) → Tabled table ks → u ≡ k.source → t ≡ k.target → kind_in n ≡ some k.kind → Tabled more (add_pair ks k)

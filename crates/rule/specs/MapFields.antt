@@ -40,6 +40,6 @@ pub record ImagesIn (target : Structure) (pairs : List Pair) : Type 0 where
   pub named : (p : Pair) → p ∈ pairs → p.image ∈ numbers_of target
 
 -- Its keys are elements of the source, and its images elements of the target.
-pub record Joins (s : List ℕ) (source target : ℕ) (m : Map) : Type 0 where
-  pub keys : KeysIn (numbers_of (structure_in s source)) (pairs_in s m)
-  pub images : ImagesIn (structure_in s target) (pairs_in s m)
+pub record Joins (s : List ℕ) (src tgt : ℕ) (m : Map) : Type 0 where
+  pub keys : KeysIn (numbers_of (structure_in s src)) (pairs_in s m)
+  pub images : ImagesIn (structure_in s tgt) (pairs_in s m)

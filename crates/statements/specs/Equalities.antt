@@ -31,6 +31,6 @@ pub record TypedVars (vars : List ℕ) (count size : ℕ) : Type 0 where
   pub below : (i : ℕ) → i < count → get_or vars i 0 < size
 
 -- A map's keys are elements of its source, whose variables have places in that table.
-pub record KeysGiven (s : List ℕ) (source : ℕ) (m : Map) (row : List ℕ) (size : ℕ) : Type 0 where
-  pub keys : KeysIn (numbers_of (structure_in s source)) (pairs_in s m)
-  pub given : GivenOut (structure_in s source) row size
+pub record KeysGiven (s : List ℕ) (src : ℕ) (m : Map) (row : List ℕ) (size : ℕ) : Type 0 where
+  pub keys : KeysIn (numbers_of (structure_in s src)) (pairs_in s m)
+  pub given : GivenOut (structure_in s src) row size

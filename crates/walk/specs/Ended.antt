@@ -32,7 +32,7 @@ pub record Ground (sig : Signature) (s index : List ℕ) : Type 0 where
   pub sounds : (k : ℕ) → k < length (rule_at s).structures → SoundAt sig s index k
   pub few : length (rule_at s).structures ≤ structure_limit
   pub some_one : 0 < length (rule_at s).structures
-  pub mapped : (source target : ℕ) (kind : MorphismKind) → kind_on s source target ≡ some kind → given (pairs_between (rule_at s).maps source target) ≡ true
+  pub mapped : (u t : ℕ) (kind : MorphismKind) → kind_on s u t ≡ some kind → given (pairs_between (rule_at s).maps u t) ≡ true
   pub keyed : Keyed s
   pub once : Once (rule_at s).kinds
   pub headed : Headed s

@@ -75,14 +75,14 @@ merged_at tb t = mask_in (get_or tb.masks t []) 4
 
 -- The kind and the pairs of the map between two structures.
 unfoldable pub kind_on : List ℕ → ℕ → ℕ → Option MorphismKind
-kind_on s source target = kind_at (completed (rule_at s).maps (rule_at s).kinds (rule_at s).auxiliaries) source target
+kind_on s u t = kind_at (completed (rule_at s).maps (rule_at s).kinds (rule_at s).auxiliaries) u t
 
 unfoldable pub pairs_on : List ℕ → ℕ → ℕ → List Pair
-pairs_on s source target = or_default (pairs_between (rule_at s).maps source target) []
+pairs_on s u t = or_default (pairs_between (rule_at s).maps u t) []
 
 -- The keys of a rule's maps are elements of their sources.
 abbrev pub Keyed : List ℕ → Type 0
-Keyed s = (source target : ℕ) (p : Pair) → p ∈ pairs_on s source target → p.key ∈ numbers_of (structure_in s source)
+Keyed s = (u t : ℕ) (p : Pair) → p ∈ pairs_on s u t → p.key ∈ numbers_of (structure_in s u)
 
 -- What a map appends to its source's statements, by its kind; structure 0, which no map reached, says what its masks mean.
 unfoldable pub own_by : Option MorphismKind → List Statement → List Statement → List Statement

@@ -36,15 +36,15 @@ pub record Ties (sig : Signature) (table : List Variable) (s : List ℕ) (tb : T
   pub each_one : (k : ℕ) → k < length (rule_at s).structures → Tie sig table s tb slots k (get_or slots k none)
   pub others : (k : ℕ) → length (rule_at s).structures ≤ k → source_at tb k ≡ unreached
 
--- The state of the walk while the maps into a target are walked.
-pub record Walking (sig : Signature) (s : List ℕ) (tb : Tables) (types : List ℕ) (next target : ℕ) (state : State) : Type 0 where
+-- The state of the walk while the maps into structure t are walked.
+pub record Walking (sig : Signature) (s : List ℕ) (tb : Tables) (types : List ℕ) (next t : ℕ) (state : State) : Type 0 where
   pub ties : Ties sig state.variables s tb state.slots
   pub first_reached : source_at tb 0 < unreached
-  pub above : (k : ℕ) → target < k → source_at tb k ≡ unreached
-  pub variables : state.variables ≡ news_to s tb (suc target)
-  pub rules : state.rules ≡ named_rules (group_name (rule_at s)) 0 (emitted_to sig state.variables s tb state.slots (suc target))
+  pub above : (k : ℕ) → t < k → source_at tb k ≡ unreached
+  pub variables : state.variables ≡ news_to s tb (suc t)
+  pub rules : state.rules ≡ named_rules (group_name (rule_at s)) 0 (emitted_to sig state.variables s tb state.slots (suc t))
   pub next_is : next ≡ length state.variables
-  pub few : next ≤ field_limit * suc target
-  pub fewer : source_at tb target ≡ unreached → next ≤ field_limit * target
+  pub few : next ≤ field_limit * suc t
+  pub fewer : source_at tb t ≡ unreached → next ≤ field_limit * t
   pub types_are : TypesOf state.variables types
   pub types_long : field_limit * length (rule_at s).structures ≤ length types

@@ -83,11 +83,11 @@ pub record GoingFrom (sig : Signature) (s sources : List ℕ) (masks : List (Lis
 
 -- One map on, or the walk is refused.
 abbrev WentAs : Walked → Signature → List ℕ → Tables → List ℕ → ℕ → ℕ → ℕ → Type 0
-WentAs On sig s tb types next target source = Going sig s tb types next target (suc source)
-WentAs (Refused n) sig s tb types next target source = whole_walk sig s ≡ refused n
+WentAs On sig s tb types next t u = Going sig s tb types next t (suc u)
+WentAs (Refused n) sig s tb types next t u = whole_walk sig s ≡ refused n
 
-pub record Went (r : Walked) (sig : Signature) (s : List ℕ) (tb : Tables) (types : List ℕ) (next target source : ℕ) : Type 0 where
-  pub is : WentAs r sig s tb types next target source
+pub record Went (r : Walked) (sig : Signature) (s : List ℕ) (tb : Tables) (types : List ℕ) (next t u : ℕ) : Type 0 where
+  pub is : WentAs r sig s tb types next t u
 
 -- The number of a refused walk; 0 where it goes on.
 abbrev pub stop_in : Walked → ℕ

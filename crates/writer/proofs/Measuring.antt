@@ -13,10 +13,10 @@ use Rattle.definition.specs.Writer.{field_bytes}
 use Rattle.records.specs.Buffer.{Put, capped, count_limit, head_bytes}
 use Rattle.records.proofs.Tail.{then, field_bytes_lem}
 use Rattle.statements.proofs.Counting.{beyond}
-use Rattle.walk.specs.Tables.{Tables, unreached, source_at, statements_at}
+use Rattle.walk.specs.Tables.{Tables, unreached, source_at, own_at, statements_at}
 use Rattle.walk.specs.Ended.{Ended, Reaching}
 use Rattle.laws.specs.Bytes.{statement_bytes}
-use Rattle.writer.specs.Rules.{name_field, body_bytes, PutAtEnd, own_bytes}
+use Rattle.writer.specs.Rules.{name_field, body_bytes}
 use Rattle.writer.proofs.Premises.{place_small, source_reaching, source_below, premise_first, premise_later}
 use Rattle.writer.proofs.Ruling.{body_put}
 
@@ -55,7 +55,8 @@ module _ {s index types : List ℕ} {kinds : List (List ℕ)} {tb : Tables} wher
   first_reaching e = record { inside = e.ground.some_one; reached = e.finished.first_reached }
 
   pub measured_first : (lengths : List ℕ) {r : ℕ} → length lengths ≡ structure_limit
-      → PutAtEnd [] [] s index types kinds tb (λ e. own_bytes e 0) 0 r → Measured s index types kinds tb (set lengths 0 r) 1
+      → ((e : Ended s index types kinds tb) → Put [] [] (statement_bytes letter_b (own_at e.sig e.state.variables s tb 0)) 0 r)
+      → Measured s index types kinds tb (set lengths 0 r) 1
   measured_first lengths {r} l p = record {
     long = length-set lengths 0 r ∙ l;
     each_one = λ e u h x. let z : u ≡ 0 = omega arith in rw (z, get_or-set_same lengths 0 r 0 (omega arith)) (premise_first e (first_reaching e) refl (p e));
@@ -71,18 +72,17 @@ module _ {s index types : List ℕ} {kinds : List (List ℕ)} {tb : Tables} wher
         go e u h x (no z) = m.each_one e u (omega arith) x
 
     -- What stands before a structure's own statements.
-    pub measured_before : (e : Ended s index types kinds tb) → Reaching s tb t → 0 < t → {source : ℕ} → source ≡ get_or tb.sources t 0
-        → Put [] [] (statement_bytes letter_b (statements_at e.state.slots source)) 0 (get_or lengths source 0)
-    measured_before e x h {source} q = m.each_one e source (source_below e x q (λ z. omega arith)) (source_reaching e x q).reached
+    pub measured_before : (e : Ended s index types kinds tb) → Reaching s tb t → 0 < t → {u : ℕ} → u ≡ get_or tb.sources t 0
+        → Put [] [] (statement_bytes letter_b (statements_at e.state.slots u)) 0 (get_or lengths u 0)
+    measured_before e x h {u} q = m.each_one e u (source_below e x q (λ z. omega arith)) (source_reaching e x q).reached
 
-    pub measured_small : Ended s index types kinds tb → Reaching s tb t → 0 < t → {source : ℕ} → source ≡ get_or tb.sources t 0
-        → get_or lengths source 0 ≤ count_limit
+    pub measured_small : Ended s index types kinds tb → Reaching s tb t → 0 < t → {u : ℕ} → u ≡ get_or tb.sources t 0 → get_or lengths u 0 ≤ count_limit
     measured_small e x h q = omega (arith, (measured_before e x h q).size)
 
-    pub measured_next : {source r : ℕ} → Ended s index types kinds tb → Reaching s tb t → 0 < t → source ≡ get_or tb.sources t 0
-        → PutAtEnd [] [] s index types kinds tb (λ e. own_bytes e t) (get_or lengths source 0) r
+    pub measured_next : {u r : ℕ} → Ended s index types kinds tb → Reaching s tb t → 0 < t → u ≡ get_or tb.sources t 0
+        → ((e : Ended s index types kinds tb) → Put [] [] (statement_bytes letter_b (own_at e.sig e.state.variables s tb t)) (get_or lengths u 0) r)
         → Measured s index types kinds tb (set lengths t r) (t + 1)
-    measured_next {source} {r} pre x h q p = record { long = length-set lengths t r ∙ m.long; each_one = λ e v i y. go e v i y (ℕ_discrete v t) }
+    measured_next {u} {r} pre x h q p = record { long = length-set lengths t r ∙ m.long; each_one = λ e v i y. go e v i y (ℕ_discrete v t) }
       where
         go : (e : Ended s index types kinds tb) (v : ℕ) → v < t + 1 → source_at tb v < unreached → Dec (v ≡ t)
             → Put [] [] (statement_bytes letter_b (statements_at e.state.slots v)) 0 (get_or (set lengths t r) v 0)

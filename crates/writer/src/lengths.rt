@@ -7,10 +7,10 @@ ghost use Rattle.definition.specs.Writer.{field_bytes, record_bytes, flat_rule_f
 ghost use Rattle.records.specs.Buffer.{Put, count_limit};
 ghost use Rattle.rule.specs.Lookup.{rule_at};
 ghost use Rattle.rule.specs.Structures.{Headed};
-ghost use Rattle.walk.specs.Tables.{tables, concluded_at, statements_at};
+ghost use Rattle.walk.specs.Tables.{tables, own_at, concluded_at, statements_at};
 ghost use Rattle.walk.specs.Ended.{Ended, Reaching};
 ghost use Rattle.laws.specs.Bytes.{statement_bytes};
-ghost use Rattle.writer.specs.Rules.{name_field, body_bytes, PutAtEnd, own_bytes};
+ghost use Rattle.writer.specs.Rules.{name_field, body_bytes};
 
 use crate::premise::put_own;
 use crate::rules::{emits, put_conclusion};
@@ -36,8 +36,10 @@ fn own_length(
     requires from_le_count_limit { from ≤ count_limit }
     requires ended { Ended s.now index.now types.now kinds.now (tables sources.now masks.now vars.now) }
     requires reaching { Reaching s.now (tables sources.now masks.now vars.now) t }
-    ensures put_at_end { PutAtEnd [] [] s.now index.now types.now kinds.now
-        (tables sources.now masks.now vars.now) (λ e. own_bytes e t) from result }
+    ensures put { (e : Ended s.now index.now types.now kinds.now
+        (tables sources.now masks.now vars.now))
+        → Put [] [] (statement_bytes letter_b
+        (own_at e.sig e.state.variables s.now (tables sources.now masks.now vars.now) t)) from result }
     ensures upper_bound { result ≤ count_limit }
 {
     let mut nothing = [0u8; 0];
@@ -120,9 +122,9 @@ pub fn rules_length(
 ) -> usize
     requires from_le_count_limit { (from ≤ count_limit) × (n ≡ length (rule_at s.now).structures) }
     requires ended { Ended s.now index.now types.now kinds.now (tables sources.now masks.now vars.now) }
-    ensures put_at_end { PutAtEnd [] [] s.now index.now types.now kinds.now
-        (tables sources.now masks.now vars.now)
-        (λ e. joined (λ (f : definition.FlatRule). record_bytes (flat_rule_fields f)) e.state.rules) from result }
+    ensures put { (e : Ended s.now index.now types.now kinds.now
+        (tables sources.now masks.now vars.now))
+        → Put [] [] (joined (λ (f : definition.FlatRule). record_bytes (flat_rule_fields f)) e.state.rules) from result }
     ensures upper_bound { result ≤ count_limit }
 {
     let mut lengths = [0usize; STRUCTURES];

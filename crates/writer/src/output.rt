@@ -2,11 +2,10 @@
 ghost use Rattle.std.specs.Prelude.{◌≡◌, ◌≤◌, length};
 ghost use Rattle.definition.specs.Flatten.{group_left};
 ghost use Rattle.definition.specs.Writer.{group_bytes_of};
-ghost use Rattle.records.specs.Buffer.{count_limit};
+ghost use Rattle.records.specs.Buffer.{Put, count_limit};
 ghost use Rattle.rule.specs.Lookup.{rule_at};
 ghost use Rattle.walk.specs.Tables.{tables};
 ghost use Rattle.walk.specs.Ended.{Ended};
-ghost use Rattle.writer.specs.Rules.{PutAtEnd};
 
 use crate::lengths::rules_length;
 use crate::rules::put_rules;
@@ -31,8 +30,9 @@ pub fn put_group(
 ) -> usize
     requires n_value { n ≡ length (rule_at s.now).structures }
     requires ended { Ended s.now index.now types.now kinds.now (tables sources.now masks.now vars.now) }
-    ensures put_at_end { PutAtEnd out.old out.new s.now index.now types.now kinds.now
-        (tables sources.now masks.now vars.now) (λ e. group_bytes_of (group_left (rule_at s.now) e.state)) 0 result }
+    ensures put { (e : Ended s.now index.now types.now kinds.now
+        (tables sources.now masks.now vars.now))
+        → Put out.old out.new (group_bytes_of (group_left (rule_at s.now) e.state)) 0 result }
     ensures upper_bound { result ≤ count_limit }
 {
     let head = put_group_head(out, 0, group_name_length(s));

@@ -4,12 +4,11 @@ ghost use Rattle.definition.specs.Base.{given};
 ghost use Rattle.definition.specs.Letters.{letter_b};
 ghost use Rattle.definition.specs.Walk.{pairs_between};
 ghost use Rattle.definition.specs.Limits.{structure_limit};
-ghost use Rattle.records.specs.Buffer.{count_limit};
+ghost use Rattle.records.specs.Buffer.{Put, count_limit};
 ghost use Rattle.rule.specs.Lookup.{rule_at};
-ghost use Rattle.walk.specs.Tables.{tables, equalities_at, said_at, statements_at};
+ghost use Rattle.walk.specs.Tables.{tables, equalities_at, said_at, own_at, statements_at};
 ghost use Rattle.walk.specs.Ended.{Ended, Reaching, ReachedBy};
 ghost use Rattle.laws.specs.Bytes.{statement_bytes};
-ghost use Rattle.writer.specs.Rules.{PutAtEnd, own_bytes};
 
 use flags::{Held, none_set};
 use group::ids::LETTER_B;
@@ -53,10 +52,11 @@ fn put_map_equalities(
     requires from_le_count_limit { (from ≤ count_limit) × ((0 < t) × (given (pairs_between (rule_at s.now).maps (get_or sources.now t 0) t) ≡ true)) }
     requires by_index { (kinds : List (List ℕ)) × Ended s.now index.now types.now kinds (tables sources.now masks.now vars.now) }
     requires reaching { Reaching s.now (tables sources.now masks.now vars.now) t }
-    ensures by_index_2 { (kinds : List (List ℕ)) → PutAtEnd out.old out.new s.now index.now types.now kinds
-        (tables sources.now masks.now vars.now)
-        (λ e. statement_bytes letter (equalities_at e.sig e.state.variables s.now
-        (tables sources.now masks.now vars.now) t)) from result }
+    ensures by_index_2 { (kinds : List (List ℕ)) (e : Ended s.now index.now types.now kinds (tables sources.now masks.now vars.now))
+        → Put out.old out.new
+        (statement_bytes letter
+        (equalities_at e.sig e.state.variables s.now (tables sources.now masks.now vars.now) t)) from
+        result }
     ensures upper_bound { result ≤ count_limit }
 {
     let merged = mask_at(masks, t, MERGED);
@@ -90,10 +90,10 @@ pub fn put_both(
     requires from_le_count_limit { (from ≤ count_limit) × ((0 < t) × (given (pairs_between (rule_at s.now).maps (get_or sources.now t 0) t) ≡ true)) }
     requires by_index { (kinds : List (List ℕ)) × Ended s.now index.now types.now kinds (tables sources.now masks.now vars.now) }
     requires reaching { Reaching s.now (tables sources.now masks.now vars.now) t }
-    ensures by_index_2 { (kinds : List (List ℕ)) → PutAtEnd out.old out.new s.now index.now types.now kinds
-        (tables sources.now masks.now vars.now)
-        (λ e. statement_bytes letter (equalities_at e.sig e.state.variables s.now
-        (tables sources.now masks.now vars.now) t
+    ensures by_index_2 { (kinds : List (List ℕ)) (e : Ended s.now index.now types.now kinds (tables sources.now masks.now vars.now))
+        → Put out.old out.new
+        (statement_bytes letter
+        (equalities_at e.sig e.state.variables s.now (tables sources.now masks.now vars.now) t
         ++ said_at s.now (tables sources.now masks.now vars.now) t)) from result }
     ensures upper_bound { result ≤ count_limit }
 {
@@ -117,8 +117,11 @@ pub fn put_own(
     requires from_le_count_limit { from ≤ count_limit }
     requires ended { Ended s.now index.now types.now kinds.now (tables sources.now masks.now vars.now) }
     requires reaching { Reaching s.now (tables sources.now masks.now vars.now) t }
-    ensures put_at_end { PutAtEnd out.old out.new s.now index.now types.now kinds.now
-        (tables sources.now masks.now vars.now) (λ e. own_bytes e t) from result }
+    ensures put { (e : Ended s.now index.now types.now kinds.now
+        (tables sources.now masks.now vars.now))
+        → Put out.old out.new
+        (statement_bytes letter_b
+        (own_at e.sig e.state.variables s.now (tables sources.now masks.now vars.now) t)) from result }
     ensures upper_bound { result ≤ count_limit }
 {
     let kind = reached_by(kinds, sources, t);
@@ -158,8 +161,9 @@ pub fn put_premise(
     requires from_le_count_limit { from ≤ count_limit }
     requires ended { Ended s.now index.now types.now kinds.now (tables sources.now masks.now vars.now) }
     requires reaching { Reaching s.now (tables sources.now masks.now vars.now) t }
-    ensures put_at_end { PutAtEnd out.old out.new s.now index.now types.now kinds.now
-        (tables sources.now masks.now vars.now) (λ e. statement_bytes letter_b (statements_at e.state.slots t)) from result }
+    ensures put { (e : Ended s.now index.now types.now kinds.now
+        (tables sources.now masks.now vars.now))
+        → Put out.old out.new (statement_bytes letter_b (statements_at e.state.slots t)) from result }
     ensures upper_bound { result ≤ count_limit }
 {
     if t == 0 {

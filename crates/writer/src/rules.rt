@@ -1,5 +1,5 @@
 // The rules of a group as bytes: a name, a premise, a conclusion.
-ghost use Rattle.std.specs.Prelude.{◌≡◌, ◌≤◌, ◌<◌, length, get_or};
+ghost use Rattle.std.specs.Prelude.{List, [], ◌∷◌, ◌≡◌, ◌≤◌, ◌<◌, length, get_or};
 ghost use Rattle.definition.specs.Base.{joined};
 ghost use Rattle.definition.specs.Group as definition;
 ghost use Rattle.definition.specs.Letters.{letter_h};
@@ -8,10 +8,10 @@ ghost use Rattle.definition.specs.Limits.{structure_limit};
 ghost use Rattle.records.specs.Buffer.{Put, count_limit};
 ghost use Rattle.rule.specs.Lookup.{rule_at};
 ghost use Rattle.rule.specs.Structures.{Headed};
-ghost use Rattle.walk.specs.Tables.{tables};
+ghost use Rattle.walk.specs.Tables.{tables, concluded_at};
 ghost use Rattle.walk.specs.Ended.{Ended, Reaching, Emits};
 ghost use Rattle.laws.specs.Bytes.{statement_bytes};
-ghost use Rattle.writer.specs.Rules.{name_field, body_bytes, PutAtEnd, PutConcluded};
+ghost use Rattle.writer.specs.Rules.{name_field, body_bytes};
 
 use crate::premise::{put_both, put_premise, reached_by};
 use flags::{Held, none_set};
@@ -59,8 +59,12 @@ pub fn put_conclusion(
     requires from_le_count_limit { from ≤ count_limit }
     requires ended { Ended s.now index.now types.now kinds.now (tables sources.now masks.now vars.now) }
     requires reaching { Reaching s.now (tables sources.now masks.now vars.now) t }
-    ensures put_concluded { PutConcluded out.old out.new s.now index.now types.now kinds.now
-        (tables sources.now masks.now vars.now) t (λ e conclusion. statement_bytes letter_h conclusion) from result }
+    ensures put { (e : Ended s.now index.now types.now kinds.now
+        (tables sources.now masks.now vars.now))
+        (conclusion : List definition.Statement)
+        → concluded_at e.sig e.state.variables s.now (tables sources.now masks.now vars.now) t
+        ≡ conclusion ∷ []
+        → Put out.old out.new (statement_bytes letter_h conclusion) from result }
     ensures upper_bound { result ≤ count_limit }
 {
     let kind = reached_by(kinds, sources, t);
@@ -106,9 +110,12 @@ fn put_body(
     requires from_le_count_limit { (from ≤ count_limit) × (0 < t) }
     requires ended { Ended s.now index.now types.now kinds.now (tables sources.now masks.now vars.now) }
     requires reaching { Reaching s.now (tables sources.now masks.now vars.now) t }
-    ensures put_concluded { PutConcluded out.old out.new s.now index.now types.now kinds.now
-        (tables sources.now masks.now vars.now) t
-        (λ e conclusion. body_bytes e.state.slots (tables sources.now masks.now vars.now) t conclusion) from result }
+    ensures put { (e : Ended s.now index.now types.now kinds.now
+        (tables sources.now masks.now vars.now))
+        (conclusion : List definition.Statement)
+        → concluded_at e.sig e.state.variables s.now (tables sources.now masks.now vars.now) t
+        ≡ conclusion ∷ []
+        → Put out.old out.new (body_bytes e.state.slots (tables sources.now masks.now vars.now) t conclusion) from result }
     ensures upper_bound { result ≤ count_limit }
 {
     let source = place(sources[t]);
@@ -133,9 +140,9 @@ pub fn put_rules(
 ) -> usize
     requires from_le_count_limit { (from ≤ count_limit) × (n ≡ length (rule_at s.now).structures) }
     requires ended { Ended s.now index.now types.now kinds.now (tables sources.now masks.now vars.now) }
-    ensures put_at_end { PutAtEnd out.old out.new s.now index.now types.now kinds.now
-        (tables sources.now masks.now vars.now)
-        (λ e. joined (λ (f : definition.FlatRule). record_bytes (flat_rule_fields f)) e.state.rules) from result }
+    ensures put { (e : Ended s.now index.now types.now kinds.now
+        (tables sources.now masks.now vars.now))
+        → Put out.old out.new (joined (λ (f : definition.FlatRule). record_bytes (flat_rule_fields f)) e.state.rules) from result }
     ensures upper_bound { result ≤ count_limit }
 {
     let mut at = from;

@@ -1,10 +1,6 @@
-use Rattle.plan.proofs.SourceLaws.{into, source_here, source_behind, source_none}
-use Rattle.plan.proofs.Scanning.{Asking, asking, asked_end, answered, passed, maps_from, values_bad, values_inside, values_long}
-use Rattle.rule.specs.Lookup.{rule_at}
-use Rattle.definition.specs.Rule.{map_of}
+use Rattle.plan.proofs.SourceLaws.{source_here, source_behind, source_none}
+use Rattle.plan.proofs.Scanning.{asking, asked_end, answered, passed, maps_from, values_bad, values_inside, values_long}
 use mathlib.Core.Path.{◌∙◌, sym}
-use Prim.Native.Nat.{◌-◌}
-use borrow.Author.Rules.{rules}
 use native.Mathlib.Omega.{arith}
 use Rattle.plan.proofs.sources.incoming_source.Goals as goal
 

@@ -1,12 +1,8 @@
-use Rattle.plan.proofs.SourceLaws.{no_source, unmapped_here, unmapped_behind}
-use Rattle.plan.proofs.Scanning.{Asking, asking, asked_end, answered, passed, auxiliaries_from, values_bad, values_inside, values_long}
-use Rattle.rule.specs.Lookup.{rule_at}
+use Rattle.plan.proofs.SourceLaws.{unmapped_here, unmapped_behind}
+use Rattle.plan.proofs.Scanning.{asking, asked_end, answered, passed, auxiliaries_from, values_bad, values_inside, values_long}
 use Rattle.definition.specs.Walk.{unmapped_auxiliary}
-use Rattle.definition.specs.Rule.{auxiliary_of}
 use Rattle.definition.specs.Base.{any}
 use mathlib.Core.Path.{◌∙◌, sym}
-use Prim.Native.Nat.{◌-◌}
-use borrow.Author.Rules.{rules}
 use native.Mathlib.Omega.{arith}
 use Rattle.plan.proofs.sources.unmapped_auxiliary.Goals as goal
 

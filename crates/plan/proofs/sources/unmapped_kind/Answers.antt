@@ -1,15 +1,11 @@
 -- Whether any kind lacks a map (`no_map`) is answered by the K fields from `at` on (`Asking`). A kind without a map answers true
 -- (`answered`, by `no_map_here`); one with a map leaves it to those behind it (`passed`, by `no_map_behind`); none left is false
 -- (`asked_end`). Each field can be read, so the first return is never reached (`values_bad`).
-use Rattle.plan.proofs.SourceLaws.{no_map, no_map_here, no_map_behind}
-use Rattle.plan.proofs.Scanning.{Asking, asking, asked_end, answered, passed, kinds_from, values_bad, values_inside, values_long}
-use Rattle.rule.specs.Lookup.{rule_at}
+use Rattle.plan.proofs.SourceLaws.{no_map_here, no_map_behind}
+use Rattle.plan.proofs.Scanning.{asking, asked_end, answered, passed, kinds_from, values_bad, values_inside, values_long}
 use Rattle.definition.specs.Walk.{unmapped_kind}
-use Rattle.definition.specs.Rule.{kind_of}
 use Rattle.definition.specs.Base.{any}
 use mathlib.Core.Path.{◌∙◌, sym}
-use Prim.Native.Nat.{◌-◌}
-use borrow.Author.Rules.{rules}
 use native.Mathlib.Omega.{arith}
 use Rattle.plan.proofs.sources.unmapped_kind.Goals as goal
 

@@ -1,5 +1,4 @@
 use Rattle.plan.proofs.TableLaws.{kept, grown}
-use borrow.Author.Rules.{rules}
 use Rattle.plan.proofs.table.add.Goals as goal
 
 pub returns-then-table-source-lt-NO_KIND : goal.returns-then-table-source-lt-NO_KIND

@@ -1,12 +1,10 @@
 -- The table has the kinds `done`: those of K and what the X passed have added; the X left complete `done` to what all X make of K
 -- (`Completing`). An X adds the kind of its class, at its structure and that structure's lowest source (`complete_next`); with none left
 -- `done` is complete (`complete_end`). Each X can be read, so the early return is never reached (`values_bad`).
-use Rattle.plan.proofs.Storing.{Completing, complete_start, complete_end, complete_named, complete_next}
+use Rattle.plan.proofs.Storing.{complete_start, complete_end, complete_named, complete_next}
 use Rattle.rule.proofs.SoundParts.{lowest_below}
 use Rattle.plan.proofs.Scanning.{auxiliaries_from, values_bad, values_inside, values_long}
 use mathlib.Core.Path.{◌∙◌, sym}
-use Prim.Native.Nat.{◌-◌}
-use borrow.Author.Rules.{rules}
 use native.Mathlib.Omega.{arith}
 use Rattle.plan.proofs.table.complete.Goals as goal
 

@@ -1,5 +1,4 @@
 use Rattle.plan.specs.Table.{kind_in}
-use borrow.Author.Rules.{rules}
 use Rattle.plan.proofs.table.kind_number.Goals as goal
 
 pub returns-in-If : goal.returns-in-If

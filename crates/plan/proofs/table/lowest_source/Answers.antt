@@ -1,4 +1,3 @@
-use borrow.Author.Rules.{rules}
 use Rattle.plan.proofs.table.lowest_source.Goals as goal
 
 pub returns-in_default : goal.returns-in_default

@@ -1,12 +1,10 @@
 -- The table has the kinds `done`; the kind of a pair by all K is that of `done`, else that of the K left (`Storing`). A K adds its kind,
 -- where its pair has none yet (`store_next`); with none left the table has the kinds of all (`store_end`). Its structures have a row and a
 -- column (`store_named`); each K can be read, so the early return is never reached (`values_bad`).
-use Rattle.plan.proofs.Storing.{Storing, store_start, store_end, store_named, store_next}
+use Rattle.plan.proofs.Storing.{store_start, store_end, store_named, store_next}
 use Rattle.plan.proofs.Scanning.{kinds_from, values_bad, values_inside, values_long}
 use mathlib.Core.Path.{◌∙◌, sym, ap}
 use mathlib.Core.Option.{some}
-use Prim.Native.Nat.{◌-◌}
-use borrow.Author.Rules.{rules}
 use native.Mathlib.Omega.{arith}
 use Rattle.plan.proofs.table.stored.Goals as goal
 

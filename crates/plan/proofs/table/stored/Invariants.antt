@@ -1,10 +1,5 @@
-use Rattle.plan.proofs.Storing.{Storing, store_start, store_end, store_named, store_next}
-use Rattle.plan.proofs.Scanning.{kinds_from, values_bad, values_inside, values_long}
-use mathlib.Core.Path.{◌∙◌, sym, ap}
-use mathlib.Core.Option.{some}
+use Rattle.plan.proofs.Storing.{Storing}
 use Prim.Native.Nat.{◌-◌}
-use borrow.Author.Rules.{rules}
-use native.Mathlib.Omega.{arith}
 use Rattle.plan.proofs.table.stored.Given as goal
 
 abbrev pub invariant-loop-at : goal.invariant-loop-at

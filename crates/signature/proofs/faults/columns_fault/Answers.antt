@@ -1,4 +1,3 @@
-use borrow.Author.Rules.{rules}
 use Rattle.signature.proofs.Drawn.{columns_many, columns_long, columns_unnamed, columns_sound}
 use Rattle.signature.proofs.faults.columns_fault.Goals as goal
 

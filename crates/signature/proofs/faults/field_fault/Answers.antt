@@ -1,5 +1,4 @@
 use borrow.Author.Tests.{eq-eqb, ne_eqb}
-use borrow.Author.Rules.{rules}
 use Rattle.signature.specs.Faults.{check_of}
 use Rattle.signature.proofs.faults.field_fault.Goals as goal
 

@@ -1,6 +1,4 @@
-use Prim.Native.Nat.{◌%◌}
-use mathlib.Core.Path.{◌≡◌, ◌∙◌}
-use borrow.Author.Rules.{rules}
+use mathlib.Core.Path.{◌∙◌}
 use Rattle.records.proofs.Numbers.{low_bits, low_bits_not}
 use Rattle.signature.proofs.Drawn.{symbol_even, symbol_short, symbol_columns}
 use Rattle.signature.proofs.faults.symbol_fault.Goals as goal

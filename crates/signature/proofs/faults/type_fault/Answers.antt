@@ -1,5 +1,4 @@
 use mathlib.Core.Path.{◌∙◌}
-use borrow.Author.Rules.{rules}
 use Rattle.records.proofs.Numbers.{low_bits, low_bits_not}
 use Rattle.signature.proofs.Drawn.{type_odd, type_even}
 use Rattle.signature.proofs.faults.type_fault.Goals as goal

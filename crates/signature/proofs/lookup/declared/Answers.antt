@@ -1,4 +1,3 @@
-use borrow.Author.Rules.{rules}
 use Rattle.signature.proofs.lookup.declared.Goals as goal
 
 pub returns-in-Predicate : goal.returns-in-Predicate

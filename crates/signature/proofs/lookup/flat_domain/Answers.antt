@@ -1,5 +1,4 @@
 use native.Mathlib.Omega.{arith}
-use borrow.Author.Rules.{rules}
 use Rattle.signature.proofs.ByKind.{result_counted}
 use Rattle.signature.proofs.lookup.flat_domain.Goals as goal
 

@@ -1,4 +1,3 @@
-use borrow.Author.Rules.{rules}
 use Rattle.signature.proofs.ByKind.{some_parents}
 use Rattle.signature.proofs.lookup.has_members.Goals as goal
 

@@ -1,6 +1,5 @@
 use native.Mathlib.Omega.{arith}
 use mathlib.Core.Path.{◌∙◌, sym}
-use borrow.Author.Rules.{rules}
 use Rattle.signature.proofs.Symbols.{parent_of, parent_below, parent_room}
 use Rattle.signature.proofs.lookup.parent.Goals as goal
 

@@ -1,5 +1,4 @@
 use mathlib.Core.Path.{◌∙◌, sym}
-use borrow.Author.Rules.{rules}
 use Rattle.signature.proofs.Symbols.{parents_of}
 use Rattle.signature.proofs.lookup.parents.Goals as goal
 

@@ -1,5 +1,4 @@
 use mathlib.Core.Path.{◌∙◌, sym}
-use borrow.Author.Rules.{rules}
 use Rattle.records.proofs.Lists.{last_none}
 use Rattle.signature.proofs.ByKind.{model_last}
 use Rattle.signature.proofs.lookup.type_model.Goals as goal

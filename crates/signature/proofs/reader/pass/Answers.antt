@@ -1,11 +1,8 @@
 -- Invariant: what was passed, with its T counted, and the part from here on.
-use Prim.Native.Nat.{◌-◌}
 use native.Mathlib.Omega.{arith}
 use mathlib.Core.Path.{sym, ◌∙◌}
-use lib.ListN.{length}
-use borrow.Author.Tests.{eq-eqb, ne_eqb, not-true, not-false}
-use borrow.Author.Rules.{rules}
-use Rattle.signature.proofs.Passing.{Passing, pass_start, pass_next, pass_stop, pass_bad, pass_end}
+use borrow.Author.Tests.{eq-eqb, ne_eqb}
+use Rattle.signature.proofs.Passing.{pass_start, pass_next, pass_stop, pass_bad, pass_end}
 use Rattle.signature.proofs.reader.pass.Goals as goal
 
 pub loop-at-init : goal.loop-at-init

@@ -5,6 +5,6 @@ pub returns : goal.returns
 returns c =
     record {
       put = λ e x b q. body_measured e c.requires.reaching x c.requires.from_le_count_limit.1.0 c.requires.from_le_count_limit.0
-          c.past.ensures b (c.put_conclusion.ensures.put_concluded e x q);
+          c.past.ensures b (c.put_conclusion.ensures.put e x q);
       upper_bound = c.put_conclusion.ensures.upper_bound;
     }

@@ -24,7 +24,7 @@ pub loop-t-init : goal.loop-t-init
 loop-t-init c = (
   omega (arith, c.requires.ended.ground.some_one),
   ruling_start _ _ _ _ _ _ _ c.requires.from_le_count_limit.0,
-  measured_first (replicate structure_limit 0) refl c.own_length.ensures.put_at_end,
+  measured_first (replicate structure_limit 0) refl c.own_length.ensures.put,
 )
 
 pub bounds-sources-t : goal.bounds-sources-t
@@ -97,7 +97,7 @@ loop-t-preserved c =
                   (λ e y q. o.put e y (rw w.place.ensures.0 (measured_before m e x (omega (arith, r.few)) refl)) q) o.upper_bound)
               | else-emits v ↦ rw (v.at-is, v.count-is) (ruling_silent r e n h d w.emits.ensures v.if-emits.false)
             ],
-            measured_next m e x (omega (arith, r.few)) w.place.ensures.0 w.own_length-then-sources-t-lt-UNREACHED.ensures.put_at_end,
+            measured_next m e x (omega (arith, r.few)) w.place.ensures.0 w.own_length-then-sources-t-lt-UNREACHED.ensures.put,
           )
       | else-sources-t-lt-UNREACHED w ↦ let d = w.if-sources-t-lt-UNREACHED.false in rw (w.lengths-is, w.at-is, w.count-is)
           (search rules, ruling_pass r e n h d, measured_pass m (ruling_read r e n h d))
@@ -106,6 +106,6 @@ loop-t-preserved c =
 pub returns : goal.returns
 returns c =
     let r = c.loop-t.invariant.1 in record {
-      put_at_end = ruling_all r c.requires.from_le_count_limit.1 c.loop-t.invariant.0 c.loop-t-test.false;
+      put = ruling_all r c.requires.from_le_count_limit.1 c.loop-t.invariant.0 c.loop-t-test.false;
       upper_bound = r.small;
     }

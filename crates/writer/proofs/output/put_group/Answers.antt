@@ -13,16 +13,16 @@ put_all_variables-varied-requires c =
 pub returns-then-out-varied : goal.returns-then-out-varied
 returns-then-out-varied c =
     record {
-      put_at_end = λ e. group_put e c.requires.n_value c.group_name_length.ensures.0 c.put_group_head-head.ensures
+      put = λ e. group_put e c.requires.n_value c.group_name_length.ensures.0 c.put_group_head-head.ensures
           c.put_group_name-named.ensures c.put_all_variables-varied.ensures
-          (beyond _ (c.rules_length.ensures.put_at_end e).size c.if-out-varied.true (omega (arith, c.put_all_variables-varied.ensures.size)));
+          (beyond _ (c.rules_length.ensures.put e).size c.if-out-varied.true (omega (arith, c.put_all_variables-varied.ensures.size)));
       upper_bound = c.rules_length.ensures.upper_bound;
     }
 
 pub returns : goal.returns
 returns c =
     record {
-      put_at_end = λ e. group_put e c.requires.n_value c.group_name_length.ensures.0 c.put_group_head-head.ensures
-          c.put_group_name-named.ensures c.put_all_variables-varied.ensures (c.put_rules.ensures.put_at_end e);
+      put = λ e. group_put e c.requires.n_value c.group_name_length.ensures.0 c.put_group_head-head.ensures
+          c.put_group_name-named.ensures c.put_all_variables-varied.ensures (c.put_rules.ensures.put e);
       upper_bound = c.put_rules.ensures.upper_bound;
     }

@@ -13,7 +13,7 @@ put_own-requires t c = let z = c.if-t-eq0.true in record {
 
 pub returns-then-t-eq0 : goal.returns-then-t-eq0
 returns-then-t-eq0 t c = let o = c.put_own.ensures in let z = c.if-t-eq0.true in record {
-  put_at_end = λ e. premise_first e c.requires.reaching z (rw z (o.put_at_end e));
+  put = λ e. premise_first e c.requires.reaching z (rw z (o.put e));
   upper_bound = o.upper_bound;
 }
 
@@ -31,6 +31,6 @@ put_own-requires-2 t c = search rules
 
 pub returns : goal.returns
 returns t c = let o = c.put_own-2.ensures in record {
-  put_at_end = λ e. premise_later e c.requires.reaching c.if-t-eq0.false c.place-source.ensures.0 (c.put_premise-at.ensures.put_at_end e) (o.put_at_end e);
+  put = λ e. premise_later e c.requires.reaching c.if-t-eq0.false c.place-source.ensures.0 (c.put_premise-at.ensures.put e) (o.put e);
   upper_bound = o.upper_bound;
 }

@@ -11,7 +11,7 @@ reached_by-kind-requires c = both_small c.requires.ended c.requires.reaching
 pub returns-then-kind-eq-SURJ_THEN : goal.returns-then-kind-eq-SURJ_THEN
 returns-then-kind-eq-SURJ_THEN c =
     record {
-      put_at_end = λ e. own_nothing e c.requires.reaching _ c.requires.from_le_count_limit c.reached_by-kind.ensures c.if-kind-eq-SURJ_THEN.true;
+      put = λ e. own_nothing e c.requires.reaching _ c.requires.from_le_count_limit c.reached_by-kind.ensures c.if-kind-eq-SURJ_THEN.true;
       upper_bound = c.requires.from_le_count_limit;
     }
 
@@ -32,7 +32,7 @@ returns-then-kind-eq-IF c =
       | then-kind-eq-IF-via-then-kind-eq-IF w ↦ inl w.if-kind-eq-IF.true
       | then-kind-eq-IF-via-else-kind-eq-IF+then-kind-eq-NOOP w ↦ inr w.if-kind-eq-NOOP.true
     ] in record {
-      put_at_end = λ e. own_both e c.requires.reaching c.reached_by-kind.ensures either (c.put_both.ensures.by_index_2 _ e);
+      put = λ e. own_both e c.requires.reaching c.reached_by-kind.ensures either (c.put_both.ensures.by_index_2 _ e);
       upper_bound = c.put_both.ensures.upper_bound;
     }
 
@@ -55,7 +55,7 @@ put_said-requires c =
 pub returns : goal.returns
 returns c =
     record {
-      put_at_end = λ e. own_only e c.requires.reaching c.reached_by-kind.ensures c.if-kind-eq-SURJ_THEN.false c.if-kind-eq-IF.false
+      put = λ e. own_only e c.requires.reaching c.reached_by-kind.ensures c.if-kind-eq-SURJ_THEN.false c.if-kind-eq-IF.false
           c.if-kind-eq-NOOP.false refl c.masks_at.ensures c.put_said.ensures;
       upper_bound = search rules;
     }

@@ -13,7 +13,7 @@ put_premise-said-requires c =
 pub returns : goal.returns
 returns c =
     record {
-      put_concluded = λ e x q. body_put e c.requires.reaching x c.requires.from_le_count_limit.1 c.place-source.ensures.0
-          (c.put_premise-said.ensures.put_at_end e) (c.put_conclusion.ensures.put_concluded e x q);
+      put = λ e x q. body_put e c.requires.reaching x c.requires.from_le_count_limit.1 c.place-source.ensures.0
+          (c.put_premise-said.ensures.put e) (c.put_conclusion.ensures.put e x q);
       upper_bound = c.put_conclusion.ensures.upper_bound;
     }

@@ -20,7 +20,7 @@ put_both-requires c =
 pub returns-then-kind-eq-SURJ_THEN : goal.returns-then-kind-eq-SURJ_THEN
 returns-then-kind-eq-SURJ_THEN c =
     record {
-      put_concluded = λ e x q. surj_put e c.requires.reaching c.reached_by-kind.ensures c.if-kind-eq-SURJ_THEN.true q (c.put_both.ensures.by_index_2 _ e);
+      put = λ e x q. surj_put e c.requires.reaching c.reached_by-kind.ensures c.if-kind-eq-SURJ_THEN.true q (c.put_both.ensures.by_index_2 _ e);
       upper_bound = c.put_both.ensures.upper_bound;
     }
 
@@ -34,6 +34,6 @@ put_domains-requires c =
 pub returns : goal.returns
 returns c =
     let o = rw c.mask_at.ensures at c.put_domains.ensures in record {
-      put_concluded = λ e x q. rows_put e c.requires.reaching c.reached_by-kind.ensures c.if-kind-eq-SURJ_THEN.false q o;
+      put = λ e x q. rows_put e c.requires.reaching c.reached_by-kind.ensures c.if-kind-eq-SURJ_THEN.false q o;
       upper_bound = omega (arith, o.size);
     }

@@ -37,7 +37,7 @@ loop-t-preserved c =
       elim c.if-sources-t-lt-UNREACHED.branch [
         | then-sources-t-lt-UNREACHED+then-emits w ↦ rw (w.out-is, w.at-is, w.k-is)
             (ruling_next r e n h w.if-sources-t-lt-UNREACHED.true w.emits.ensures w.if-emits.true
-            w.put_name_field-named.ensures w.put_body-at.ensures.put_concluded w.put_body-at.ensures.upper_bound)
+            w.put_name_field-named.ensures w.put_body-at.ensures.put w.put_body-at.ensures.upper_bound)
         | then-sources-t-lt-UNREACHED+else-emits w ↦ rw (w.out-is, w.at-is, w.k-is)
             (ruling_silent r e n h w.if-sources-t-lt-UNREACHED.true w.emits.ensures w.if-emits.false)
         | else-sources-t-lt-UNREACHED w ↦ rw (w.out-is, w.at-is, w.k-is)
@@ -51,6 +51,6 @@ shape_of-out c = (c.loop-t.invariant.1.put c.requires.ended).long
 pub returns : goal.returns
 returns c =
     record {
-      put_at_end = ruling_all c.loop-t.invariant.1 c.requires.from_le_count_limit.1 c.loop-t.invariant.0 c.loop-t-test.false;
+      put = ruling_all c.loop-t.invariant.1 c.requires.from_le_count_limit.1 c.loop-t.invariant.0 c.loop-t-test.false;
       upper_bound = c.loop-t.invariant.1.small;
     }
