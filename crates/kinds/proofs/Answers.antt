@@ -1,5 +1,5 @@
 -- What the steps answer.
-use Prim.Native.Nat.{ℕ, ◌+◌, ◌≤◌, ◌<◌}
+use Prim.Native.Nat.{ℕ, ◌≤◌, ◌<◌}
 use native.Mathlib.Omega.{arith}
 use mathlib.Core.Bool.{Bool, true, false, not, ◌&&◌}
 use mathlib.Core.List.{List, [], ◌∷◌, ◌++◌, append-nil, append_assoc}
@@ -16,7 +16,7 @@ use Rattle.definition.specs.Names.{numbers_of}
 use Rattle.definition.specs.Records.{Field}
 use Rattle.definition.specs.Rule as Rule
 use Rattle.definition.specs.Rule.{Structure, Element, Pair, If, SurjThen, Noop}
-use Rattle.definition.specs.Rows.{members, type_sets, in_image, constrained}
+use Rattle.definition.specs.Rows.{type_sets, in_image, constrained}
 use Rattle.definition.specs.Signature.{Signature}
 use Rattle.laws.proofs.Lists.{lowest_none, length_each, get_d_each, mem_at}
 use Rattle.records.specs.Places.{Run}

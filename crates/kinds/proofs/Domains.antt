@@ -2,7 +2,6 @@
 use Prim.Native.Nat.{ℕ, ◌≤◌, ◌<◌}
 use mathlib.Core.Bool.{Bool, true, false}
 use mathlib.Core.List.{List, [], ◌∷◌}
-use mathlib.Core.Option.{some}
 use mathlib.Core.Path.{◌≡◌, refl, sym, ◌∙◌, ap}
 use lib.ListN.{length, get_or, take}
 use Rattle.definition.specs.Base.{keep, each, all, but_last, place_from, ◌∈◌, given}
@@ -11,7 +10,7 @@ use Rattle.definition.specs.Kinds.{new_elements, yielding_row, domain_statement}
 use Rattle.definition.specs.Letters.{function}
 use Rattle.definition.specs.Names.{numbers_of}
 use Rattle.definition.specs.Records.{Field}
-use Rattle.definition.specs.Rule.{NonSurjThen, row_of}
+use Rattle.definition.specs.Rule.{row_of}
 use Rattle.definition.specs.Rows.{members, last_element, type_sets, in_image}
 use Rattle.definition.specs.Signature.{Signature}
 use Rattle.laws.proofs.Lists.{each_mem, mem_at}

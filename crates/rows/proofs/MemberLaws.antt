@@ -13,7 +13,7 @@ use borrow.Author.Tests.{eq-eqb, ne_eqb}
 use Rattle.definition.specs.Base.{cons_if, keep, each, any, same_list, empty, ◌∈◌}
 use Rattle.definition.specs.Letters.{member}
 use Rattle.definition.specs.Limits.{column_limit}
-use Rattle.definition.specs.Rule.{Element, Row, Pair}
+use Rattle.definition.specs.Rule.{Row, Pair}
 use Rattle.definition.specs.Rows.{image_of, image_row, same_row, member_row}
 use Rattle.laws.proofs.Lists.{each_append, each_mem, keep_mem, any_mem, any_false}
 use Rattle.records.specs.Places.{stretch}

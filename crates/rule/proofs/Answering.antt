@@ -16,7 +16,7 @@ use Rattle.signature.specs.declared.faults.Fault.{Fault}
 use Rattle.signature.specs.declared.faults.Fault.TheVariants.{Sound, Draws}
 use Rattle.rule.specs.Elements.{numbers_in, Known}
 use Rattle.rule.specs.Faults.{tail_fault}
-use Rattle.rule.specs.Answers.{SectionChecked, Structured, Tailed, Passes, Kept, AllStored, AllHold, Indexed}
+use Rattle.rule.specs.Answers.{SectionChecked, Structured, Tailed, Passes, AllStored, AllHold, Indexed}
 use Rattle.rule.proofs.Whole.{of_n, read_head, read_structures, read_tail, read_part_lem, read_sound, no_fault, read_indexed}
 use Rattle.rule.proofs.Whole.{structured, head_run, ended_same, ended_tail, ended_named}
 

@@ -1,5 +1,5 @@
 -- The tables of the walk, and what they say of the structures that were reached.
-use Rattle.std.specs.Prelude.{List, [], ◌∷◌, ◌++◌, ℕ, zero, suc, ◌+◌, eqb, ltb, length, get_or, replicate}
+use Rattle.std.specs.Prelude.{List, [], ◌∷◌, ◌++◌, ℕ, zero, suc, eqb, ltb, length, get_or, replicate}
 use Rattle.std.proofs.Math.Option.{Option, none, some}
 use Rattle.definition.specs.Base.{pick, or_default, each, ◌∈◌}
 use Rattle.definition.specs.Letters.{underscore}

@@ -1,6 +1,5 @@
 use mathlib.Core.Path.{ap, ◌∙◌}
 use Rattle.cabinet.specs.Codes.{code_of}
-use borrow.Author.Rules.{rules}
 use Rattle.cabinet.proofs.nagzelud_check_rule.Goals as goal
 
 pub returns : goal.returns

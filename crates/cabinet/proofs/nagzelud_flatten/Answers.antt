@@ -1,5 +1,4 @@
 use Rattle.cabinet.proofs.Flattened.{written_told, refused_told, no_group}
-use borrow.Author.Rules.{rules}
 use Rattle.cabinet.proofs.nagzelud_flatten.Goals as goal
 
 pub returns-in-Written : goal.returns-in-Written

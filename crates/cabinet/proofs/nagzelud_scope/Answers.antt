@@ -1,5 +1,4 @@
 use Rattle.cabinet.proofs.Told.{told_global, told_model, told_refused}
-use borrow.Author.Rules.{rules}
 use Rattle.cabinet.proofs.nagzelud_scope.Goals as goal
 
 pub returns-in-Global : goal.returns-in-Global

@@ -1,6 +1,5 @@
 use mathlib.Core.Path.{ap}
 use Rattle.reading.specs.Verdicts.{refusal_of}
-use borrow.Author.Rules.{rules}
 use Rattle.reading.proofs.check_rule.Goals as goal
 
 pub returns-in-Sound : goal.returns-in-Sound

@@ -1,4 +1,3 @@
-use borrow.Author.Rules.{rules}
 use Rattle.kinds.proofs.New.{rows_lack, rows_new, images_few}
 use Rattle.kinds.proofs.added.new_between.Goals as goal
 

@@ -1,6 +1,5 @@
 use borrow.Author.Rules.{rules}
 use mathlib.Core.Path.{sym, ◌∙◌}
-use borrow.Author.Tests.{not-true}
 use Rattle.kinds.proofs.New.{no_members, members_lack, members_new, members_few, olds_few, target_few, source_few}
 use Rattle.kinds.proofs.added.new_unmarked.Goals as goal
 

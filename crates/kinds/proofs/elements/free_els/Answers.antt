@@ -1,9 +1,9 @@
 use borrow.Author.Rules.{rules}
-use Prim.Native.Nat.{◌-◌, ◌≤◌, ◌<◌}
+use Prim.Native.Nat.{◌<◌}
 use native.Mathlib.Omega.{arith}
 use mathlib.Core.Path.{◌≡◌}
 use Rattle.flags.specs.Flags.{places}
-use Rattle.kinds.proofs.Fresh.{Freed, free_start, free_old, free_marked, free_new, free_are}
+use Rattle.kinds.proofs.Fresh.{free_start, free_old, free_marked, free_new, free_are}
 use Rattle.kinds.proofs.elements.free_els.Goals.{else-first-targetvars, then-first-targetvars+else-not-marks-i, then-first-targetvars+then-not-marks-i}
 use Rattle.kinds.proofs.elements.free_els.Goals as goal
 

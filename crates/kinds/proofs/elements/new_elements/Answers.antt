@@ -1,12 +1,4 @@
-use borrow.Author.Rules.{rules}
-use Prim.Native.Nat.{ℕ, ◌-◌}
-use mathlib.Core.Bool.{Bool}
-use mathlib.Core.List.{List}
-use mathlib.Core.Path.{◌≡◌}
-use lib.ListN.{length}
-use Rattle.definition.specs.Base.{each, given}
-use Rattle.naming.specs.Variables.{kept_in}
-use Rattle.kinds.proofs.Fresh.{Finding, find_start, find_miss, find_hit, find_more, find_one, find_none, new_at, old_at}
+use Rattle.kinds.proofs.Fresh.{find_start, find_miss, find_hit, find_more, find_one, find_none, new_at, old_at}
 use Rattle.kinds.proofs.elements.new_elements.Goals.{else-first-targetvars, then-first-targetvars+else-found-count}
 use Rattle.kinds.proofs.elements.new_elements.Goals as goal
 

@@ -1,13 +1,11 @@
-use borrow.Author.Rules.{rules}
 use Prim.Native.Nat.{ℕ, ◌-◌}
 use mathlib.Core.Bool.{Bool}
 use mathlib.Core.List.{List}
-use mathlib.Core.Logic.{⊎_elim}
 use mathlib.Core.Path.{◌≡◌}
 use lib.ListN.{length}
 use Rattle.definition.specs.Base.{each, given}
 use Rattle.naming.specs.Variables.{kept_in}
-use Rattle.kinds.proofs.Fresh.{Finding, find_start, find_miss, find_hit, find_more, find_one, find_none, new_at, old_at}
+use Rattle.kinds.proofs.Fresh.{Finding}
 use Rattle.kinds.proofs.elements.new_elements.Given as goal
 
 abbrev pub invariant-loop-i : goal.invariant-loop-i

@@ -1,4 +1,3 @@
-use borrow.Author.Rules.{rules}
 use mathlib.Core.Path.{sym, ◌∙◌}
 use Rattle.rows.proofs.Several.{none_merged, no_clash}
 use Rattle.statements.proofs.KernelPairs.{side_at}

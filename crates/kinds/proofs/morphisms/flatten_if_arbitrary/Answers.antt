@@ -1,4 +1,3 @@
-use borrow.Author.Rules.{rules}
 use Rattle.rule.proofs.Drawn.{preds_length, funcs_length}
 use Rattle.kinds.proofs.Answers.{count_is, count_few, images_are, known_preds, known_funcs, marks_are, if_refused, if_adds}
 use Rattle.kinds.proofs.morphisms.flatten_if_arbitrary.Goals as goal

@@ -1,4 +1,3 @@
-use borrow.Author.Rules.{rules}
 use Rattle.definition.specs.Names.{numbers_of}
 use Rattle.definition.specs.Rows.{in_image}
 use Rattle.rows.specs.Morphisms.{target_in, pairs_by}

@@ -1,4 +1,3 @@
-use borrow.Author.Rules.{rules}
 use mathlib.Core.Bool.{false}
 use lib.ListN.{get_or-replicate}
 use Rattle.definition.specs.Names.{numbers_of}

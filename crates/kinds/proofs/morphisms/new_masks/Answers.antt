@@ -1,4 +1,3 @@
-use borrow.Author.Rules.{rules}
 use mathlib.Core.Path.{sym, ◌∙◌}
 use Rattle.kinds.proofs.Answers.{masks_clash, masks_added}
 use Rattle.kinds.proofs.morphisms.new_masks.Goals as goal

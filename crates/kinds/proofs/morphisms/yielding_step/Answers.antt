@@ -6,7 +6,6 @@ use native.Mathlib.Omega.{arith}
 use Prim.Native.Nat.{◌<◌}
 use mathlib.Core.Path.{◌≡◌}
 use lib.ListN.{get_or}
-use borrow.Author.Tests.{not-true, not-false}
 use Rattle.definition.specs.Letters.{function}
 use Rattle.definition.specs.Names.{numbers_of}
 use Rattle.flags.specs.Flags.{places}

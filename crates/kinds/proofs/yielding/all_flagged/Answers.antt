@@ -1,18 +1,10 @@
 -- The answer for the whole list is that for its elements from the j-th on (`all_from`). The flag at an element's place is p of it: unset, it
 -- answers false (`all_stop`); set, those behind it answer (`all_more`); none left is true (`all_done`). The caller says that all are named,
 -- so the return for one that is not found is never reached (`all_named`).
-use borrow.Author.Rules.{rules}
-use Prim.Native.Nat.{ℕ, ◌-◌, ◌≤◌}
 use native.Mathlib.Omega.{arith}
-use mathlib.Core.Bool.{Bool}
-use mathlib.Core.Path.{◌≡◌, sym, ◌∙◌}
-use lib.ListN.{take}
-use borrow.Author.Tests.{not-true, not-false}
-use Rattle.definition.specs.Base.{all, each, ◌∈◌}
-use Rattle.records.proofs.Along.{all_from, all_start}
+use mathlib.Core.Path.{sym, ◌∙◌}
+use Rattle.records.proofs.Along.{all_start}
 use Rattle.rule.proofs.Finding.{numbers_length}
-use Rattle.rule.specs.Elements.{count_at, element_numbers}
-use Rattle.rule.specs.Lists.{els_in}
 use Rattle.rule.proofs.ElementLaws.{found_few}
 use Rattle.kinds.proofs.Seeking.{all_more, all_stop, all_named, all_done}
 use Rattle.kinds.proofs.yielding.all_flagged.Goals as goal

@@ -1,17 +1,11 @@
-use borrow.Author.Rules.{rules}
 use Prim.Native.Nat.{ℕ, ◌-◌, ◌≤◌}
-use native.Mathlib.Omega.{arith}
 use mathlib.Core.Bool.{Bool}
-use mathlib.Core.Path.{◌≡◌, sym, ◌∙◌}
+use mathlib.Core.Path.{◌≡◌}
 use lib.ListN.{take}
-use borrow.Author.Tests.{not-true, not-false}
 use Rattle.definition.specs.Base.{all, each, ◌∈◌}
-use Rattle.records.proofs.Along.{all_from, all_start}
-use Rattle.rule.proofs.Finding.{numbers_length}
+use Rattle.records.proofs.Along.{all_from}
 use Rattle.rule.specs.Elements.{count_at, element_numbers}
 use Rattle.rule.specs.Lists.{els_in}
-use Rattle.rule.proofs.ElementLaws.{found_few}
-use Rattle.kinds.proofs.Seeking.{all_more, all_stop, all_named, all_done}
 use Rattle.kinds.proofs.yielding.all_flagged.Given as goal
 
 abbrev pub invariant-loop-j : goal.invariant-loop-j

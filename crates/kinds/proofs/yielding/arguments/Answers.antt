@@ -1,5 +1,4 @@
 use mathlib.Core.Path.{sym, ◌∙◌}
-use borrow.Author.Rules.{rules}
 use Rattle.rule.proofs.ListLaws.{els_but_last}
 use Rattle.kinds.proofs.yielding.arguments.Goals as goal
 

@@ -1,12 +1,10 @@
 -- Both loops keep that no row before `at` yields e (`Sought`), and that nothing is found yet. The inner one also has the row at `at`, read.
 -- A row with another result is passed (`seek_miss`); one whose result is e is the first of all (`seek_found`); at the section's end none
 -- is left (`seek_end`). A turn of the outer loop gets on: its first row is of the inner loop's function, so that passes at least one row.
-use Prim.Native.Nat.{◌+◌, ◌-◌, ◌≤◌, ◌<◌}
+use Prim.Native.Nat.{◌+◌}
 use native.Mathlib.Omega.{arith}
-use mathlib.Core.Logic.{◌⊎◌, inl, inr, ⊎_elim}
-use mathlib.Core.Path.{◌≡◌, refl}
-use Rattle.rule.specs.Rows.{RowRead}
-use Rattle.kinds.specs.declared.yielding.Yielding.TheVariants.{Nothing}
+use mathlib.Core.Logic.{inl, inr, ⊎_elim}
+use mathlib.Core.Path.{refl}
 use Rattle.kinds.proofs.Seeking.{Sought, seek_start, seek_end, seek_stands, seek_some, seek_few, seek_miss, seek_found}
 use Rattle.kinds.proofs.yielding.yielding_row.Goals as goal
 

@@ -1,10 +1,9 @@
-use Prim.Native.Nat.{◌+◌, ◌-◌, ◌≤◌, ◌<◌}
-use native.Mathlib.Omega.{arith}
-use mathlib.Core.Logic.{◌⊎◌, inl, inr, ⊎_elim}
-use mathlib.Core.Path.{◌≡◌, refl}
+use Prim.Native.Nat.{◌-◌, ◌≤◌, ◌<◌}
+use mathlib.Core.Logic.{◌⊎◌}
+use mathlib.Core.Path.{◌≡◌}
 use Rattle.rule.specs.Rows.{RowRead}
 use Rattle.kinds.specs.declared.yielding.Yielding.TheVariants.{Nothing}
-use Rattle.kinds.proofs.Seeking.{Sought, seek_start, seek_end, seek_stands, seek_some, seek_few, seek_miss, seek_found}
+use Rattle.kinds.proofs.Seeking.{Sought}
 use Rattle.kinds.proofs.yielding.yielding_row.Given as goal
 
 abbrev pub invariant-loop-row : goal.invariant-loop-row

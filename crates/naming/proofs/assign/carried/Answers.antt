@@ -1,9 +1,8 @@
 -- The row is what the target takes over by the first p pairs (`Carrying`). Keys and images are elements, so both are found, and the two
 -- early returns are never reached (`not_absent`). The p-th pair puts its key's variable at its image's place, over that of an earlier key
 -- (`carry`); after all pairs the row is `taken_over` (`carry_end`).
-use Rattle.naming.proofs.Carrying.{Carrying, carrying, carry, carry_end, not_absent}
+use Rattle.naming.proofs.Carrying.{carrying, carry, carry_end, not_absent}
 use Rattle.naming.proofs.Placed.{found_few}
-use Prim.Native.Nat.{◌≤◌, ◌-◌}
 use borrow.Author.Rules.{rules}
 use native.Mathlib.Omega.{arith}
 use Rattle.naming.proofs.assign.carried.Goals as goal

@@ -1,8 +1,5 @@
-use Rattle.naming.proofs.Carrying.{Carrying, carrying, carry, carry_end, not_absent}
-use Rattle.naming.proofs.Placed.{found_few}
+use Rattle.naming.proofs.Carrying.{Carrying}
 use Prim.Native.Nat.{◌≤◌, ◌-◌}
-use borrow.Author.Rules.{rules}
-use native.Mathlib.Omega.{arith}
 use Rattle.naming.proofs.assign.carried.Given as goal
 
 abbrev pub invariant-loop-p : goal.invariant-loop-p

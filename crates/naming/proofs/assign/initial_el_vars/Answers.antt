@@ -1,5 +1,4 @@
 use Rattle.naming.proofs.Carrying.{assigned_first}
-use borrow.Author.Rules.{rules}
 use Rattle.naming.proofs.assign.initial_el_vars.Goals as goal
 
 pub returns : goal.returns

@@ -1,12 +1,9 @@
 -- Outer loop: the first name over V and I is that over the lists left (`in_lists`), and `base` is still El. Inner: a list's first name is
 -- that of its fields left (`Seeking`). A name of e is the first of all (`seek_hit`, `lists_hit`), another is passed (`seek_miss`), a list
 -- without one goes to the next (`lists_miss`), and none in both is `el` (`lists_end`, `base_is`).
-use Rattle.naming.proofs.Seeking.{first_name, Seeking, seeking, seek_end, seek_stands, seek_hit, seek_miss}
-use Rattle.naming.proofs.Seeking.{in_lists, lists_hit, lists_miss, lists_end, base_is}
-use Rattle.naming.specs.declared.bases.Base.TheVariants.{El}
-use Rattle.rule.specs.Structures.{structure_in, names_of}
-use mathlib.Core.Path.{◌≡◌, refl, sym, ◌∙◌}
-use Prim.Native.Nat.{◌+◌, ◌-◌, ◌≤◌}
+use Rattle.naming.proofs.Seeking.{seeking, seek_end, seek_stands, seek_hit, seek_miss}
+use Rattle.naming.proofs.Seeking.{lists_hit, lists_miss, lists_end, base_is}
+use mathlib.Core.Path.{refl, sym, ◌∙◌}
 use borrow.Author.Rules.{rules}
 use native.Mathlib.Omega.{arith}
 use Rattle.naming.proofs.bases.el_base_name.Goals as goal

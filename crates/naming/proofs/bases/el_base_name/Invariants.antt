@@ -1,11 +1,9 @@
-use Rattle.naming.proofs.Seeking.{first_name, Seeking, seeking, seek_end, seek_stands, seek_hit, seek_miss}
-use Rattle.naming.proofs.Seeking.{in_lists, lists_hit, lists_miss, lists_end, base_is}
+use Rattle.naming.proofs.Seeking.{first_name, Seeking}
+use Rattle.naming.proofs.Seeking.{in_lists}
 use Rattle.naming.specs.declared.bases.Base.TheVariants.{El}
 use Rattle.rule.specs.Structures.{structure_in, names_of}
-use mathlib.Core.Path.{◌≡◌, refl, sym, ◌∙◌}
+use mathlib.Core.Path.{◌≡◌}
 use Prim.Native.Nat.{◌+◌, ◌-◌, ◌≤◌}
-use borrow.Author.Rules.{rules}
-use native.Mathlib.Omega.{arith}
 use Rattle.naming.proofs.bases.el_base_name.Given as goal
 
 abbrev pub invariant-loop-at : goal.invariant-loop-at

@@ -1,7 +1,5 @@
-use Rattle.naming.proofs.News.{Typing, typing, type_on, type_pass, type_end}
+use Rattle.naming.proofs.News.{typing, type_on, type_pass, type_end}
 use Rattle.naming.proofs.Placed.{below_count, past_count, element_few, type_read, type_byte}
-use Rattle.rule.specs.Structures.{structure_in}
-use Prim.Native.Nat.{◌≤◌, ◌-◌}
 use borrow.Author.Rules.{rules}
 use Rattle.naming.proofs.types.type_variables.Goals.{else-first-row, then-first-row}
 use Rattle.naming.proofs.types.type_variables.Goals as goal

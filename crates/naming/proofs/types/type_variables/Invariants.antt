@@ -1,9 +1,6 @@
-use Rattle.naming.proofs.News.{Typing, typing, type_on, type_pass, type_end}
-use Rattle.naming.proofs.Placed.{below_count, past_count, element_few, type_read, type_byte}
+use Rattle.naming.proofs.News.{Typing}
 use Rattle.rule.specs.Structures.{structure_in}
-use mathlib.Core.Logic.{⊎_elim}
 use Prim.Native.Nat.{◌≤◌, ◌-◌}
-use borrow.Author.Rules.{rules}
 use Rattle.naming.proofs.types.type_variables.Given as goal
 
 abbrev pub invariant-loop-i : goal.invariant-loop-i

@@ -1,5 +1,4 @@
-use Rattle.naming.proofs.Entries.{Numbering, numbering, number_new, number_kept, number_end}
-use Prim.Native.Nat.{◌≤◌, ◌-◌}
+use Rattle.naming.proofs.Entries.{numbering, number_new, number_kept, number_end}
 use borrow.Author.Rules.{rules}
 use native.Mathlib.Omega.{arith}
 use Rattle.naming.proofs.variables.assign_structure_el_vars.Goals.{else-vars-i, then-vars-i}

@@ -1,8 +1,5 @@
-use Rattle.naming.proofs.Entries.{Numbering, numbering, number_new, number_kept, number_end}
-use mathlib.Core.Logic.{⊎_elim}
+use Rattle.naming.proofs.Entries.{Numbering}
 use Prim.Native.Nat.{◌≤◌, ◌-◌}
-use borrow.Author.Rules.{rules}
-use native.Mathlib.Omega.{arith}
 use Rattle.naming.proofs.variables.assign_structure_el_vars.Given as goal
 
 abbrev pub invariant-loop-i : goal.invariant-loop-i

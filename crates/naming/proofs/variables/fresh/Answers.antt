@@ -1,5 +1,4 @@
-use Prim.Native.Nat.{◌≤◌, ◌-◌}
-use Rattle.naming.proofs.Entries.{Counting, counting, count_new, count_kept, count_end}
+use Rattle.naming.proofs.Entries.{counting, count_new, count_kept, count_end}
 use borrow.Author.Rules.{rules}
 use Rattle.naming.proofs.variables.fresh.Goals.{else-first-row, then-first-row}
 use Rattle.naming.proofs.variables.fresh.Goals as goal

@@ -1,7 +1,5 @@
 use Prim.Native.Nat.{◌≤◌, ◌-◌}
-use Rattle.naming.proofs.Entries.{Counting, counting, count_new, count_kept, count_end}
-use mathlib.Core.Logic.{⊎_elim}
-use borrow.Author.Rules.{rules}
+use Rattle.naming.proofs.Entries.{Counting}
 use Rattle.naming.proofs.variables.fresh.Given as goal
 
 abbrev pub invariant-loop-i : goal.invariant-loop-i

@@ -1,5 +1,4 @@
-use Rattle.naming.proofs.Entries.{Flagging, flagging, flag_on, flag_end}
-use Prim.Native.Nat.{◌≤◌, ◌-◌}
+use Rattle.naming.proofs.Entries.{flagging, flag_on, flag_end}
 use borrow.Author.Rules.{rules}
 use native.Mathlib.Omega.{arith}
 use Rattle.naming.proofs.variables.image_els.Goals as goal

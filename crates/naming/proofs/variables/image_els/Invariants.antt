@@ -1,7 +1,5 @@
-use Rattle.naming.proofs.Entries.{Flagging, flagging, flag_on, flag_end}
+use Rattle.naming.proofs.Entries.{Flagging}
 use Prim.Native.Nat.{◌≤◌, ◌-◌}
-use borrow.Author.Rules.{rules}
-use native.Mathlib.Omega.{arith}
 use Rattle.naming.proofs.variables.image_els.Given as goal
 
 abbrev pub invariant-loop-i : goal.invariant-loop-i

@@ -1,5 +1,4 @@
 use Rattle.naming.proofs.Printing.{named_base, unnamed_base}
-use borrow.Author.Rules.{rules}
 use Rattle.naming.proofs.writer.base_length.Goals as goal
 
 pub returns-in-Of : goal.returns-in-Of

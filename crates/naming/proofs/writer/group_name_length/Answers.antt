@@ -1,5 +1,4 @@
 use Rattle.naming.proofs.Printing.{unnamed_length, named_length}
-use borrow.Author.Rules.{rules}
 use native.Mathlib.Omega.{arith}
 use Rattle.naming.proofs.writer.group_name_length.Goals as goal
 

@@ -1,5 +1,4 @@
 use lib.ListN.{length-append}
-use borrow.Author.Rules.{rules}
 use native.Mathlib.Omega.{arith}
 use Rattle.naming.proofs.writer.name_length.Goals as goal
 

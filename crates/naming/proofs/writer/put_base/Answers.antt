@@ -1,5 +1,4 @@
 use Rattle.records.specs.Places.{stretch}
-use borrow.Author.Rules.{rules}
 use Rattle.naming.proofs.writer.put_base.Goals as goal
 
 pub put_bytes-requires : goal.put_bytes-requires

@@ -1,5 +1,4 @@
 use Rattle.records.proofs.Tail.{then}
-use borrow.Author.Rules.{rules}
 use Rattle.naming.proofs.writer.put_name.Goals as goal
 
 pub returns : goal.returns

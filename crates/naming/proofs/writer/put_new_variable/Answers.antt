@@ -7,7 +7,6 @@ use Rattle.rule.specs.ElementFields.{element_in}
 use Rattle.rule.specs.Structures.{structure_in}
 use Rattle.naming.specs.Bases.{variable_bytes}
 use Rattle.naming.proofs.Printing.{variable_bytes_lem, variable_counted}
-use borrow.Author.Rules.{rules}
 use native.Mathlib.Omega.{arith}
 use Rattle.naming.proofs.writer.put_new_variable.Goals as goal
 

@@ -1,6 +1,5 @@
 use mathlib.Core.List.{append_assoc}
 use Rattle.records.proofs.Tail.{then}
-use borrow.Author.Rules.{rules}
 use Rattle.naming.proofs.writer.put_rule_name.Goals as goal
 
 pub returns : goal.returns

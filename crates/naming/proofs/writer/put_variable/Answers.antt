@@ -1,5 +1,4 @@
 use Rattle.naming.proofs.Printing.{variable_put}
-use borrow.Author.Rules.{rules}
 use Rattle.naming.proofs.writer.put_variable.Goals as goal
 
 pub returns : goal.returns

@@ -1,7 +1,5 @@
 use Rattle.naming.proofs.Placed.{at_count}
-use Rattle.naming.proofs.Printing.{Printing, printing, printing_on, printing_pass, printing_end, printing_count}
-use Rattle.rule.specs.Structures.{structure_in}
-use Prim.Native.Nat.{◌≤◌, ◌-◌}
+use Rattle.naming.proofs.Printing.{printing, printing_on, printing_pass, printing_end, printing_count}
 use borrow.Author.Rules.{rules}
 use Rattle.naming.proofs.writer.put_variables.Goals.{else-first-row, then-first-row}
 use Rattle.naming.proofs.writer.put_variables.Goals as goal

@@ -1,9 +1,6 @@
-use Rattle.naming.proofs.Placed.{at_count}
-use Rattle.naming.proofs.Printing.{Printing, printing, printing_on, printing_pass, printing_end, printing_count}
+use Rattle.naming.proofs.Printing.{Printing}
 use Rattle.rule.specs.Structures.{structure_in}
-use mathlib.Core.Logic.{⊎_elim}
 use Prim.Native.Nat.{◌≤◌, ◌-◌}
-use borrow.Author.Rules.{rules}
 use Rattle.naming.proofs.writer.put_variables.Given as goal
 
 abbrev pub invariant-loop-i : goal.invariant-loop-i

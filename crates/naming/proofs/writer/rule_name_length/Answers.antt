@@ -1,6 +1,5 @@
 use lib.ListN.{length-append}
 use Rattle.naming.proofs.Printing.{group_short}
-use borrow.Author.Rules.{rules}
 use native.Mathlib.Omega.{arith}
 use Rattle.naming.proofs.writer.rule_name_length.Goals as goal
 

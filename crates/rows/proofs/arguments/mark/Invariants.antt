@@ -1,17 +1,11 @@
 use Prim.Native.Nat.{ℕ, ◌-◌, ◌≤◌}
 use mathlib.Core.Path.{◌≡◌}
-use mathlib.Core.Logic.{⊎_elim}
-use mathlib.Core.List.{List, ◌++◌, append-nil}
-use lib.ListN.{length, take, length-set}
-use borrow.Author.Rules.{rules}
+use mathlib.Core.List.{List, ◌++◌}
+use lib.ListN.{length, take}
 use Rattle.flags.specs.Flags.{places}
 use Rattle.rule.specs.Elements.{element_numbers}
 use Rattle.rule.specs.Lists.{els_in}
-use Rattle.rule.proofs.Finding.{numbers_ascend}
-use Rattle.rule.proofs.ListLaws.{els_all}
 use Rattle.rows.specs.Arguments.{Marks}
-use Rattle.rows.proofs.ArgumentLaws.{mark_none, mark_at, seen_more}
-use Rattle.rows.proofs.Places.{found_place}
 use Rattle.rows.proofs.arguments.mark.Given as goal
 
 abbrev pub invariant-loop-j : goal.invariant-loop-j

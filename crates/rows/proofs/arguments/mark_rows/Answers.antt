@@ -1,18 +1,10 @@
 -- The loop along a section: after each row its arguments are marked with those of the rows before it.
-use Prim.Native.Nat.{ℕ, ◌-◌}
 use native.Mathlib.Omega.{arith}
-use borrow.Author.Rules.{rules}
-use mathlib.Core.Path.{◌≡◌, ◌∙◌, ap}
-use mathlib.Core.List.{List}
+use mathlib.Core.Path.{◌∙◌, ap}
 use lib.ListN.{length}
-use Rattle.definition.specs.Records.{Field}
-use Rattle.flags.specs.Flags.{places}
-use Rattle.records.specs.Places.{Run}
 use Rattle.signature.specs.Index.{signature_at}
-use Rattle.rule.specs.Elements.{element_numbers}
 use Rattle.rule.proofs.RowReading.{row_stands}
-use Rattle.rows.specs.Arguments.{Marks}
-use Rattle.rows.proofs.ArgumentLaws.{Along, along_start, along_next, known_here, Marking, marking_start, marking_next, marking_end}
+use Rattle.rows.proofs.ArgumentLaws.{along_start, along_next, known_here, marking_start, marking_next, marking_end}
 use Rattle.rows.proofs.arguments.mark_rows.Goals as goal
 
 pub loop-at-init : goal.loop-at-init

@@ -1,7 +1,5 @@
 use Prim.Native.Nat.{ℕ, ◌-◌}
-use native.Mathlib.Omega.{arith}
-use borrow.Author.Rules.{rules}
-use mathlib.Core.Path.{◌≡◌, ◌∙◌, ap}
+use mathlib.Core.Path.{◌≡◌}
 use mathlib.Core.List.{List}
 use lib.ListN.{length}
 use Rattle.definition.specs.Records.{Field}
@@ -9,9 +7,8 @@ use Rattle.flags.specs.Flags.{places}
 use Rattle.records.specs.Places.{Run}
 use Rattle.signature.specs.Index.{signature_at}
 use Rattle.rule.specs.Elements.{element_numbers}
-use Rattle.rule.proofs.RowReading.{row_stands}
 use Rattle.rows.specs.Arguments.{Marks}
-use Rattle.rows.proofs.ArgumentLaws.{Along, along_start, along_next, known_here, Marking, marking_start, marking_next, marking_end}
+use Rattle.rows.proofs.ArgumentLaws.{Along, Marking}
 use Rattle.rows.proofs.arguments.mark_rows.Given as goal
 
 abbrev pub invariant-loop-at : goal.invariant-loop-at

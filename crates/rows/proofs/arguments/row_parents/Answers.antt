@@ -1,4 +1,3 @@
-use borrow.Author.Rules.{rules}
 use Rattle.rows.proofs.arguments.row_parents.Goals as goal
 
 pub pred_parents-requires : goal.pred_parents-requires

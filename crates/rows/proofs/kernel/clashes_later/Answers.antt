@@ -1,9 +1,5 @@
-use Prim.Native.Nat.{ℕ, ◌+◌, ◌-◌}
-use mathlib.Core.Path.{◌≡◌, refl, sym, ◌∙◌}
-use borrow.Author.Rules.{rules}
-use Rattle.definition.specs.Rule.{Pair}
-use Rattle.rows.specs.Kernel.{KeyTypes}
-use Rattle.rows.proofs.KernelLaws.{type_at, later_from, later_all, later_other, later_same, later_clash, later_end}
+use mathlib.Core.Path.{refl, sym, ◌∙◌}
+use Rattle.rows.proofs.KernelLaws.{type_at, later_all, later_other, later_same, later_clash, later_end}
 use Rattle.rows.proofs.kernel.clashes_later.Goals.{else-image-other, then-image-other+else-ty-types}
 use Rattle.rows.proofs.kernel.clashes_later.Goals as goal
 

@@ -1,10 +1,8 @@
 use Prim.Native.Nat.{ℕ, ◌+◌, ◌-◌}
-use mathlib.Core.Logic.{⊎_elim}
-use mathlib.Core.Path.{◌≡◌, refl, sym, ◌∙◌}
-use borrow.Author.Rules.{rules}
+use mathlib.Core.Path.{◌≡◌}
 use Rattle.definition.specs.Rule.{Pair}
 use Rattle.rows.specs.Kernel.{KeyTypes}
-use Rattle.rows.proofs.KernelLaws.{type_at, later_from, later_all, later_other, later_same, later_clash, later_end}
+use Rattle.rows.proofs.KernelLaws.{later_from}
 use Rattle.rows.proofs.kernel.clashes_later.Given as goal
 
 abbrev pub invariant-loop-q : goal.invariant-loop-q

@@ -1,9 +1,5 @@
-use Prim.Native.Nat.{ℕ, ◌-◌}
-use mathlib.Core.Path.{◌≡◌, refl, sym, ◌∙◌}
-use borrow.Author.Rules.{rules}
-use Rattle.definition.specs.Rule.{Pair}
-use Rattle.rows.specs.Kernel.{KeyTypes}
-use Rattle.rows.proofs.KernelLaws.{keys_from, keys_on, keys_end, later_all, types_of, clash_is}
+use mathlib.Core.Path.{refl, sym, ◌∙◌}
+use Rattle.rows.proofs.KernelLaws.{keys_on, keys_end, later_all, types_of, clash_is}
 use Rattle.rows.proofs.kernel.kernel_clash.Goals as goal
 
 pub loop-p-init : goal.loop-p-init

@@ -1,9 +1,8 @@
 use Prim.Native.Nat.{ℕ, ◌-◌}
-use mathlib.Core.Path.{◌≡◌, refl, sym, ◌∙◌}
-use borrow.Author.Rules.{rules}
+use mathlib.Core.Path.{◌≡◌}
 use Rattle.definition.specs.Rule.{Pair}
 use Rattle.rows.specs.Kernel.{KeyTypes}
-use Rattle.rows.proofs.KernelLaws.{keys_from, keys_on, keys_end, later_all, types_of, clash_is}
+use Rattle.rows.proofs.KernelLaws.{keys_from}
 use Rattle.rows.proofs.kernel.kernel_clash.Given as goal
 
 abbrev pub invariant-loop-p : goal.invariant-loop-p

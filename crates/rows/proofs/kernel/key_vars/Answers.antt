@@ -1,17 +1,12 @@
 -- `vars` has the variables of the first p keys (`KeysDone`). The p-th key is an element of the source, so it is found, and the early return
 -- is never reached (`key_found`); the variable at its place becomes the p-th (`keys_next`). At the end these are the variables of all keys
 -- (`keys_all`).
-use Prim.Native.Nat.{◌-◌, ◌≤◌, ◌<◌}
+use Prim.Native.Nat.{◌<◌}
 use native.Mathlib.Omega.{arith}
-use mathlib.Core.Path.{◌≡◌}
-use lib.ListN.{length, length-set}
+use lib.ListN.{length-set}
 use borrow.Author.Rules.{rules}
 use Rattle.definition.specs.Limits.{field_limit}
-use Rattle.definition.specs.Kinds.{Side}
-use Rattle.rule.specs.Elements.{element_numbers}
-use Rattle.rows.specs.Kernel.{SideAt}
-use Rattle.rule.specs.MapFields.{pairs_in}
-use Rattle.rows.proofs.KernelLaws.{KeysDone, keys_start, key_found, keys_next, keys_all}
+use Rattle.rows.proofs.KernelLaws.{keys_start, key_found, keys_next, keys_all}
 use Rattle.rule.proofs.ElementLaws.{found_few}
 use Rattle.rows.proofs.kernel.key_vars.Goals as goal
 

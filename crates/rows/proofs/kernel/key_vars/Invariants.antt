@@ -1,15 +1,12 @@
-use Prim.Native.Nat.{◌-◌, ◌≤◌, ◌<◌}
-use native.Mathlib.Omega.{arith}
+use Prim.Native.Nat.{◌-◌, ◌≤◌}
 use mathlib.Core.Path.{◌≡◌}
-use lib.ListN.{length, length-set}
-use borrow.Author.Rules.{rules}
+use lib.ListN.{length}
 use Rattle.definition.specs.Limits.{field_limit}
 use Rattle.definition.specs.Kinds.{Side}
 use Rattle.rule.specs.Elements.{element_numbers}
 use Rattle.rows.specs.Kernel.{SideAt}
 use Rattle.rule.specs.MapFields.{pairs_in}
-use Rattle.rows.proofs.KernelLaws.{KeysDone, keys_start, key_found, keys_next, keys_all}
-use Rattle.rule.proofs.ElementLaws.{found_few}
+use Rattle.rows.proofs.KernelLaws.{KeysDone}
 use Rattle.rows.proofs.kernel.key_vars.Given as goal
 
 abbrev pub invariant-loop-p : goal.invariant-loop-p

@@ -1,15 +1,12 @@
 -- Images that ascend are all different: no flag is set (`ascend_merged`). Else, after p pairs (`Several`), `seen` marks their images and
 -- `merged` those of several keys. Each image is found, being an element of the target (`image_found`); one that was seen before is merged
 -- (`several_next`). After all pairs the marks are packed into flags (`packed_merged`).
-use Prim.Native.Nat.{◌-◌, ◌≤◌}
 use native.Mathlib.Omega.{arith}
-use mathlib.Core.Path.{◌≡◌, sym, ◌∙◌}
-use lib.ListN.{length, length-set}
+use mathlib.Core.Path.{sym, ◌∙◌}
+use lib.ListN.{length-set}
 use borrow.Author.Rules.{rules}
-use Rattle.flags.specs.Flags.{places}
-use Rattle.rule.specs.Elements.{element_numbers}
 use Rattle.rule.proofs.Finding.{numbers_length, numbers_ascend}
-use Rattle.rows.proofs.Several.{Several, several_start, image_found, several_next, several_end, packed_merged, ascend_merged}
+use Rattle.rows.proofs.Several.{several_start, image_found, several_next, several_end, packed_merged, ascend_merged}
 use Rattle.rows.proofs.Places.{found_place}
 use Rattle.rows.proofs.kernel.merged_els.Goals as goal
 

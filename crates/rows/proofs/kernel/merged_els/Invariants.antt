@@ -1,13 +1,9 @@
 use Prim.Native.Nat.{◌-◌, ◌≤◌}
-use native.Mathlib.Omega.{arith}
-use mathlib.Core.Path.{◌≡◌, sym, ◌∙◌}
-use lib.ListN.{length, length-set}
-use borrow.Author.Rules.{rules}
+use mathlib.Core.Path.{◌≡◌}
+use lib.ListN.{length}
 use Rattle.flags.specs.Flags.{places}
 use Rattle.rule.specs.Elements.{element_numbers}
-use Rattle.rule.proofs.Finding.{numbers_length, numbers_ascend}
-use Rattle.rows.proofs.Several.{Several, several_start, image_found, several_next, several_end, packed_merged, ascend_merged}
-use Rattle.rows.proofs.Places.{found_place}
+use Rattle.rows.proofs.Several.{Several}
 use Rattle.rows.proofs.kernel.merged_els.Given as goal
 
 abbrev pub invariant-loop-p : goal.invariant-loop-p

@@ -1,12 +1,10 @@
 use Prim.Native.Nat.{◌-◌}
-use mathlib.Core.Path.{◌≡◌, refl, sym, ◌∙◌}
+use mathlib.Core.Path.{◌≡◌}
 use lib.ListN.{drop}
-use borrow.Author.Rules.{rules}
 use Rattle.definition.specs.Base.{any}
 use Rattle.rule.specs.Elements.{count_at}
 use Rattle.rule.specs.ElementFields.{elements_in}
 use Rattle.rule.specs.Rows.{has_parents}
-use Rattle.rows.proofs.MemberLaws.{some_here, some_later, some_end}
 use Rattle.rows.proofs.members.has_members.Given as goal
 
 abbrev pub invariant-loop-i : goal.invariant-loop-i

@@ -1,16 +1,14 @@
 use Prim.Native.Nat.{ℕ, ◌+◌, ◌-◌}
-use mathlib.Core.Logic.{⊎_elim}
 use mathlib.Core.List.{List}
 use mathlib.Core.Path.{◌≡◌}
 use lib.ListN.{length}
-use borrow.Author.Rules.{rules}
 use Rattle.definition.specs.Rows.{member_row}
 use Rattle.definition.specs.Rule.{Row}
 use Rattle.definition.specs.Letters.{member}
 use Rattle.rule.specs.Rows.{Alike}
 use Rattle.rows.specs.Table.{Held}
 use Rattle.rule.specs.ElementFields.{element_from}
-use Rattle.rows.proofs.TableLaws.{Searching, search_start, search_other, search_differs, search_hit, search_end}
+use Rattle.rows.proofs.TableLaws.{Searching}
 use Rattle.rows.proofs.members.is_member_image.Given as goal
 
 abbrev pub invariant-loop-i : goal.invariant-loop-i

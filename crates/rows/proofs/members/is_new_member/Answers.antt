@@ -1,5 +1,4 @@
 use mathlib.Core.Path.{sym, ◌∙◌}
-use borrow.Author.Rules.{rules}
 use Rattle.laws.proofs.Lists.{length_each}
 use Rattle.rows.proofs.MemberLaws.{not_new, new_by_images}
 use Rattle.rows.proofs.Turns.{alike_images}

@@ -1,16 +1,13 @@
 -- Of the first i elements n have parents, and the images of their member rows are the table's first n rows (`Filling`). An element without
 -- parents has no member row (`filling_skip`); a row whose images are all there is the next (`filling_next`); one that lacks an image
 -- answers (`filling_stop`). As n ≤ i, there is room. After all elements the table has all images (`filling_end`).
-use Prim.Native.Nat.{◌-◌, ◌<◌}
+use Prim.Native.Nat.{◌<◌}
 use native.Mathlib.Omega.{arith}
-use mathlib.Core.Path.{◌≡◌, ◌∙◌}
-use lib.ListN.{length, length-set}
-use borrow.Author.Rules.{rules}
+use mathlib.Core.Path.{◌∙◌}
+use lib.ListN.{length-set}
 use Rattle.definition.specs.Limits.{field_limit}
 use Rattle.rule.specs.Elements.{count_at}
-use Rattle.rows.specs.Table.{table_size}
-use Rattle.rule.specs.MapFields.{pairs_in}
-use Rattle.rows.proofs.MemberLaws.{Filling, filling_start, filling_skip, filling_next, filling_stop, filling_end}
+use Rattle.rows.proofs.MemberLaws.{filling_start, filling_skip, filling_next, filling_stop, filling_end}
 use Rattle.rows.proofs.members.mapped_members.Goals as goal
 
 pub loop-i-init : goal.loop-i-init

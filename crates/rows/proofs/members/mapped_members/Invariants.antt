@@ -1,13 +1,11 @@
-use Prim.Native.Nat.{◌-◌, ◌<◌}
-use native.Mathlib.Omega.{arith}
-use mathlib.Core.Path.{◌≡◌, ◌∙◌}
-use lib.ListN.{length, length-set}
-use borrow.Author.Rules.{rules}
+use Prim.Native.Nat.{◌-◌}
+use mathlib.Core.Path.{◌≡◌}
+use lib.ListN.{length}
 use Rattle.definition.specs.Limits.{field_limit}
 use Rattle.rule.specs.Elements.{count_at}
 use Rattle.rows.specs.Table.{table_size}
 use Rattle.rule.specs.MapFields.{pairs_in}
-use Rattle.rows.proofs.MemberLaws.{Filling, filling_start, filling_skip, filling_next, filling_stop, filling_end}
+use Rattle.rows.proofs.MemberLaws.{Filling}
 use Rattle.rows.proofs.members.mapped_members.Given as goal
 
 abbrev pub invariant-loop-i : goal.invariant-loop-i

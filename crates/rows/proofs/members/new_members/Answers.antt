@@ -1,18 +1,8 @@
-use Prim.Native.Nat.{ℕ, ◌-◌, ◌≤◌}
 use native.Mathlib.Omega.{arith}
-use mathlib.Core.Path.{◌≡◌, refl}
-use mathlib.Core.List.{List}
-use lib.ListN.{length, take, length-set}
+use mathlib.Core.Path.{refl}
+use lib.ListN.{length-set}
 use borrow.Author.Rules.{rules}
-use Rattle.definition.specs.Rule.{Row, Pair}
-use Rattle.flags.specs.Flags.{places}
-use Rattle.definition.specs.Letters.{member}
 use Rattle.definition.specs.Base.{each}
-use Rattle.rule.specs.Elements.{count_at}
-use Rattle.rule.specs.Rows.{Alike, member_rows}
-use Rattle.rows.specs.Table.{Holds}
-use Rattle.rows.specs.Members.{new_member}
-use Rattle.rule.specs.ElementFields.{elements_in}
 use Rattle.rows.proofs.MemberLaws.{new_flag, member_alike, flags_all}
 use Rattle.rows.proofs.members.new_members.Goals as goal
 

@@ -1,9 +1,7 @@
 use Prim.Native.Nat.{ℕ, ◌-◌, ◌≤◌}
-use native.Mathlib.Omega.{arith}
-use mathlib.Core.Path.{◌≡◌, refl}
+use mathlib.Core.Path.{◌≡◌}
 use mathlib.Core.List.{List}
-use lib.ListN.{length, take, length-set}
-use borrow.Author.Rules.{rules}
+use lib.ListN.{length, take}
 use Rattle.definition.specs.Rule.{Row, Pair}
 use Rattle.flags.specs.Flags.{places}
 use Rattle.definition.specs.Letters.{member}
@@ -13,7 +11,6 @@ use Rattle.rule.specs.Rows.{Alike, member_rows}
 use Rattle.rows.specs.Table.{Holds}
 use Rattle.rows.specs.Members.{new_member}
 use Rattle.rule.specs.ElementFields.{elements_in}
-use Rattle.rows.proofs.MemberLaws.{new_flag, member_alike, flags_all}
 use Rattle.rows.proofs.members.new_members.Given as goal
 
 abbrev pub invariant-loop-i : goal.invariant-loop-i

@@ -1,13 +1,11 @@
 use Prim.Native.Nat.{ℕ, ◌-◌}
-use mathlib.Core.Logic.{⊎_elim}
 use mathlib.Core.List.{List}
 use mathlib.Core.Path.{◌≡◌}
 use lib.ListN.{length}
 use Rattle.definition.specs.Rule.{Row}
 use Rattle.rule.specs.Rows.{row_from, Alike}
 use Rattle.rows.specs.Table.{Held}
-use Rattle.rows.proofs.TableLaws.{Searching, search_start, search_other, search_differs, search_hit, search_end}
-use borrow.Author.Rules.{rules}
+use Rattle.rows.proofs.TableLaws.{Searching}
 use Rattle.rows.proofs.table.is_image.Given as goal
 
 abbrev pub invariant-loop-i : goal.invariant-loop-i

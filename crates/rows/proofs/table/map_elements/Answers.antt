@@ -1,10 +1,8 @@
 -- The loop along a list of elements: the images of the first j are in the table, and an element without one ends it.
-use Prim.Native.Nat.{◌-◌, ◌≤◌}
 use mathlib.Core.Path.{sym, ◌∙◌, ap}
 use borrow.Author.Rules.{rules}
-use Rattle.rule.specs.MapFields.{pairs_in, image_is}
-use Rattle.rows.proofs.TableLaws.{Mapping, mapping_start, mapping_next, mapping_stop, mapping_end}
-use Rattle.rule.specs.Lists.{els_in}
+use Rattle.rule.specs.MapFields.{image_is}
+use Rattle.rows.proofs.TableLaws.{mapping_start, mapping_next, mapping_stop, mapping_end}
 use Rattle.rule.proofs.ListLaws.{els_many}
 use Rattle.rows.proofs.table.map_elements.Goals as goal
 

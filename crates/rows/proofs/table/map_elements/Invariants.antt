@@ -1,10 +1,7 @@
 use Prim.Native.Nat.{◌-◌, ◌≤◌}
-use mathlib.Core.Path.{sym, ◌∙◌, ap}
-use borrow.Author.Rules.{rules}
-use Rattle.rule.specs.MapFields.{pairs_in, image_is}
-use Rattle.rows.proofs.TableLaws.{Mapping, mapping_start, mapping_next, mapping_stop, mapping_end}
+use Rattle.rule.specs.MapFields.{pairs_in}
+use Rattle.rows.proofs.TableLaws.{Mapping}
 use Rattle.rule.specs.Lists.{els_in}
-use Rattle.rule.proofs.ListLaws.{els_many}
 use Rattle.rows.proofs.table.map_elements.Given as goal
 
 abbrev pub invariant-loop-j : goal.invariant-loop-j

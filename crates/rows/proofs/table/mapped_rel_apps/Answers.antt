@@ -1,20 +1,13 @@
 -- The loop along a section: the images of the first i rows are in the table, each in its eight places.
-use Prim.Native.Nat.{ℕ, ◌-◌, ◌<◌}
+use Prim.Native.Nat.{◌<◌}
 use native.Mathlib.Omega.{arith}
-use mathlib.Core.List.{List}
-use mathlib.Core.Path.{◌≡◌, ◌∙◌}
-use lib.ListN.{length, take, length-set}
-use borrow.Author.Rules.{rules}
-use Rattle.definition.specs.Rule.{row_of}
-use Rattle.definition.specs.Records.{Field}
+use mathlib.Core.Path.{◌∙◌}
+use lib.ListN.{length-set}
 use Rattle.definition.specs.Limits.{field_limit}
-use Rattle.definition.specs.Base.{each}
-use Rattle.records.specs.Places.{Run}
-use Rattle.rows.specs.Table.{table_size}
 use Rattle.rule.specs.MapFields.{pairs_in}
 use Rattle.rows.proofs.Turns.{rows_next, rows_stop, rows_end, rows_start}
-use Rattle.rows.proofs.TableLaws.{Filled, maps_stop, maps_all}
-use Rattle.rule.proofs.RowFields.{Passed, passed_start}
+use Rattle.rows.proofs.TableLaws.{maps_stop, maps_all}
+use Rattle.rule.proofs.RowFields.{passed_start}
 use Rattle.rule.proofs.RowReading.{row_stands, next_row}
 use Rattle.rows.proofs.table.mapped_rel_apps.Goals as goal
 

@@ -1,9 +1,7 @@
-use Prim.Native.Nat.{ℕ, ◌-◌, ◌<◌}
-use native.Mathlib.Omega.{arith}
+use Prim.Native.Nat.{ℕ, ◌-◌}
 use mathlib.Core.List.{List}
-use mathlib.Core.Path.{◌≡◌, ◌∙◌}
-use lib.ListN.{length, take, length-set}
-use borrow.Author.Rules.{rules}
+use mathlib.Core.Path.{◌≡◌}
+use lib.ListN.{length, take}
 use Rattle.definition.specs.Rule.{row_of}
 use Rattle.definition.specs.Records.{Field}
 use Rattle.definition.specs.Limits.{field_limit}
@@ -11,10 +9,8 @@ use Rattle.definition.specs.Base.{each}
 use Rattle.records.specs.Places.{Run}
 use Rattle.rows.specs.Table.{table_size}
 use Rattle.rule.specs.MapFields.{pairs_in}
-use Rattle.rows.proofs.Turns.{rows_next, rows_stop, rows_end, rows_start}
-use Rattle.rows.proofs.TableLaws.{Filled, maps_stop, maps_all}
-use Rattle.rule.proofs.RowFields.{Passed, passed_start}
-use Rattle.rule.proofs.RowReading.{row_stands, next_row}
+use Rattle.rows.proofs.TableLaws.{Filled}
+use Rattle.rule.proofs.RowFields.{Passed}
 use Rattle.rows.proofs.table.mapped_rel_apps.Given as goal
 
 abbrev pub invariant-loop-at : goal.invariant-loop-at

@@ -1,20 +1,13 @@
 -- The loop along a section: the first i flags tell which rows are new, and no flag stands above them.
-use Prim.Native.Nat.{ℕ, ◌-◌, ◌<◌}
+use Prim.Native.Nat.{◌<◌}
 use native.Mathlib.Omega.{arith}
 use mathlib.Core.Bool.{not}
-use mathlib.Core.List.{List}
 use mathlib.Core.Path.{sym, ◌∙◌, ap}
-use Rattle.definition.specs.Rule.{Row, Pair, row_of}
-use Rattle.definition.specs.Records.{Field}
-use Rattle.definition.specs.Base.{each}
 use Rattle.laws.proofs.Lists.{length_each}
-use Rattle.records.specs.Places.{Run}
-use Rattle.flags.specs.Flags.{places, Above, Packed}
+use Rattle.flags.specs.Flags.{places}
 use Rattle.flags.proofs.Words.{above_none, above_set, above_clear, flags_start, flags_set, flags_clear}
-use Rattle.rule.specs.Rows.{Alike}
-use Rattle.rows.specs.Table.{Holds, is_new}
 use Rattle.rows.proofs.Turns.{new_at, row_columns, flags_end, alike_images}
-use Rattle.rule.proofs.RowFields.{Passed, passed_start}
+use Rattle.rule.proofs.RowFields.{passed_start}
 use Rattle.rule.proofs.RowReading.{row_stands, next_row}
 use borrow.Author.Rules.{rules}
 use Rattle.rows.proofs.table.new_rows.Goals.{else-not-is_image, then-not-is_image}

@@ -1,21 +1,13 @@
-use Prim.Native.Nat.{ℕ, ◌-◌, ◌<◌}
-use native.Mathlib.Omega.{arith}
+use Prim.Native.Nat.{ℕ, ◌-◌}
 use mathlib.Core.List.{List}
-use mathlib.Core.Logic.{⊎_elim}
-use mathlib.Core.Path.{sym, ◌∙◌}
 use Rattle.definition.specs.Rule.{Row, Pair, row_of}
 use Rattle.definition.specs.Records.{Field}
 use Rattle.definition.specs.Base.{each}
-use Rattle.laws.proofs.Lists.{length_each}
 use Rattle.records.specs.Places.{Run}
-use Rattle.flags.specs.Flags.{places, Above, Packed}
-use Rattle.flags.proofs.Words.{above_none, above_set, above_clear, flags_start, flags_set, flags_clear}
+use Rattle.flags.specs.Flags.{Above, Packed}
 use Rattle.rule.specs.Rows.{Alike}
 use Rattle.rows.specs.Table.{Holds, is_new}
-use Rattle.rows.proofs.Turns.{new_at, row_columns, flags_end, alike_images}
-use Rattle.rule.proofs.RowFields.{Passed, passed_start}
-use Rattle.rule.proofs.RowReading.{row_stands, next_row}
-use borrow.Author.Rules.{rules}
+use Rattle.rule.proofs.RowFields.{Passed}
 use Rattle.rows.proofs.table.new_rows.Given as goal
 
 abbrev pub invariant-loop-at : goal.invariant-loop-at

@@ -1,12 +1,7 @@
-use Prim.Native.Nat.{◌-◌}
-use mathlib.Core.Path.{◌≡◌, refl, sym, ◌∙◌}
-use lib.ListN.{drop}
+use mathlib.Core.Path.{refl, sym, ◌∙◌}
 use borrow.Author.Rules.{rules}
-use Rattle.definition.specs.Base.{same_list}
 use Rattle.records.proofs.Numbers.{length_stretch, stretch_at}
-use Rattle.records.specs.Places.{stretch}
 use Rattle.records.proofs.Parts.{same_on, same_no, same_end}
-use Rattle.rule.specs.Lists.{els_in}
 use Rattle.rule.proofs.ListLaws.{els_many}
 use Rattle.rows.proofs.table.same_elements.Goals as goal
 

@@ -1,11 +1,5 @@
-use Rattle.rule.proofs.Finding.{Scanning, scan_start, scan_end, scan_bad, scan_hit, scan_miss, scan_skip}
-use Rattle.records.specs.Places.{Run}
-use Rattle.definition.specs.Records.{Field, with_letter}
-use Rattle.definition.specs.Letters.{letter_e}
-use mathlib.Core.List.{List}
+use Rattle.rule.proofs.Finding.{scan_start, scan_end, scan_bad, scan_hit, scan_miss, scan_skip}
 use mathlib.Core.Path.{◌∙◌, sym}
-use Prim.Native.Nat.{◌-◌}
-use borrow.Author.Rules.{rules}
 use native.Mathlib.Omega.{arith}
 use Rattle.rule.proofs.elements.can_be_named.Goals as goal
 

@@ -1,13 +1,10 @@
 use Rattle.rule.specs.Elements.{element_numbers}
-use Rattle.records.proofs.Along.{all_from, all_start, all_no, all_on, all_end}
-use Rattle.records.proofs.Numbers.{length_numbers_in, numbers_in_lem}
+use Rattle.records.proofs.Along.{all_from}
 use Rattle.records.specs.Places.{stretch}
 use Rattle.definition.specs.Records.{numbers}
 use Rattle.definition.specs.Base.{has}
-use borrow.Author.Tests.{not-true, not-false}
-use mathlib.Core.Path.{◌≡◌, refl, ◌∙◌, sym}
+use mathlib.Core.Path.{◌≡◌}
 use Prim.Native.Nat.{ℕ, ◌-◌, ◌/◌}
-use borrow.Author.Rules.{rules}
 use Rattle.rule.proofs.elements.elements_named.Given as goal
 
 abbrev pub invariant-loop-i : goal.invariant-loop-i

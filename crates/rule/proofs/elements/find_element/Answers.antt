@@ -1,9 +1,8 @@
 -- Elements ascend: those before `low` are below e, and those from `high` on are above it (`Searching`). A place whose number is e is the
 -- answer, the guessed one or the middle one (`search_found`). Else the middle raises `low` (`search_up`) or lowers `high` (`search_down`);
 -- where they meet no place is left, so e is no element (`search_none`).
-use Rattle.rule.proofs.Finding.{Searching, search_start, search_found, search_up, search_down, search_none}
+use Rattle.rule.proofs.Finding.{search_start, search_found, search_up, search_down, search_none}
 use mathlib.Core.Path.{◌∙◌, sym}
-use Prim.Native.Nat.{◌-◌, ◌≤◌}
 use borrow.Author.Rules.{rules}
 use native.Mathlib.Omega.{arith}
 use Rattle.rule.proofs.elements.find_element.Goals as goal

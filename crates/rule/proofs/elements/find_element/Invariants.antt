@@ -1,8 +1,5 @@
-use Rattle.rule.proofs.Finding.{Searching, search_start, search_found, search_up, search_down, search_none}
-use mathlib.Core.Path.{◌∙◌, sym}
+use Rattle.rule.proofs.Finding.{Searching}
 use Prim.Native.Nat.{◌-◌, ◌≤◌}
-use borrow.Author.Rules.{rules}
-use native.Mathlib.Omega.{arith}
 use Rattle.rule.proofs.elements.find_element.Given as goal
 
 abbrev pub invariant-loop-low : goal.invariant-loop-low

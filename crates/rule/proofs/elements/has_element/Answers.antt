@@ -1,6 +1,5 @@
 use Rattle.rule.proofs.Finding.{finds_at, finds_none}
 use mathlib.Core.Path.{sym}
-use borrow.Author.Rules.{rules}
 use Rattle.rule.proofs.elements.has_element.Goals as goal
 
 pub returns-in-At : goal.returns-in-At

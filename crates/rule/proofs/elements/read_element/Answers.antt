@@ -1,5 +1,4 @@
 use native.Mathlib.Omega.{arith}
-use borrow.Author.Rules.{rules}
 use Rattle.rule.proofs.ElementLaws.{element_within, element_is}
 use Rattle.rule.proofs.elements.read_element.Goals as goal
 

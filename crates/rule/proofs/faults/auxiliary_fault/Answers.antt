@@ -3,7 +3,6 @@ use Rattle.rule.proofs.Drawn.{auxiliary_short, auxiliary_tests}
 use Rattle.rule.proofs.Drawn.{auxiliary_short, auxiliary_tests, three}
 use borrow.Author.Tests.{le-leb, lt-leb, le-ltb, lt-ltb}
 use mathlib.Core.Path.{◌∙◌, sym}
-use borrow.Author.Rules.{rules}
 use Rattle.rule.proofs.faults.auxiliary_fault.Goals as goal
 
 pub returns-then-f-ne3 : goal.returns-then-f-ne3

@@ -1,5 +1,4 @@
 use Rattle.rule.proofs.Drawn.{class_none, class_below}
-use borrow.Author.Rules.{rules}
 use native.Mathlib.Omega.{arith}
 use Rattle.rule.proofs.faults.class_falls.Goals as goal
 

@@ -1,7 +1,6 @@
 use Rattle.rule.proofs.Drawn.{head_tests}
 use borrow.Author.Tests.{le-ltb, lt-ltb}
 use mathlib.Core.Path.{◌∙◌, sym}
-use borrow.Author.Rules.{rules}
 use Rattle.rule.proofs.faults.head_fault.Goals as goal
 
 pub returns-then-len-lt2 : goal.returns-then-len-lt2

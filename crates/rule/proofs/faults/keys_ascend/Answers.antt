@@ -1,8 +1,5 @@
-use Prim.Native.Nat.{◌-◌, ◌≤◌}
-use Rattle.rule.proofs.PairLaws.{keys_from, keys_start, keys_no, keys_on, keys_end}
-use mathlib.Core.Path.{◌≡◌, refl, sym, ◌∙◌}
-use Prim.Native.Nat.{◌-◌}
-use borrow.Author.Rules.{rules}
+use Rattle.rule.proofs.PairLaws.{keys_start, keys_no, keys_on, keys_end}
+use mathlib.Core.Path.{refl, sym, ◌∙◌}
 use native.Mathlib.Omega.{arith}
 use Rattle.rule.proofs.faults.keys_ascend.Goals as goal
 

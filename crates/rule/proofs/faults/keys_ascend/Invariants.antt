@@ -1,9 +1,7 @@
 use Prim.Native.Nat.{◌-◌, ◌≤◌}
-use Rattle.rule.proofs.PairLaws.{keys_from, keys_start, keys_no, keys_on, keys_end}
-use mathlib.Core.Path.{◌≡◌, refl, sym, ◌∙◌}
+use Rattle.rule.proofs.PairLaws.{keys_from}
+use mathlib.Core.Path.{◌≡◌}
 use Prim.Native.Nat.{◌-◌}
-use borrow.Author.Rules.{rules}
-use native.Mathlib.Omega.{arith}
 use Rattle.rule.proofs.faults.keys_ascend.Given as goal
 
 abbrev pub invariant-loop-i : goal.invariant-loop-i

@@ -1,7 +1,6 @@
 use Rattle.rule.proofs.Drawn.{kind_short, kind_tests}
 use borrow.Author.Tests.{le-leb, lt-leb, le-ltb, lt-ltb}
 use mathlib.Core.Path.{◌∙◌, sym}
-use borrow.Author.Rules.{rules}
 use Rattle.rule.proofs.faults.kind_fault.Goals as goal
 
 pub returns-then-f-ne5 : goal.returns-then-f-ne5

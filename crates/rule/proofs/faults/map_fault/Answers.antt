@@ -1,12 +1,10 @@
 -- No loop: the tests in the order of their numbers. A length below 4 or no multiple of 4 is 3 (`map_short`, `map_odd`); else `map_tests`
 -- says that the fault is the first of the tests 4 to 6 that holds, and each return rewrites those before it to false. Once source and
 -- target are structures (`ends_below`), the elements that keys and images must be are known (`named_at`).
-use borrow.Author.Tests.{not-false}
 use Rattle.records.proofs.Numbers.{low_bits, low_bits_not}
 use Rattle.rule.proofs.Drawn.{map_short, map_odd, map_tests, named_length, named_at, ends_below}
 use borrow.Author.Tests.{le-leb, lt-leb}
 use mathlib.Core.Path.{◌∙◌, sym}
-use borrow.Author.Rules.{rules}
 use native.Mathlib.Omega.{arith}
 use Rattle.rule.proofs.faults.map_fault.Goals as goal
 

@@ -1,7 +1,6 @@
 use Rattle.rule.proofs.Drawn.{name_short, name_tests}
 use borrow.Author.Tests.{le-leb, lt-leb}
 use mathlib.Core.Path.{◌∙◌, sym}
-use borrow.Author.Rules.{rules}
 use Rattle.rule.proofs.faults.name_fault.Goals as goal
 
 pub returns-then-f-count : goal.returns-then-f-count

@@ -2,7 +2,6 @@ use Rattle.records.specs.Places.{field_of}
 use Rattle.rule.specs.Faults.{last_field}
 use Rattle.rule.proofs.Drawn.{key_name, key_term}
 use mathlib.Core.Path.{◌∙◌}
-use borrow.Author.Rules.{rules}
 use Rattle.rule.proofs.faults.not_above.Goals as goal
 
 pub returns-then-count-eq1 : goal.returns-then-count-eq1

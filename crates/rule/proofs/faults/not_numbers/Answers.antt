@@ -1,5 +1,4 @@
 use borrow.Author.Tests.{eq-eqb, ne_eqb}
-use borrow.Author.Rules.{rules}
 use Rattle.records.proofs.Numbers.{low_bits, low_bits_not}
 use Rattle.rule.proofs.faults.not_numbers.Goals as goal
 

@@ -1,12 +1,8 @@
 -- Whether all pairs are named is whether those from the i-th on are (`all_pairs`). A key or an image that is no element makes it false
 -- (`pairs_no`); a pair of elements leaves it to those behind it (`pairs_on`); none left is true (`pairs_end`).
-use Rattle.rule.proofs.PairLaws.{all_pairs, pairs_start, pairs_no, pairs_on, pairs_end}
-use Rattle.rule.specs.Elements.{element_numbers}
+use Rattle.rule.proofs.PairLaws.{pairs_start, pairs_no, pairs_on, pairs_end}
 use Rattle.rule.specs.Faults.{pair_named}
-use borrow.Author.Tests.{not-true, not-false}
-use mathlib.Core.Path.{◌≡◌, refl, sym, ◌∙◌}
-use Prim.Native.Nat.{◌-◌}
-use borrow.Author.Rules.{rules}
+use mathlib.Core.Path.{refl, sym, ◌∙◌}
 use Rattle.rule.proofs.faults.pairs_named.Goals as goal
 
 pub loop-i-init : goal.loop-i-init

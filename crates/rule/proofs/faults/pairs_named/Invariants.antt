@@ -1,10 +1,8 @@
-use Rattle.rule.proofs.PairLaws.{all_pairs, pairs_start, pairs_no, pairs_on, pairs_end}
+use Rattle.rule.proofs.PairLaws.{all_pairs}
 use Rattle.rule.specs.Elements.{element_numbers}
 use Rattle.rule.specs.Faults.{pair_named}
-use borrow.Author.Tests.{not-true, not-false}
-use mathlib.Core.Path.{◌≡◌, refl, sym, ◌∙◌}
+use mathlib.Core.Path.{◌≡◌}
 use Prim.Native.Nat.{◌-◌}
-use borrow.Author.Rules.{rules}
 use Rattle.rule.proofs.faults.pairs_named.Given as goal
 
 abbrev pub invariant-loop-i : goal.invariant-loop-i

@@ -8,7 +8,6 @@ use mathlib.Core.Bool.{false, ◌||◌}
 use lib.Dec.{ltb}
 use Prim.Native.Nat.{◌+◌, ◌*◌, ◌≤◌}
 use Rattle.definition.specs.Records.{odd}
-use borrow.Author.Rules.{rules}
 use native.Mathlib.Omega.{arith}
 use Rattle.rule.proofs.faults.row_fault.Goals as goal
 

@@ -1,6 +1,5 @@
 use mathlib.Core.Path.{refl}
 use Rattle.rule.proofs.ListLaws.{els_behind}
-use borrow.Author.Rules.{rules}
 use native.Mathlib.Omega.{arith}
 use Rattle.rule.proofs.lists.behind.Goals as goal
 

@@ -1,6 +1,5 @@
 use mathlib.Core.Path.{◌∙◌}
 use Rattle.rule.proofs.ListLaws.{el_is}
-use borrow.Author.Rules.{rules}
 use Rattle.rule.proofs.lists.el_at.Goals as goal
 
 pub returns : goal.returns

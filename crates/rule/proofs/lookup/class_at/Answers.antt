@@ -1,6 +1,5 @@
 use Rattle.rule.proofs.Drawn.{class_is}
 use mathlib.Core.Path.{sym}
-use borrow.Author.Rules.{rules}
 use native.Mathlib.Omega.{arith}
 use Rattle.rule.proofs.lookup.class_at.Goals as goal
 

@@ -1,8 +1,6 @@
-use Rattle.rule.proofs.MapSearch.{Seeking, seek_start, seek_end, seek_bad, seek_long, seek_hit, seek_next}
+use Rattle.rule.proofs.MapSearch.{seek_start, seek_end, seek_bad, seek_long, seek_hit, seek_next}
 use Rattle.definition.specs.Letters.{letter_m}
-use Prim.Native.Nat.{◌-◌}
 use mathlib.Core.Path.{◌∙◌, sym}
-use borrow.Author.Rules.{rules}
 use native.Mathlib.Omega.{arith}
 use Rattle.rule.proofs.lookup.find_map.Goals as goal
 

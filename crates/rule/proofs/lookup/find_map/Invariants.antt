@@ -1,9 +1,5 @@
-use Rattle.rule.proofs.MapSearch.{Seeking, seek_start, seek_end, seek_bad, seek_long, seek_hit, seek_next}
-use Rattle.definition.specs.Letters.{letter_m}
+use Rattle.rule.proofs.MapSearch.{Seeking}
 use Prim.Native.Nat.{◌-◌}
-use mathlib.Core.Path.{◌∙◌, sym}
-use borrow.Author.Rules.{rules}
-use native.Mathlib.Omega.{arith}
 use Rattle.rule.proofs.lookup.find_map.Given as goal
 
 abbrev pub invariant-loop-at : goal.invariant-loop-at

@@ -1,6 +1,5 @@
 use borrow.Author.Tests.{eq-eqb, ne_eqb}
 use mathlib.Core.Path.{sym}
-use borrow.Author.Rules.{rules}
 use Rattle.rule.proofs.lookup.joins.Goals as goal
 
 pub returns-then-source_at-source : goal.returns-then-source_at-source

@@ -1,6 +1,5 @@
 use Rattle.rule.proofs.Saying.{kind_is, kind_other}
 use mathlib.Core.Path.{◌∙◌, sym}
-use borrow.Author.Rules.{rules}
 use Rattle.rule.proofs.lookup.kind_at.Goals as goal
 
 pub returns-in-1 : goal.returns-in-1

@@ -1,5 +1,4 @@
 use Rattle.rule.proofs.Saying.{pairs_are}
-use borrow.Author.Rules.{rules}
 use Rattle.rule.proofs.lookup.map_pairs.Goals as goal
 
 pub returns : goal.returns

@@ -1,6 +1,5 @@
 use Rattle.rule.proofs.Saying.{source_is, kind_source_is}
 use mathlib.Core.Path.{◌∙◌}
-use borrow.Author.Rules.{rules}
 use Rattle.rule.proofs.lookup.source_at.Goals as goal
 
 pub returns : goal.returns

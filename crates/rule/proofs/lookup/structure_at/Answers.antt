@@ -1,6 +1,5 @@
 use Rattle.rule.proofs.Saying.{structure_number_is}
 use mathlib.Core.Path.{◌∙◌}
-use borrow.Author.Rules.{rules}
 use Rattle.rule.proofs.lookup.structure_at.Goals as goal
 
 pub returns : goal.returns

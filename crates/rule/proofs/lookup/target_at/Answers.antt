@@ -1,6 +1,5 @@
 use Rattle.rule.proofs.Saying.{target_is, kind_target_is}
 use mathlib.Core.Path.{◌∙◌}
-use borrow.Author.Rules.{rules}
 use Rattle.rule.proofs.lookup.target_at.Goals as goal
 
 pub returns : goal.returns

@@ -1,9 +1,7 @@
-use Prim.Native.Nat.{◌-◌}
 use native.Mathlib.Omega.{arith}
 use mathlib.Core.Option.{some}
 use mathlib.Core.Path.{sym, ◌∙◌, ap}
-use borrow.Author.Rules.{rules}
-use Rattle.rule.proofs.MapLaws.{Between, between_all, between_up, between_down, found, not_found}
+use Rattle.rule.proofs.MapLaws.{between_all, between_up, between_down, found, not_found}
 use Rattle.rule.proofs.maps.image_of.Goals as goal
 
 pub returns-then-x-e : goal.returns-then-x-e

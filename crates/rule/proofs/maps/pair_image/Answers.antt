@@ -1,5 +1,4 @@
 use mathlib.Core.Path.{◌∙◌}
-use borrow.Author.Rules.{rules}
 use Rattle.rule.proofs.MapLaws.{image_is}
 use Rattle.rule.proofs.maps.pair_image.Goals as goal
 

@@ -1,5 +1,4 @@
 use mathlib.Core.Path.{◌∙◌}
-use borrow.Author.Rules.{rules}
 use Rattle.rule.proofs.MapLaws.{key_is}
 use Rattle.rule.proofs.maps.pair_key.Goals as goal
 

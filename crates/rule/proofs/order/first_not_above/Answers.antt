@@ -1,5 +1,4 @@
 use Rattle.rule.proofs.Keys.{first_above}
-use borrow.Author.Rules.{rules}
 use native.Mathlib.Omega.{arith}
 use Rattle.rule.proofs.order.first_not_above.Goals as goal
 

@@ -1,5 +1,4 @@
 use borrow.Author.Tests.{eq-eqb, ne_eqb}
-use borrow.Author.Rules.{rules}
 use Rattle.rule.proofs.pass.counted.Goals as goal
 
 pub returns-then-at-eq-PLACE_S : goal.returns-then-at-eq-PLACE_S

@@ -1,6 +1,5 @@
 use mathlib.Core.Path.{◌≡◌}
-use Rattle.rule.proofs.Filling.{Filling, fill_start, fill_next}
-use Prim.Native.Nat.{◌-◌, ◌≤◌}
+use Rattle.rule.proofs.Filling.{fill_start, fill_next}
 use borrow.Author.Rules.{rules}
 use native.Mathlib.Omega.{arith}
 use Rattle.rule.proofs.pass.fill.Goals as goal

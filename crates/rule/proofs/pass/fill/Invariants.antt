@@ -1,8 +1,5 @@
-use mathlib.Core.Path.{◌≡◌}
-use Rattle.rule.proofs.Filling.{Filling, fill_start, fill_next}
+use Rattle.rule.proofs.Filling.{Filling}
 use Prim.Native.Nat.{◌-◌, ◌≤◌}
-use borrow.Author.Rules.{rules}
-use native.Mathlib.Omega.{arith}
 use Rattle.rule.proofs.pass.fill.Given as goal
 
 abbrev pub invariant-loop-i : goal.invariant-loop-i

@@ -1,15 +1,13 @@
 -- Behind the fields `passed`, which follow the grammar, with `structures` S among them; each section so far runs from its bound to the next
 -- (`Passing`). A repeated letter stays in its section (`pass_again`), another starts its own (`pass_next`). It ends at what is no field
 -- (`pass_bad`), a letter out of order (`pass_stop`), a structure over the limit (`pass_over`) or the end (`pass_end`).
-use Rattle.rule.proofs.Passing.{Passing, pass_start, pass_next, pass_again, pass_bad, pass_stop, pass_over, pass_end, section_in, section_next}
+use Rattle.rule.proofs.Passing.{pass_start, pass_next, pass_again, pass_bad, pass_stop, pass_over, pass_end, section_in, section_next}
 use Rattle.rule.proofs.Passing.{next_in, short, place_in, some_structure}
 use Rattle.rule.proofs.Letters.{place_is}
-use Rattle.rule.specs.Layout.{letter_at, place_of, rule_index}
-use borrow.Author.Tests.{ltb-true, not-true, not-false}
-use lib.ListN.{length, length-set}
-use mathlib.Core.Path.{◌≡◌, sym, ◌∙◌, ap}
-use Prim.Native.Nat.{◌-◌}
-use borrow.Author.Rules.{rules}
+use Rattle.rule.specs.Layout.{letter_at, place_of}
+use borrow.Author.Tests.{ltb-true}
+use lib.ListN.{length-set}
+use mathlib.Core.Path.{sym, ◌∙◌, ap}
 use native.Mathlib.Omega.{arith}
 use Rattle.rule.proofs.pass.pass.Goals as goal
 

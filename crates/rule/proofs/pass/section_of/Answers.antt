@@ -1,6 +1,5 @@
 use Rattle.rule.specs.Layout.{section_at}
 use borrow.Author.Tests.{le-leb, lt-leb, lt-ltb, le-ltb}
-use borrow.Author.Rules.{rules}
 use native.Mathlib.Omega.{arith}
 use Rattle.rule.proofs.pass.section_of.Goals as goal
 

@@ -1,6 +1,5 @@
 use Rattle.rule.proofs.Heads.{head_bad, head_size, head_of}
 use mathlib.Core.Path.{sym, ◌∙◌}
-use borrow.Author.Rules.{rules}
 use Rattle.rule.proofs.reader.check_head.Goals as goal
 
 pub returns-in_default : goal.returns-in_default

@@ -3,7 +3,6 @@
 -- behind R (`rest_none`). Each of these takes what the checks so far told.
 use mathlib.Core.Path.{sym, ◌∙◌}
 use Rattle.rule.proofs.Bodies.{rest_r, rest_none, rest_a, rest_v, rest_i}
-use borrow.Author.Rules.{rules}
 use native.Mathlib.Omega.{arith}
 use Rattle.rule.proofs.reader.check_rest.Goals as goal
 

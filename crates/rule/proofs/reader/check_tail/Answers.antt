@@ -1,6 +1,5 @@
 use Rattle.rule.proofs.Whole.{tail_m, tail_k, tail_x}
 use mathlib.Core.Logic.{⊎_elim}
-use borrow.Author.Rules.{rules}
 use native.Mathlib.Omega.{arith}
 use Rattle.rule.proofs.reader.check_tail.Goals as goal
 

@@ -1,5 +1,4 @@
 use mathlib.Core.Path.{◌∙◌}
-use borrow.Author.Rules.{rules}
 use Rattle.rule.proofs.RowReading.{result_is}
 use Rattle.rule.proofs.rows.row_result.Goals as goal
 

@@ -1,5 +1,4 @@
 use Rattle.rule.specs.Layout.{name_place}
-use borrow.Author.Rules.{rules}
 use Rattle.rule.proofs.sections.name_section.Goals as goal
 
 pub returns : goal.returns

@@ -1,5 +1,4 @@
 use Rattle.rule.proofs.Saying.{tail_run_at}
-use borrow.Author.Rules.{rules}
 use Rattle.rule.proofs.sections.section_behind.Goals as goal
 
 pub returns : goal.returns

@@ -1,5 +1,4 @@
 use Rattle.rule.specs.Layout.{section_from, section_to}
-use borrow.Author.Rules.{rules}
 use Rattle.rule.proofs.sections.section_of.Goals as goal
 
 pub returns : goal.returns

@@ -1,6 +1,5 @@
 use Rattle.scope.proofs.Whole.{no_owners, owners_within, owners_are}
 use native.Mathlib.Omega.{arith}
-use borrow.Author.Rules.{rules}
 use Rattle.scope.proofs.infer.owners.Goals as goal
 
 pub overflow_mul-end : goal.overflow_mul-end

@@ -2,7 +2,6 @@ use mathlib.Core.Path.{refl, ap, ◌∙◌}
 use Rattle.definition.specs.Base.{refused}
 use Rattle.group.proofs.View.{rule_stands, rule_says}
 use Rattle.scope.proofs.Whole.{signature_refused, group_refused, no_rule, rule_answer, usable_signature, usable_group, owners_stand}
-use borrow.Author.Rules.{rules}
 use Rattle.scope.proofs.infer.scope.Goals as goal
 
 pub returns-in_default : goal.returns-in_default

@@ -2,7 +2,6 @@ use Rattle.scope.proofs.InOrder.{settled_is, no_output, output_short, output_lon
 use Rattle.scope.proofs.Settling.{enough, prefix_at}
 use Rattle.scope.specs.Statements.{owners_in}
 use mathlib.Core.Path.{sym, ◌∙◌}
-use borrow.Author.Rules.{rules}
 use Rattle.scope.proofs.rules.output_scope.Goals as goal
 
 pub returns-in_default : goal.returns-in_default

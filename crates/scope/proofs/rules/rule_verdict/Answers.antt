@@ -1,7 +1,6 @@
 use Rattle.scope.proofs.InOrder.{conclusions_settle, premises_settle}
 use borrow.Author.Tests.{not-true, not-false}
 use mathlib.Core.Path.{sym, ◌∙◌}
-use borrow.Author.Rules.{rules}
 use Rattle.scope.proofs.rules.rule_verdict.Goals as goal
 
 pub returns-then-not-is_open : goal.returns-then-not-is_open

@@ -1,15 +1,8 @@
 -- From the loop's position on stand statements without a fault, and the first verdict among them is the section's.
-use Rattle.definition.specs.Base.{first_of}
-use Rattle.group.specs.Lookups.{table, statements_in, StatementsAt}
 use Rattle.group.proofs.View.{statement_here, symbol_here, vars_here, section_next, statements_next}
 use Rattle.scope.proofs.InOrder.{section_of, none_left, goes_on, stops}
-use Rattle.scope.specs.Sides.{letter_of, verdict_at}
-use Rattle.scope.specs.Statements.{owners_in}
-use Rattle.signature.specs.Index.{signature_at}
 use borrow.Author.Tests.{not-true, not-false}
-use mathlib.Core.Path.{◌≡◌, refl, sym, ◌∙◌}
-use Prim.Native.Nat.{◌-◌}
-use borrow.Author.Rules.{rules}
+use mathlib.Core.Path.{refl, sym, ◌∙◌}
 use native.Mathlib.Omega.{arith}
 use Rattle.scope.proofs.rules.section_verdict.Goals as goal
 

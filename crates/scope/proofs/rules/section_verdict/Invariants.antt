@@ -1,15 +1,10 @@
 use Rattle.definition.specs.Base.{first_of}
 use Rattle.group.specs.Lookups.{table, statements_in, StatementsAt}
-use Rattle.group.proofs.View.{statement_here, symbol_here, vars_here, section_next, statements_next}
-use Rattle.scope.proofs.InOrder.{section_of, none_left, goes_on, stops}
 use Rattle.scope.specs.Sides.{letter_of, verdict_at}
 use Rattle.scope.specs.Statements.{owners_in}
 use Rattle.signature.specs.Index.{signature_at}
-use borrow.Author.Tests.{not-true, not-false}
-use mathlib.Core.Path.{◌≡◌, refl, sym, ◌∙◌}
+use mathlib.Core.Path.{◌≡◌}
 use Prim.Native.Nat.{◌-◌}
-use borrow.Author.Rules.{rules}
-use native.Mathlib.Omega.{arith}
 use Rattle.scope.proofs.rules.section_verdict.Given as goal
 
 abbrev pub invariant-loop-at : goal.invariant-loop-at

@@ -1,12 +1,9 @@
 use Prim.Native.Nat.{◌-◌, ◌≤◌}
-use mathlib.Core.Path.{◌≡◌, sym, ◌∙◌}
+use mathlib.Core.Path.{◌≡◌}
 use lib.ListN.{drop}
 use Rattle.definition.specs.Base.{has}
 use Rattle.definition.specs.Signature.{type_parents}
 use Rattle.signature.specs.Index.{signature_at}
-use Rattle.scope.proofs.Settling.{has_hit, has_miss, has_end}
-use borrow.Author.Rules.{rules}
-use native.Mathlib.Omega.{arith}
 use Rattle.scope.proofs.verdicts.among.Given as goal
 
 abbrev pub invariant-loop-i : goal.invariant-loop-i

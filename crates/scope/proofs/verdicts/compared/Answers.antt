@@ -1,5 +1,4 @@
 use mathlib.Core.Path.{sym, ◌∙◌}
-use borrow.Author.Rules.{rules}
 use Rattle.scope.proofs.Settling.{enough, prefix_at, short, alike, unlike}
 use Rattle.scope.proofs.verdicts.compared.Goals as goal
 

@@ -1,5 +1,4 @@
 use Rattle.signature.proofs.Symbols.{type_parents_lem}
-use borrow.Author.Rules.{rules}
 use native.Mathlib.Omega.{arith}
 use Rattle.scope.proofs.verdicts.owner_count.Goals as goal
 

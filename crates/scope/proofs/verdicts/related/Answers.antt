@@ -1,5 +1,4 @@
 use Rattle.scope.proofs.Settling.{related_same, related_above, related_below}
-use borrow.Author.Rules.{rules}
 use Rattle.scope.proofs.verdicts.related.Goals as goal
 
 pub returns-then-p-m : goal.returns-then-p-m

@@ -1,4 +1,3 @@
-use borrow.Author.Rules.{rules}
 use Rattle.signature.proofs.ByKind.{counted, kind_known}
 use Rattle.scope.proofs.verdicts.statement_model.Goals as goal
 

@@ -1,7 +1,6 @@
 use Rattle.scope.proofs.Settling.{no_model, other_model, by_prefix, prefix_count}
 use borrow.Author.Tests.{not-true, not-false}
 use mathlib.Core.Path.{◌∙◌}
-use borrow.Author.Rules.{rules}
 use native.Mathlib.Omega.{arith}
 use Rattle.scope.proofs.verdicts.statement_verdict.Goals as goal
 

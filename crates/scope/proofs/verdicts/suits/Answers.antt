@@ -1,5 +1,4 @@
 use Rattle.scope.specs.Sides.{suiting}
-use borrow.Author.Rules.{rules}
 use Rattle.scope.proofs.verdicts.suits.Goals as goal
 
 pub returns-in-Conclusions : goal.returns-in-Conclusions

@@ -1,16 +1,15 @@
 -- The first `count` of `vars` are the variables of e's keys among the first p pairs (`FiberTo`); as count ≤ p, there is room. A pair of
 -- another image is passed (`fiber_pass`); the key of one of e is found, so the early return is never reached (`key_found`), and its
 -- variable is the next (`fiber_next`). After all pairs they are the whole fiber (`fiber_end`).
-use Prim.Native.Nat.{◌-◌, ◌≤◌, ◌<◌}
+use Prim.Native.Nat.{◌<◌}
 use native.Mathlib.Omega.{arith}
-use mathlib.Core.Path.{◌≡◌, sym, ◌∙◌}
-use lib.ListN.{length, length-set}
+use mathlib.Core.Path.{sym, ◌∙◌}
+use lib.ListN.{length-set}
 use borrow.Author.Rules.{rules}
 use Rattle.definition.specs.Limits.{field_limit}
-use Rattle.rule.specs.Elements.{element_numbers}
 use Rattle.rule.proofs.ElementLaws.{found_few}
 use Rattle.rows.proofs.KernelLaws.{key_found}
-use Rattle.statements.proofs.Fibers.{FiberTo, fiber_start, fiber_pass, fiber_next, fiber_end}
+use Rattle.statements.proofs.Fibers.{fiber_start, fiber_pass, fiber_next, fiber_end}
 use Rattle.statements.proofs.equalities.fiber_vars.Goals.{else-image-e, then-image-e+in-At}
 use Rattle.statements.proofs.equalities.fiber_vars.Goals as goal
 

@@ -1,14 +1,9 @@
-use Prim.Native.Nat.{◌-◌, ◌≤◌, ◌<◌}
-use native.Mathlib.Omega.{arith}
-use mathlib.Core.Logic.{⊎_elim}
-use mathlib.Core.Path.{◌≡◌, sym, ◌∙◌}
-use lib.ListN.{length, length-set}
-use borrow.Author.Rules.{rules}
+use Prim.Native.Nat.{◌-◌, ◌≤◌}
+use mathlib.Core.Path.{◌≡◌}
+use lib.ListN.{length}
 use Rattle.definition.specs.Limits.{field_limit}
 use Rattle.rule.specs.Elements.{element_numbers}
-use Rattle.rule.proofs.ElementLaws.{found_few}
-use Rattle.rows.proofs.KernelLaws.{key_found}
-use Rattle.statements.proofs.Fibers.{FiberTo, fiber_start, fiber_pass, fiber_next, fiber_end}
+use Rattle.statements.proofs.Fibers.{FiberTo}
 use Rattle.statements.proofs.equalities.fiber_vars.Given as goal
 
 abbrev pub invariant-loop-p : goal.invariant-loop-p

@@ -1,9 +1,7 @@
-use Rattle.statements.proofs.Fibers.{firsts_on, firsts_end, among_bytes, among_cons, among_none, among_all}
+use Rattle.statements.proofs.Fibers.{firsts_on, firsts_end, among_cons, among_none, among_all}
 use Rattle.statements.proofs.Counting.{beyond, square_most, firsts_long}
-use Rattle.records.proofs.Tail.{Writing, begin, wrote, finish}
-use lib.ListN.{take, drop}
+use Rattle.records.proofs.Tail.{begin, wrote, finish}
 use native.Mathlib.Nat.{mul-le-mul}
-use Prim.Native.Nat.{◌-◌, ◌≤◌}
 use borrow.Author.Rules.{rules}
 use native.Mathlib.Omega.{arith}
 use Rattle.statements.proofs.equalities.put_among.Goals as goal

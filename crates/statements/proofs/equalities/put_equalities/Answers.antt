@@ -1,20 +1,14 @@
 -- Of the Equalities by image, those of the target's elements from the j-th on are left (`Writing`, `over_bytes`). For a flagged element its
 -- fiber's are put (`els_on`); one without a flag is the image of one key at most (`unflagged`), so it has none (`els_pass`). All of them
 -- together are the Equalities of the kernel pairs (`equalities_are`).
-use Prim.Native.Nat.{◌-◌, ◌≤◌}
 use native.Mathlib.Omega.{arith}
 use mathlib.Core.Path.{sym, ◌∙◌}
-use lib.ListN.{drop}
 use borrow.Author.Rules.{rules}
-use Rattle.definition.specs.Kinds.{variable_in}
-use Rattle.definition.specs.Names.{numbers_of}
-use Rattle.records.proofs.Tail.{Writing, begin, wrote, passed, finish}
-use Rattle.rows.specs.Morphisms.{target_in, pairs_by}
+use Rattle.records.proofs.Tail.{begin, wrote, passed, finish}
 use Rattle.rows.proofs.Several.{unflagged}
 use Rattle.naming.proofs.Placed.{at_count}
-use Rattle.statements.specs.Structures.{side_in}
 use Rattle.statements.proofs.KernelPairs.{keys_given, equalities_are}
-use Rattle.statements.proofs.Fibers.{over_bytes, els_on, els_pass, els_end, over_all, place_in_numbers}
+use Rattle.statements.proofs.Fibers.{els_on, els_pass, els_end, over_all, place_in_numbers}
 use Rattle.statements.proofs.equalities.put_equalities.Goals.{else-flag, then-flag}
 use Rattle.statements.proofs.equalities.put_equalities.Goals as goal
 

@@ -1,18 +1,11 @@
 use Prim.Native.Nat.{◌-◌, ◌≤◌}
-use native.Mathlib.Omega.{arith}
-use mathlib.Core.Logic.{⊎_elim}
-use mathlib.Core.Path.{sym, ◌∙◌}
 use lib.ListN.{drop}
-use borrow.Author.Rules.{rules}
 use Rattle.definition.specs.Kinds.{variable_in}
 use Rattle.definition.specs.Names.{numbers_of}
-use Rattle.records.proofs.Tail.{Writing, begin, wrote, passed, finish}
+use Rattle.records.proofs.Tail.{Writing}
 use Rattle.rows.specs.Morphisms.{target_in, pairs_by}
-use Rattle.rows.proofs.Several.{unflagged}
-use Rattle.naming.proofs.Placed.{at_count}
 use Rattle.statements.specs.Structures.{side_in}
-use Rattle.statements.proofs.KernelPairs.{keys_given, equalities_are}
-use Rattle.statements.proofs.Fibers.{over_bytes, els_on, els_pass, els_end, over_all, place_in_numbers}
+use Rattle.statements.proofs.Fibers.{over_bytes}
 use Rattle.statements.proofs.equalities.put_equalities.Given as goal
 
 abbrev pub invariant-loop-j : goal.invariant-loop-j

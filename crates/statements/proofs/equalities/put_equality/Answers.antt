@@ -1,5 +1,4 @@
 use Rattle.statements.specs.Equalities.{equality_of}
-use borrow.Author.Rules.{rules}
 use Rattle.statements.proofs.equalities.put_equality.Goals as goal
 
 pub returns : goal.returns

@@ -1,4 +1,3 @@
-use borrow.Author.Rules.{rules}
 use Rattle.statements.proofs.KernelPairs.{side_at, keys_in, typed_vars}
 use Rattle.statements.proofs.equalities.put_fiber.Goals as goal
 

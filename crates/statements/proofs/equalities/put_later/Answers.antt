@@ -1,12 +1,10 @@
 -- Of the Equalities of the i-th variable with those behind it, those from the j-th on are left (`Writing`, `later_bytes`). The j-th is the
 -- first of them (`firsts_on`), and its Equality is what `put_equality` puts (`later_cons`); from `count` on there is none (`firsts_end`,
 -- `later_none`).
-use Prim.Native.Nat.{◌+◌, ◌-◌, ◌≤◌}
 use native.Mathlib.Omega.{arith}
-use lib.ListN.{get_or, take, drop}
 use borrow.Author.Rules.{rules}
-use Rattle.records.proofs.Tail.{Writing, begin, wrote, finish}
-use Rattle.statements.proofs.Fibers.{firsts_on, firsts_end, later_bytes, later_cons, later_none, later_all}
+use Rattle.records.proofs.Tail.{begin, wrote, finish}
+use Rattle.statements.proofs.Fibers.{firsts_on, firsts_end, later_cons, later_none, later_all}
 use Rattle.statements.proofs.equalities.put_later.Goals as goal
 
 pub overflow_add-j : goal.overflow_add-j

@@ -1,9 +1,7 @@
 use Prim.Native.Nat.{◌+◌, ◌-◌, ◌≤◌}
-use native.Mathlib.Omega.{arith}
 use lib.ListN.{get_or, take, drop}
-use borrow.Author.Rules.{rules}
-use Rattle.records.proofs.Tail.{Writing, begin, wrote, finish}
-use Rattle.statements.proofs.Fibers.{firsts_on, firsts_end, later_bytes, later_cons, later_none, later_all}
+use Rattle.records.proofs.Tail.{Writing}
+use Rattle.statements.proofs.Fibers.{later_bytes}
 use Rattle.statements.proofs.equalities.put_later.Given as goal
 
 abbrev pub invariant-loop-j : goal.invariant-loop-j

@@ -1,12 +1,8 @@
 -- Of all the bytes, those of the elements from the i-th on are left to count (`Counting`, `elements_size`). With its flag an element adds
 -- one statement, of its parents and itself: a member row, or a TypeSet where it has no parents (`element_on`); without it none
 -- (`element_pass`). From the first on these are all, as sorting keeps the length (`elements_all`).
-use Prim.Native.Nat.{ℕ, ◌-◌, ◌≤◌}
 use mathlib.Core.Path.{refl, sym, ◌∙◌}
-use mathlib.Core.List.{List}
-use Rattle.records.specs.Buffer.{count_limit}
-use Rattle.rule.specs.Structures.{structure_in}
-use Rattle.statements.proofs.Counting.{Counting, count_on, count_pass, count_end, elements_size, elements_all, elements_unsaid, elements_end}
+use Rattle.statements.proofs.Counting.{count_on, count_pass, count_end, elements_all, elements_unsaid, elements_end}
 use Rattle.statements.proofs.Counting.{element_on, element_pass}
 use Rattle.statements.proofs.Elements.{element_many, in_place, few_places}
 use borrow.Author.Rules.{rules}

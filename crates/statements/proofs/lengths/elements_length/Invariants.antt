@@ -1,13 +1,8 @@
 use Prim.Native.Nat.{ℕ, ◌-◌, ◌≤◌}
-use mathlib.Core.Logic.{⊎_elim}
-use mathlib.Core.Path.{refl, sym, ◌∙◌}
 use mathlib.Core.List.{List}
 use Rattle.records.specs.Buffer.{count_limit}
 use Rattle.rule.specs.Structures.{structure_in}
-use Rattle.statements.proofs.Counting.{Counting, count_on, count_pass, count_end, elements_size, elements_all, elements_unsaid, elements_end}
-use Rattle.statements.proofs.Counting.{element_on, element_pass}
-use Rattle.statements.proofs.Elements.{element_many, in_place, few_places}
-use borrow.Author.Rules.{rules}
+use Rattle.statements.proofs.Counting.{Counting, elements_size}
 use Rattle.statements.proofs.lengths.elements_length.Given as goal
 
 abbrev pub invariant-loop-i : goal.invariant-loop-i

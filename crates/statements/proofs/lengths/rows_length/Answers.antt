@@ -1,7 +1,6 @@
 use mathlib.Core.Path.{sym, ◌∙◌}
 use mathlib.Core.List.{[]}
 use Rattle.statements.proofs.Unsaid.{unsaid, rows_none}
-use borrow.Author.Rules.{rules}
 use Rattle.statements.proofs.lengths.rows_length.Goals as goal
 
 pub returns-then-none_set : goal.returns-then-none_set

@@ -1,5 +1,4 @@
 use Rattle.statements.proofs.Counting.{said_counted}
-use borrow.Author.Rules.{rules}
 use Rattle.statements.proofs.lengths.said_length.Goals as goal
 
 pub rows_length-behind_preds-requires : goal.rows_length-behind_preds-requires

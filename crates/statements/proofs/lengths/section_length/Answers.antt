@@ -1,13 +1,9 @@
 -- The loop stands at a row of the section (Rowing) and has counted the rows before it, for any letter and variables (Counting); a row is
 -- counted by how many of its elements are said.
-use Prim.Native.Nat.{ℕ, ◌-◌, ◌≤◌}
 use mathlib.Core.Path.{refl, sym, ◌∙◌, ap}
 use lib.ListN.{length}
-use Rattle.records.specs.Buffer.{count_limit}
-use Rattle.rule.specs.Structures.{structure_in}
-use Rattle.statements.specs.Parts.{rows_at}
-use Rattle.statements.proofs.Counting.{Counting, count_on, count_pass, count_end}
-use Rattle.statements.proofs.Rows.{Rowing, rowing, row_here, row_few, row_wide, row_many, row_next, rows_from, rows_longer, rows_pass, rows_end, rows_all}
+use Rattle.statements.proofs.Counting.{count_on, count_pass, count_end}
+use Rattle.statements.proofs.Rows.{rowing, row_here, row_few, row_wide, row_many, row_next, rows_longer, rows_pass, rows_end, rows_all}
 use borrow.Author.Rules.{rules}
 use native.Mathlib.Omega.{arith}
 use Rattle.statements.proofs.lengths.section_length.Goals.{else-flag, then-flag}

@@ -1,14 +1,10 @@
 use Prim.Native.Nat.{ℕ, ◌-◌, ◌≤◌}
-use mathlib.Core.Logic.{⊎_elim}
-use mathlib.Core.Path.{refl, sym, ◌∙◌, ap}
 use lib.ListN.{length}
 use Rattle.records.specs.Buffer.{count_limit}
 use Rattle.rule.specs.Structures.{structure_in}
 use Rattle.statements.specs.Parts.{rows_at}
-use Rattle.statements.proofs.Counting.{Counting, count_on, count_pass, count_end}
-use Rattle.statements.proofs.Rows.{Rowing, rowing, row_here, row_few, row_wide, row_many, row_next, rows_from, rows_longer, rows_pass, rows_end, rows_all}
-use borrow.Author.Rules.{rules}
-use native.Mathlib.Omega.{arith}
+use Rattle.statements.proofs.Counting.{Counting}
+use Rattle.statements.proofs.Rows.{Rowing, rows_from}
 use Rattle.statements.proofs.lengths.section_length.Given as goal
 
 abbrev pub invariant-loop-field : goal.invariant-loop-field

@@ -2,11 +2,9 @@
 -- (`Writing`, `members_from`). A row with its flag is put (`members_on`), one without is passed (`members_pass`); behind the last nothing is
 -- left (`members_end`). Where no flag is set nothing is to be said (`members_none`).
 use Rattle.statements.proofs.Unsaid.{unsaid, members_none}
-use Rattle.statements.proofs.Elements.{Ordered, members_from, members_on, members_pass, members_end, members_all, order_below, order_few}
-use Rattle.rule.specs.Structures.{structure_in}
-use Rattle.records.proofs.Tail.{Writing, begin, wrote, passed, finish}
+use Rattle.statements.proofs.Elements.{members_on, members_pass, members_end, members_all, order_below, order_few}
+use Rattle.records.proofs.Tail.{begin, wrote, passed, finish}
 use mathlib.Core.Path.{sym, ◌∙◌}
-use Prim.Native.Nat.{◌-◌, ◌≤◌}
 use borrow.Author.Rules.{rules}
 use native.Mathlib.Omega.{arith}
 use Rattle.statements.proofs.members.put_members.Goals.{else-flag, then-flag}

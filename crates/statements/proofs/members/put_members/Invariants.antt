@@ -1,12 +1,7 @@
-use Rattle.statements.proofs.Unsaid.{unsaid, members_none}
-use Rattle.statements.proofs.Elements.{Ordered, members_from, members_on, members_pass, members_end, members_all, order_below, order_few}
+use Rattle.statements.proofs.Elements.{Ordered, members_from}
 use Rattle.rule.specs.Structures.{structure_in}
-use Rattle.records.proofs.Tail.{Writing, begin, wrote, passed, finish}
-use mathlib.Core.Path.{sym, ◌∙◌}
-use mathlib.Core.Logic.{⊎_elim}
+use Rattle.records.proofs.Tail.{Writing}
 use Prim.Native.Nat.{◌-◌, ◌≤◌}
-use borrow.Author.Rules.{rules}
-use native.Mathlib.Omega.{arith}
 use Rattle.statements.proofs.members.put_members.Given as goal
 
 abbrev pub invariant-loop-n : goal.invariant-loop-n

@@ -1,6 +1,5 @@
 use Rattle.records.proofs.Tail.{nothing, lent}
 use Rattle.statements.proofs.Elements.{type_said, type_unsaid}
-use borrow.Author.Rules.{rules}
 use Rattle.statements.proofs.members.put_type_set.Goals as goal
 
 pub returns-then-e-ne0 : goal.returns-then-e-ne0

@@ -1,10 +1,7 @@
 use Rattle.statements.proofs.Unsaid.{unsaid, types_none}
-use Rattle.statements.proofs.Elements.{types_from, types_on, types_pass, types_end, types_all, few_places}
-use Rattle.statements.specs.Parts.{variable_by}
-use Rattle.rule.specs.Structures.{structure_in}
-use Rattle.records.proofs.Tail.{Writing, begin, wrote, passed, finish}
+use Rattle.statements.proofs.Elements.{types_on, types_pass, types_end, types_all, few_places}
+use Rattle.records.proofs.Tail.{begin, wrote, passed, finish}
 use mathlib.Core.Path.{sym, ◌∙◌}
-use Prim.Native.Nat.{◌-◌, ◌≤◌}
 use borrow.Author.Rules.{rules}
 use Rattle.statements.proofs.members.put_type_sets.Goals.{else-flag, then-flag}
 use Rattle.statements.proofs.members.put_type_sets.Goals as goal

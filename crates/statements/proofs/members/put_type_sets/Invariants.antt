@@ -1,12 +1,8 @@
-use Rattle.statements.proofs.Unsaid.{unsaid, types_none}
-use Rattle.statements.proofs.Elements.{types_from, types_on, types_pass, types_end, types_all, few_places}
+use Rattle.statements.proofs.Elements.{types_from}
 use Rattle.statements.specs.Parts.{variable_by}
 use Rattle.rule.specs.Structures.{structure_in}
-use Rattle.records.proofs.Tail.{Writing, begin, wrote, passed, finish}
-use mathlib.Core.Path.{sym, ◌∙◌}
-use mathlib.Core.Logic.{⊎_elim}
+use Rattle.records.proofs.Tail.{Writing}
 use Prim.Native.Nat.{◌-◌, ◌≤◌}
-use borrow.Author.Rules.{rules}
 use Rattle.statements.proofs.members.put_type_sets.Given as goal
 
 abbrev pub invariant-loop-i : goal.invariant-loop-i

@@ -2,7 +2,6 @@ use Rattle.group.specs.Written.{statement_head}
 use Rattle.statements.specs.Parts.{type_set_of}
 use Rattle.definition.specs.Writer.{number_bytes, statement_field, field_bytes}
 use Rattle.records.proofs.Tail.{then}
-use borrow.Author.Rules.{rules}
 use Rattle.statements.proofs.members.write_type_set.Goals as goal
 
 pub returns : goal.returns

@@ -1,5 +1,4 @@
 use Rattle.records.proofs.Tail.{lent}
-use borrow.Author.Rules.{rules}
 use Rattle.statements.proofs.sections.put_row.Goals as goal
 
 pub returns : goal.returns

@@ -1,12 +1,10 @@
 -- The loop stands at a row of the section (Rowing) and has written the rows before it (Writing); a row that is read is written or passed,
 -- and the next stands behind it.
-use Prim.Native.Nat.{◌-◌, ◌≤◌}
+use Prim.Native.Nat.{◌≤◌}
 use mathlib.Core.Path.{sym, ◌∙◌}
 use Rattle.definition.specs.Limits.{column_limit}
-use Rattle.records.proofs.Tail.{Writing, begin, wrote, passed, finish}
-use Rattle.rule.specs.Structures.{structure_in}
-use Rattle.statements.specs.Parts.{variable_by, rows_at}
-use Rattle.statements.proofs.Rows.{Rowing, rowing, row_here, row_few, row_wide, row_named, row_next, rows_from, rows_on, rows_pass, rows_end, rows_all}
+use Rattle.records.proofs.Tail.{begin, wrote, passed, finish}
+use Rattle.statements.proofs.Rows.{rowing, row_here, row_few, row_wide, row_named, row_next, rows_on, rows_pass, rows_end, rows_all}
 use borrow.Author.Rules.{rules}
 use native.Mathlib.Omega.{arith}
 use Rattle.statements.proofs.sections.put_section.Goals.{else-flag, then-flag}

@@ -1,13 +1,8 @@
-use Prim.Native.Nat.{◌-◌, ◌≤◌}
-use mathlib.Core.Path.{sym, ◌∙◌}
-use mathlib.Core.Logic.{⊎_elim}
-use Rattle.definition.specs.Limits.{column_limit}
-use Rattle.records.proofs.Tail.{Writing, begin, wrote, passed, finish}
+use Prim.Native.Nat.{◌-◌}
+use Rattle.records.proofs.Tail.{Writing}
 use Rattle.rule.specs.Structures.{structure_in}
 use Rattle.statements.specs.Parts.{variable_by, rows_at}
-use Rattle.statements.proofs.Rows.{Rowing, rowing, row_here, row_few, row_wide, row_named, row_next, rows_from, rows_on, rows_pass, rows_end, rows_all}
-use borrow.Author.Rules.{rules}
-use native.Mathlib.Omega.{arith}
+use Rattle.statements.proofs.Rows.{Rowing, rows_from}
 use Rattle.statements.proofs.sections.put_section.Given as goal
 
 abbrev pub invariant-loop-field : goal.invariant-loop-field

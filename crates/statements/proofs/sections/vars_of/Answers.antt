@@ -1,11 +1,6 @@
 -- The loop has the variables of the first i elements (Filling); each element is one of the structure's, so it is found.
-use Prim.Native.Nat.{◌-◌, ◌≤◌}
-use Rattle.rule.specs.Lists.{els_in}
-use Rattle.rule.specs.Structures.{structure_in}
 use Rattle.rule.proofs.ElementLaws.{found_few}
-use Rattle.definition.specs.Base.{each}
-use Rattle.group.proofs.Values.{Filling, filling, fill_next, filled}
-use Rattle.statements.specs.Parts.{variable_by}
+use Rattle.group.proofs.Values.{filling, fill_next, filled}
 use Rattle.statements.proofs.Variables.{named_at, variable_found, els_said, els_said_at}
 use borrow.Author.Rules.{rules}
 use native.Mathlib.Omega.{arith}

@@ -1,13 +1,9 @@
 use Prim.Native.Nat.{◌-◌, ◌≤◌}
 use Rattle.rule.specs.Lists.{els_in}
 use Rattle.rule.specs.Structures.{structure_in}
-use Rattle.rule.proofs.ElementLaws.{found_few}
 use Rattle.definition.specs.Base.{each}
-use Rattle.group.proofs.Values.{Filling, filling, fill_next, filled}
+use Rattle.group.proofs.Values.{Filling}
 use Rattle.statements.specs.Parts.{variable_by}
-use Rattle.statements.proofs.Variables.{named_at, variable_found, els_said, els_said_at}
-use borrow.Author.Rules.{rules}
-use native.Mathlib.Omega.{arith}
 use Rattle.statements.proofs.sections.vars_of.Given as goal
 
 abbrev pub invariant-loop-i : goal.invariant-loop-i

@@ -1,13 +1,8 @@
 -- Behind the statement's head the loop has written the variables of the first i elements (Writing); each element is one of the
 -- structure's, so it is found.
-use Prim.Native.Nat.{◌-◌, ◌≤◌}
-use Rattle.definition.specs.Base.{each}
-use Rattle.records.proofs.Tail.{Writing, begin, wrote, finish}
-use Rattle.rule.specs.Lists.{els_in}
-use Rattle.rule.specs.Structures.{structure_in}
+use Rattle.records.proofs.Tail.{begin, wrote, finish}
 use Rattle.rule.proofs.ElementLaws.{found_few}
-use Rattle.statements.specs.Parts.{variable_by}
-use Rattle.group.proofs.Writing.{vars_from, statement_put}
+use Rattle.group.proofs.Writing.{statement_put}
 use Rattle.statements.proofs.Variables.{named_at, variable_found, els_said, els_said_on, els_said_end}
 use borrow.Author.Rules.{rules}
 use native.Mathlib.Omega.{arith}

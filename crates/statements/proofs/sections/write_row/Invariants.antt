@@ -1,14 +1,10 @@
 use Prim.Native.Nat.{◌-◌, ◌≤◌}
 use Rattle.definition.specs.Base.{each}
-use Rattle.records.proofs.Tail.{Writing, begin, wrote, finish}
+use Rattle.records.proofs.Tail.{Writing}
 use Rattle.rule.specs.Lists.{els_in}
 use Rattle.rule.specs.Structures.{structure_in}
-use Rattle.rule.proofs.ElementLaws.{found_few}
 use Rattle.statements.specs.Parts.{variable_by}
-use Rattle.group.proofs.Writing.{vars_from, statement_put}
-use Rattle.statements.proofs.Variables.{named_at, variable_found, els_said, els_said_on, els_said_end}
-use borrow.Author.Rules.{rules}
-use native.Mathlib.Omega.{arith}
+use Rattle.group.proofs.Writing.{vars_from}
 use Rattle.statements.proofs.sections.write_row.Given as goal
 
 abbrev pub invariant-loop-i : goal.invariant-loop-i

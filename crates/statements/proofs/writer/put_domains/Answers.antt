@@ -1,5 +1,4 @@
 use Rattle.statements.proofs.Whole.{domains_are}
-use borrow.Author.Rules.{rules}
 use Rattle.statements.proofs.writer.put_domains.Goals as goal
 
 pub returns : goal.returns

@@ -1,7 +1,6 @@
 use Rattle.records.proofs.Tail.{then}
 use Rattle.statements.proofs.Whole.{said_parts}
 use Rattle.statements.proofs.Counting.{beyond}
-use borrow.Author.Rules.{rules}
 use Rattle.statements.proofs.writer.put_said.Goals as goal
 
 pub returns-then-out-from : goal.returns-then-out-from

@@ -1,6 +1,5 @@
 use mathlib.Core.Logic.{inl, inr}
 use mathlib.Core.Path.{refl}
-use borrow.Author.Rules.{rules}
 use Rattle.walk.proofs.walk.ends.Goals as goal
 
 pub returns-then-sources-source-ge-UNREACHED : goal.returns-then-sources-source-ge-UNREACHED

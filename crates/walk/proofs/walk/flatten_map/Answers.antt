@@ -1,5 +1,4 @@
 use Rattle.walk.proofs.Doing.{surj_does, non_surj_does, if_does}
-use borrow.Author.Rules.{rules}
 use Rattle.walk.proofs.walk.flatten_map.Goals as goal
 
 pub returns-then-v-eq-SURJ_THEN : goal.returns-then-v-eq-SURJ_THEN
