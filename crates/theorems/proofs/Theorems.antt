@@ -51,7 +51,7 @@ fitted_is room xs {bytes} e = go (ltb (min room answer_bytes) (length xs)) refl 
     go true q e = let z : ◌≡◌ {A = ℕ} 0 1 = cc in absurd (omega arith)
     go false q e = (cc, ltb-false _ _ q)
 
--- 'what flattenOf writes is at most 65,535 bytes and at most the room'.
+-- 'what flatten_of writes is at most 65,535 bytes and at most the room'.
 pub wrote : (signature rule : List ℕ) (room : ℕ) {bytes : List ℕ} → flatten_of signature rule room ≡ accepted bytes → Wrote signature rule room bytes
 unfolding flatten_of
 wrote signature rule room e =
