@@ -10,10 +10,10 @@ use flatten::entry::ANSWER;
 // is that of its first so many bytes: the signature's refusal, else 1 (`enough` in crates/answers/proofs/Enough.antt).
 const INPUT: usize = 98306;
 
-fn main() {
+fn main(rt: HostRuntime) {
     let mut input = [0u8; INPUT];
     let mut out = [0u8; ANSWER];
-    let n = streams::read_input(&mut input, b"desk: standard input");
+    let n = streams::read_input(&rt, &mut rt.stdin(), &mut input, "desk: standard input");
     let m = desk(&input[..n], &mut out);
-    streams::write_all(&out[..m], b"desk: standard output");
+    streams::write_all(&rt, &mut rt.stdout(), &out[..m], "desk: standard output");
 }

@@ -1,9 +1,7 @@
 -- What a part's length is known to satisfy.
-use Rattle.std.specs.Prelude.{ℕ, ◌≤◌}
-use Rattle.replay.specs.declared.Four.{Four}
-use Rattle.replay.specs.declared.Four.TheVariants.{Number, Short}
+use Rattle.std.specs.Prelude.{ℕ, ◌≤◌, IfOk, Result}
+use Rattle.replay.specs.declared.Stop.{Stop}
 
 -- A part that was kept lies in its buffer.
-abbrev pub Within : Four → ℕ → Type 0
-Within (Number n) size = n ≤ size
-Within Short size = Unit
+abbrev pub Within : Result ℕ Stop → ℕ → Type 0
+Within r size = IfOk r (λ n. n ≤ size)

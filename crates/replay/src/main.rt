@@ -7,185 +7,158 @@
 // case, and told on standard error; a write that fails ends the run and is told there.
 #![tactic(auto)]
 
-ghost use Rattle.std.specs.Prelude.{◌≤◌, ◌<◌, length};
+ghost use Rattle.std.specs.Prelude.{◌≤◌, length};
 ghost use Rattle.replay.specs.Parts.{Within};
 
 use flatten::entry::{Flattened, flatten};
 use reading::{Verdict, check_group, check_rule};
 use scope::answers::Scope;
 use scope::infer::{owners, scope};
-use streams::Input;
+use std::alloc::{AllocError, Global};
+use std::io;
+use std::io::{BufReader, BufWriter, Read, Write};
 
 const PART: usize = 65536;
-
-// How much is dropped at a time.
-const BLOCK: usize = 4096;
 
 // More cases than any input has: a loop ends by a number that falls.
 const CASES: u64 = 1_000_000_000_000;
 
-// A number, or that the input ended.
+// Why a run ends before its input does.
+#[derive(Clone, Copy, Debug)]
+enum Stop {
+    // Input that ends inside a case, or an unknown letter.
+    BadCase,
+    // A read failed.
+    Unread(io::Error),
+    // A write failed.
+    Unwritten(io::Error),
+}
+
+// What a case asks.
 #[derive(Clone, Copy)]
-enum Four {
-    Number(usize),
-    Short,
+enum Question {
+    CheckRule,
+    CheckGroup,
+    Flatten,
+    FindScope,
 }
 
-fn wide(x: u8) -> usize
-    ensures { result < 256 }
-{
-    x as usize
+// The buffers of a case: its two parts, and what `flatten` writes into.
+#[derive(Drop)]
+struct Buffers {
+    first: Vec<u8>,
+    second: Vec<u8>,
+    out: Vec<u8>,
 }
 
-// Whether standard input filled a buffer.
-fn filled(buf: &mut [u8]) -> bool {
-    let size = buf.len();
-    let r = streams::read_full(buf, b"replay: standard input");
-    match r {
-        Input::Read(n) => n == size,
-        Input::Failed => false,
+impl Buffers {
+    fn new(alloc: Global) -> Result<Buffers, AllocError> {
+        Ok(Buffers {
+            first: vec![in alloc; 0; PART]?,
+            second: vec![in alloc; 0; PART]?,
+            out: vec![in alloc; 0; PART]?,
+        })
     }
+}
+
+// Fills a buffer.
+fn read_whole<R: Read>(input: &mut R, buf: &mut [u8]) -> Result<(), Stop> {
+    let size = buf.len();
+    let n = streams::fill(input, buf).map_err(Stop::Unread)?;
+    if n < size {
+        return Err(Stop::BadCase);
+    }
+    Ok(())
 }
 
 // A four-byte number.
-fn read_four() -> Four {
-    let mut b = [0u8; 4];
-    if !filled(&mut b) {
-        return Four::Short;
-    }
-    Four::Number(((wide(b[0]) * 256 + wide(b[1])) * 256 + wide(b[2])) * 256 + wide(b[3]))
+fn read_four<R: Read>(input: &mut R) -> Result<usize, Stop> {
+    let mut bytes = [0u8; 4];
+    read_whole(input, &mut bytes)?;
+    Ok(u32::from_be_bytes(bytes) as usize)
 }
 
-#[derive(Clone, Copy)]
-enum Byte {
-    Got(u8),
-    End,
-    Failed,
-}
-
-fn read_byte() -> Byte {
-    let mut b = [0u8; 1];
-    let r = streams::read_full(&mut b, b"replay: standard input");
-    let Input::Read(n) = r else {
-        return Byte::Failed;
-    };
+// The letter of the next case, or that the input has ended.
+fn read_letter<R: Read>(input: &mut R) -> Result<Option<u8>, Stop> {
+    let mut letter = [0u8; 1];
+    let n = streams::fill(input, &mut letter).map_err(Stop::Unread)?;
     if n == 0 {
-        return Byte::End;
+        return Ok(None);
     }
-    Byte::Got(b[0])
+    Ok(Some(letter[0]))
 }
 
-// Reads and drops so many bytes, a block at a time; whether they were there.
-fn drop_bytes(count: usize) -> bool {
-    let mut block = [0u8; BLOCK];
-    let mut left = count;
-    while BLOCK < left {
-        if !filled(&mut block) {
-            return false;
-        }
-        left -= BLOCK;
+// Reads and drops so many bytes.
+fn drop_bytes<R: Read>(input: &mut R, count: usize) -> Result<(), Stop> {
+    let count = count as u64;
+    let mut rest = input.take(count);
+    let dropped = io::copy(&mut rest, &mut io::sink()).map_err(Stop::Unread)?;
+    if dropped < count {
+        return Err(Stop::BadCase);
     }
-    filled(&mut block[..left])
+    Ok(())
 }
 
 // A part that fills a buffer, and the rest of it dropped.
-fn read_long(buf: &mut [u8], size: usize) -> Four
+fn read_long<R: Read>(input: &mut R, buf: &mut [u8], size: usize) -> Result<usize, Stop>
     requires { length buf.old ≤ size }
     ensures { Within result (length buf.new) }
 {
     let kept = buf.len();
-    if !filled(buf) {
-        return Four::Short;
-    }
-    if !drop_bytes(size - kept) {
-        return Four::Short;
-    }
-    Four::Number(kept)
+    read_whole(input, buf)?;
+    drop_bytes(input, size - kept)?;
+    Ok(kept)
 }
 
 // A part into a buffer; its length, as far as it is kept.
-fn read_part(buf: &mut [u8]) -> Four
+fn read_part<R: Read>(input: &mut R, buf: &mut [u8]) -> Result<usize, Stop>
     ensures { Within result (length buf.new) }
 {
-    let f = read_four();
-    let Four::Number(size) = f else {
-        return Four::Short;
-    };
+    let size = read_four(input)?;
     if buf.len() <= size {
-        return read_long(buf, size);
+        return read_long(input, buf, size);
     }
-    let part = &mut buf[..size];
-    if !filled(part) {
-        return Four::Short;
-    }
-    Four::Number(size)
+    read_whole(input, &mut buf[..size])?;
+    Ok(size)
 }
 
-// Each `print_..` answers whether all of it was written, and stops where it can't be.
-fn print(text: &[u8]) -> bool {
-    streams::write_all(text, b"replay: standard output")
+fn print_refused<W: Write>(output: &mut W, n: u8) -> io::Result<()> {
+    writeln!(output, "refused {n}")
 }
 
-fn print_decimal(n: u64) -> bool {
-    let mut text = [0u8; 20];
-    let k = io::decimal(n, &mut text);
-    print(&text[..k])
-}
-
-fn print_number(n: u8) -> bool {
-    print(b"refused ") && print_decimal(n as u64)
-}
-
-fn print_refused(n: u8) -> bool {
-    print_number(n) && print(b"\n")
-}
-
-fn print_verdict(v: Verdict) -> bool {
+fn print_verdict<W: Write>(output: &mut W, v: Verdict) -> io::Result<()> {
     match v {
-        Verdict::Sound => print(b"ok\n"),
-        Verdict::Refused(n) => print_refused(n),
+        Verdict::Sound => writeln!(output, "ok"),
+        Verdict::Refused(n) => print_refused(output, n),
     }
 }
 
-// The last hexadecimal digit, lower-case.
-fn digit(x: u8) -> u8 {
-    let d = x % 16;
-    if d < 10 {
-        return b'0' + d;
+fn print_hex<W: Write>(output: &mut W, s: &[u8]) -> io::Result<()> {
+    for byte in s {
+        write!(output, "{byte:02x}")?;
     }
-    b'a' - 10 + d
+    Ok(())
 }
 
-fn print_hex(s: &[u8]) -> bool {
-    let mut i: usize = 0;
-    while i < s.len() {
-        let pair = [digit(s[i] / 16), digit(s[i])];
-        if !print(&pair) {
-            return false;
-        }
-        i += 1;
-    }
-    true
-}
-
-fn print_model(model: u64, owners: &[u8]) -> bool {
-    print(b"model ")
-        && print_decimal(model)
-        && print(b" owners ")
-        && print_hex(owners)
-        && print(b"\n")
-}
-
-fn print_scope(sig: &[u8], group: &[u8], position: usize) -> bool {
-    let r = scope(sig, group, position);
-    match r {
-        Scope::Global => print(b"global\n"),
+fn print_scope<W: Write>(
+    output: &mut W,
+    sig: &[u8],
+    group: &[u8],
+    position: usize,
+) -> io::Result<()> {
+    match scope(sig, group, position) {
+        Scope::Global => writeln!(output, "global"),
         Scope::Model {
             model,
             start: _,
             count: _,
-        } => print_model(model.0 as u64, owners(sig, group, position)),
-        Scope::Refused(n) => print_refused(n),
+        } => {
+            let number = model.0;
+            write!(output, "model {number} owners ")?;
+            print_hex(output, owners(sig, group, position))?;
+            writeln!(output)
+        }
+        Scope::Refused(n) => print_refused(output, n),
     }
 }
 
@@ -195,134 +168,154 @@ fn pattern(i: usize) -> u8 {
 }
 
 fn fill(out: &mut [u8]) {
-    let mut i: usize = 0;
-    while i < out.len() {
-        out[i] = pattern(i);
-        i += 1;
+    for (i, byte) in out.iter_mut().enumerate() {
+        *byte = pattern(i);
     }
 }
 
 // Whether a filled buffer is as it was from a place on.
 fn kept(out: &[u8], from: usize) -> bool {
-    let mut i = from;
-    while i < out.len() {
+    for i in from..out.len() {
         if out[i] != pattern(i) {
             return false;
         }
-        i += 1;
     }
     true
 }
 
-fn print_kept(out: &[u8], from: usize) -> bool {
+fn print_kept<W: Write>(output: &mut W, out: &[u8], from: usize) -> io::Result<()> {
     if kept(out, from) {
-        return print(b" kept\n");
+        writeln!(output, " kept")
+    } else {
+        writeln!(output, " changed")
     }
-    print(b" changed\n")
 }
 
-fn print_group(sig: &[u8], rule: &[u8], out: &mut [u8]) -> bool {
+fn print_group<W: Write>(
+    output: &mut W,
+    sig: &[u8],
+    rule: &[u8],
+    out: &mut [u8],
+) -> io::Result<()> {
     fill(out);
-    let r = flatten(sig, rule, out);
-    match r {
-        Flattened::Written(n) => print(b"ok ") && print_hex(&out[..n]) && print_kept(out, n),
-        Flattened::Refused(n) => print_number(n) && print_kept(out, 0),
+    match flatten(sig, rule, out) {
+        Flattened::Written(n) => {
+            write!(output, "ok ")?;
+            print_hex(output, &out[..n])?;
+            print_kept(output, out, n)
+        }
+        Flattened::Refused(n) => {
+            write!(output, "refused {n}")?;
+            print_kept(output, out, 0)
+        }
     }
 }
 
-// The front of a buffer, as much as is asked for and there.
-fn print_flattened(sig: &[u8], rule: &[u8], out: &mut [u8], room: usize) -> bool {
-    if out.len() <= room {
-        return print_group(sig, rule, out);
-    }
-    print_group(sig, rule, &mut out[..room])
+// Into the front of a buffer, as much as is asked for and there.
+fn print_flattened<W: Write>(
+    output: &mut W,
+    sig: &[u8],
+    rule: &[u8],
+    out: &mut [u8],
+    room: usize,
+) -> io::Result<()> {
+    let room = room.min(out.len());
+    print_group(output, sig, rule, &mut out[..room])
 }
 
-#[derive(Clone, Copy)]
-enum Case {
-    Answered,
-    Bad,
-    Unwritten,
-}
-
-fn answered(written: bool) -> Case {
-    if written {
-        return Case::Answered;
-    }
-    Case::Unwritten
-}
-
-// What is asked of a signature and a record, by the case's letter.
-fn respond(letter: u8, sig: &[u8], s: &[u8], out: &mut [u8]) -> Case {
-    if letter == b'R' {
-        return answered(print_verdict(check_rule(sig, s)));
-    }
-    if letter == b'G' {
-        return answered(print_verdict(check_group(sig, s)));
-    }
-    let f = read_four();
-    let Four::Number(number) = f else {
-        return Case::Bad;
-    };
-    if letter == b'F' {
-        return answered(print_flattened(sig, s, out, number));
-    }
-    answered(print_scope(sig, s, number))
-}
-
-fn known(letter: u8) -> bool {
+// What a letter asks.
+fn asked(letter: u8) -> Option<Question> {
     match letter {
-        b'R' | b'G' | b'F' | b'S' => true,
-        _ => false,
+        b'R' => Some(Question::CheckRule),
+        b'G' => Some(Question::CheckGroup),
+        b'F' => Some(Question::Flatten),
+        b'S' => Some(Question::FindScope),
+        _ => None,
     }
+}
+
+// What is asked of a signature and a record.
+fn respond<R: Read, W: Write>(
+    input: &mut R,
+    output: &mut W,
+    question: Question,
+    sig: &[u8],
+    s: &[u8],
+    out: &mut [u8],
+) -> Result<(), Stop> {
+    let printed = match question {
+        Question::CheckRule => print_verdict(output, check_rule(sig, s)),
+        Question::CheckGroup => print_verdict(output, check_group(sig, s)),
+        Question::Flatten => print_flattened(output, sig, s, out, read_four(input)?),
+        Question::FindScope => print_scope(output, sig, s, read_four(input)?),
+    };
+    printed.map_err(Stop::Unwritten)
 }
 
 // One case behind its letter.
-fn answer(letter: u8, first: &mut [u8], second: &mut [u8], out: &mut [u8]) -> Case {
-    if !known(letter) {
-        return Case::Bad;
-    }
-    let a = read_part(first);
-    let Four::Number(m) = a else {
-        return Case::Bad;
+fn answer<R: Read, W: Write>(
+    input: &mut R,
+    output: &mut W,
+    letter: u8,
+    buffers: &mut Buffers,
+) -> Result<(), Stop> {
+    let Some(question) = asked(letter) else {
+        return Err(Stop::BadCase);
     };
-    let b = read_part(second);
-    let Four::Number(n) = b else {
-        return Case::Bad;
-    };
-    respond(letter, &first[..m], &second[..n], out)
+    let m = read_part(input, &mut buffers.first)?;
+    let n = read_part(input, &mut buffers.second)?;
+    respond(
+        input,
+        output,
+        question,
+        &buffers.first[..m],
+        &buffers.second[..n],
+        &mut buffers.out,
+    )
 }
 
-fn end_case(c: Case) {
-    let Case::Bad = c else {
-        return;
-    };
-    print(b"bad case\n");
-}
-
-fn end_run(b: Byte) {
-    let Byte::Failed = b else {
-        return;
-    };
-    print(b"bad case\n");
-}
-
-fn main() {
-    let mut first = [0u8; PART];
-    let mut second = [0u8; PART];
-    let mut out = [0u8; PART];
-    let mut left: u64 = CASES;
-    while 0 < left {
-        left -= 1;
-        let b = read_byte();
-        let Byte::Got(letter) = b else {
-            end_run(b);
-            return;
+// Each case of the input, whose line is out before the next case is waited for.
+fn answer_all<R: Read, W: Write>(
+    input: &mut R,
+    output: &mut W,
+    buffers: &mut Buffers,
+) -> Result<(), Stop> {
+    for _ in 0..CASES {
+        let Some(letter) = read_letter(input)? else {
+            return Ok(());
         };
-        let c = answer(letter, &mut first, &mut second, &mut out);
-        let Case::Answered = c else {
-            end_case(c);
-            return;
-        };
+        answer(input, output, letter, buffers)?;
+        output.flush().map_err(Stop::Unwritten)?;
     }
+    Ok(())
+}
+
+fn print_bad_case<W: Write>(output: &mut W) -> io::Result<()> {
+    writeln!(output, "bad case")?;
+    output.flush()
+}
+
+// What is said of a run that ended before its input: of a failure on standard error, and of a case that was not whole in its place.
+fn end_run<W: Write>(rt: &impl Eprint, output: &mut W, stop: Stop) {
+    if let Stop::Unread(error) = stop {
+        streams::tell(rt, "replay: standard input", error);
+    }
+    let printed = match stop {
+        Stop::Unwritten(error) => Err(error),
+        Stop::BadCase | Stop::Unread(_) => print_bad_case(output),
+    };
+    if let Err(error) = printed {
+        streams::tell(rt, "replay: standard output", error);
+    }
+}
+
+fn main(rt: HostRuntime) -> io::Result<()> {
+    let alloc = rt.alloc();
+    let mut input = BufReader::new(alloc, rt.stdin())?;
+    let mut output = BufWriter::new(alloc, rt.stdout())?;
+    let mut buffers = Buffers::new(alloc)?;
+    if let Err(stop) = answer_all(&mut input, &mut output, &mut buffers) {
+        end_run(&rt, &mut output, stop);
+    }
+    Ok(())
 }

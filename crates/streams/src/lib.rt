@@ -1,10 +1,13 @@
 // Standard input and output for programs: a read that fails is told from the end of the input, and what fails is said on standard error.
 #![tactic(auto)]
 
-ghost use Rattle.std.specs.Prelude.{◌≤◌, length};
-ghost use Rattle.streams.specs.Inputs.{Within};
+ghost use Rattle.std.specs.Prelude.{◌≡◌, ◌≤◌, ◌<◌, true, length, take, IfOk};
+ghost use Rattle.std.specs.Io.KnownBytes.{Appends, Consumes, IsAtEnd};
+ghost use Rattle.streams.specs.Inputs.{Taken, Within};
+ghost use Rattle.streams.specs.declared.Input.TheVariants.{Read};
 
-use libc::{STDIN_FILENO, STDOUT_FILENO};
+use std::io;
+use std::io::{Read, Write};
 
 // How a reading ended.
 #[derive(Clone, Copy)]
@@ -15,43 +18,130 @@ pub enum Input {
     Failed,
 }
 
-// Fills the buffer from standard input as far as that goes. Where a read fails, standard error has a line: who reads, and the error.
-pub fn read_full(buf: &mut [u8], who: &[u8]) -> Input
-    ensures { Within result (length buf.new) }
+// Says who failed on standard error, and the error. Nobody is left to hear where that fails.
+pub fn tell(rt: &impl Eprint, who: &str, error: io::Error) {
+    let _ = eprintln!(rt; "{who}: {error}");
+}
+
+// Fills the buffer from the reader as far as that goes. The first read that fails ends it.
+pub fn fill<R: Read>(input: &mut R, buf: &mut [u8]) -> io::Result<usize>
+    ensures within { IfOk result (λ n. n ≤ length buf.new) }
+    ensures bytes { IfOk result (λ n. Consumes (R.remaining input.old) (R.remaining input.new) (take n buf.new)) }
+    ensures end { IfOk result (λ n. n < length buf.new → IsAtEnd (R.remaining input.new)) }
 {
-    let mut done: usize = 0;
+    let mut done = 0;
     while done < buf.len() {
-        let rest = &mut buf[done..];
-        let got = libc::read(STDIN_FILENO, rest);
-        if got < 0 {
-            os::fail(who);
-            return Input::Failed;
-        }
-        let more = io::count(got, rest);
+        let more = input.read(&mut buf[done..])?;
         if more == 0 {
-            return Input::Read(done);
+            return Ok(done);
         }
         done += more;
     }
-    Input::Read(done)
+    Ok(done)
+}
+
+// Fills the buffer from the reader as far as that goes. Where a read fails, standard error has a line: who reads, and the error.
+pub fn read_full<R: Read>(rt: &impl Eprint, input: &mut R, buf: &mut [u8], who: &str) -> Input
+    ensures within { Within result (length buf.new) }
+    ensures taken { Taken result (R.remaining input.old) (R.remaining input.new) buf.new }
+{
+    match fill(input, buf) {
+        Ok(n) => Input::Read(n),
+        Err(error) => {
+            tell(rt, who, error);
+            Input::Failed
+        }
+    }
 }
 
 // The same for a program that reads once. What came before a failed read is no input, so its length is then 0.
-pub fn read_input(buf: &mut [u8], who: &[u8]) -> usize
-    ensures { result ≤ length buf.new }
+pub fn read_input<R: Read>(rt: &impl Eprint, input: &mut R, buf: &mut [u8], who: &str) -> usize
+    ensures within { result ≤ length buf.new }
+    ensures taken { 0 < result → Taken (Read result) (R.remaining input.old) (R.remaining input.new) buf.new }
 {
-    let r = read_full(buf, who);
-    match r {
+    match read_full(rt, input, buf, who) {
         Input::Read(n) => n,
         Input::Failed => 0,
     }
 }
 
-// Writes all of it to standard output, and answers whether it could. Where not, standard error has a line: who writes, and the error.
-pub fn write_all(buf: &[u8], who: &[u8]) -> bool {
-    if io::write_all(STDOUT_FILENO, buf) {
-        return true;
+// Writes all of it, and answers whether it could. Where not, standard error has a line: who writes, and the error.
+pub fn write_all<W: Write>(rt: &impl Eprint, output: &mut W, buf: &[u8], who: &str) -> bool
+    ensures { result ≡ true → Appends (W.contents output.old) (W.contents output.new) buf.now }
+{
+    match output.write_all(buf) {
+        Ok(()) => true,
+        Err(error) => {
+            tell(rt, who, error);
+            false
+        }
     }
-    os::fail(who);
-    false
+}
+
+#[cfg(test)]
+mod tests {
+    use super::*;
+    use std::io::ErrorKind;
+
+    // Gives so many bytes, one a read, and then fails.
+    #[derive(Drop)]
+    struct Broken {
+        left: u8,
+    }
+
+    impl Read for Broken {
+        fn read(&mut self, buf: &mut [u8]) -> io::Result<usize> {
+            if self.left == 0 {
+                return Err(io::Error::from(ErrorKind::Other));
+            }
+            if buf.is_empty() {
+                return Ok(0);
+            }
+            self.left -= 1;
+            buf[0] = self.left;
+            Ok(1)
+        }
+    }
+
+    #[test]
+    fn failed_read_is_no_input(rt: HostRuntime) {
+        for (left, want) in [(0, 0), (3, 0), (4, 4), (5, 4)] {
+            let mut buf = [0u8; 4];
+            let read = read_input(&rt, &mut Broken { left }, &mut buf, "test: a reader");
+            assert_eq!(rt; read, want, "with {left} bytes");
+        }
+    }
+
+    #[test]
+    fn end_of_input_is_told_from_failure(rt: HostRuntime) {
+        let mut buf = [0u8; 4];
+        let mut input: &[u8] = b"abcdef";
+        assert!(rt;
+            matches!(
+                read_full(&rt, &mut input, &mut buf, "test: bytes"),
+                Input::Read(4)
+            )
+        );
+        assert!(rt;
+            matches!(
+                read_full(&rt, &mut input, &mut buf, "test: bytes"),
+                Input::Read(2)
+            )
+        );
+        assert_eq!(rt; buf, *b"efcd");
+        assert!(rt;
+            matches!(
+                read_full(&rt, &mut Broken { left: 2 }, &mut buf, "test: a reader"),
+                Input::Failed
+            )
+        );
+    }
+
+    #[test]
+    fn failed_write_is_told(rt: HostRuntime) {
+        let mut room = [0u8; 4];
+        let mut output: &mut [u8] = &mut room;
+        assert!(rt; write_all(&rt, &mut output, b"abc", "test: a writer"));
+        assert!(rt; !write_all(&rt, &mut output, b"def", "test: a writer"));
+    }
 }
