@@ -14,9 +14,8 @@ use flatten::entry::{Flattened, flatten};
 use reading::{Verdict, check_group, check_rule};
 use scope::answers::Scope;
 use scope::infer::{owners, scope};
-use std::alloc::{AllocError, Global};
 use std::io;
-use std::io::{BufReader, BufWriter, Read, Write};
+use std::io::{Read, Write};
 
 const PART: usize = 65536;
 
@@ -46,19 +45,9 @@ enum Question {
 // The buffers of a case: its two parts, and what `flatten` writes into.
 #[derive(Drop)]
 struct Buffers {
-    first: Vec<u8>,
-    second: Vec<u8>,
-    out: Vec<u8>,
-}
-
-impl Buffers {
-    fn new(alloc: Global) -> Result<Buffers, AllocError> {
-        Ok(Buffers {
-            first: vec![in alloc; 0; PART]?,
-            second: vec![in alloc; 0; PART]?,
-            out: vec![in alloc; 0; PART]?,
-        })
-    }
+    first: [u8; PART],
+    second: [u8; PART],
+    out: [u8; PART],
 }
 
 // Fills a buffer.
@@ -309,13 +298,14 @@ fn end_run<W: Write>(rt: &impl Eprint, output: &mut W, stop: Stop) {
     }
 }
 
-fn main(rt: HostRuntime) -> io::Result<()> {
-    let alloc = rt.alloc();
-    let mut input = BufReader::new(alloc, rt.stdin())?;
-    let mut output = BufWriter::new(alloc, rt.stdout())?;
-    let mut buffers = Buffers::new(alloc)?;
-    if let Err(stop) = answer_all(&mut input, &mut output, &mut buffers) {
+fn main(rt: HostRuntime) {
+    let mut buffers = Buffers {
+        first: [0; PART],
+        second: [0; PART],
+        out: [0; PART],
+    };
+    let mut output = rt.stdout();
+    if let Err(stop) = answer_all(&mut rt.stdin(), &mut output, &mut buffers) {
         end_run(&rt, &mut output, stop);
     }
-    Ok(())
 }
