@@ -74,6 +74,8 @@ pub fn module(file: &str, source: &str) -> Result<Module, String> {
                 items.insert(name.to_string(), Item { body });
                 end
             }
+            // A module inside a file has a file's tests; what is called in it from outside is not found, and refused.
+            (Some("mod"), Some(_)) if tokens[at + 2].is('{') => closing(&tokens, at + 2)?,
             (Some("const"), Some(name)) => {
                 let value = find(&tokens, at, '=')?;
                 let end = find(&tokens, value, ';')?;

@@ -37,8 +37,10 @@ fn comments_contracts_literals_and_what_is_not_reached_are_passed() {
 
 #[test]
 fn what_cannot_be_followed_is_refused() {
-    for body in ["unseen(n)", "b::unseen(n)", "n.pow(2)"] {
-        let source = format!("pub fn entry(n: u8) -> u8 {{\n    {body}\n}}\n");
+    for body in ["unseen(n)", "b::unseen(n)", "n.pow(2)", "tests::half(n)"] {
+        let source = format!(
+            "pub fn entry(n: u8) -> u8 {{\n    {body}\n}}\nmod tests {{\n    use super::*;\n    pub fn half(n: u8) -> u8 {{\n        n / 2\n    }}\n}}\n"
+        );
         assert!(check(&made(&[("a", &source)]), "a").is_err(), "{body}");
     }
     assert!(check(&made(&[]), "a").is_err());
