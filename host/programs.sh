@@ -30,7 +30,7 @@ echo "refused 2" > "$work/expected"
 reads=$(wc -c < "$crates/desk/stdin")
 for ((read = 1; read <= reads + 1; read++)); do
     run desk "$crates/desk/stdin" "$read"
-    expect "desk, read $read failing" "desk: standard input: Input/output error (os error 5)"
+    expect "desk, read $read failing" "desk: standard input: Input/output error"
 done
 
 # Two cases of nine bytes: an empty signature and an empty rule.
@@ -43,13 +43,13 @@ for ((read = 1; read <= 19; read++)); do
     for ((answered = 0; answered < (read - 1) / 9; answered++)); do echo 'refused 2' >> "$work/expected"; done
     echo 'bad case' >> "$work/expected"
     run replay "$work/cases" "$read"
-    expect "replay, read $read failing" "replay: standard input: Input/output error (os error 5)"
+    expect "replay, read $read failing" "replay: standard input: Input/output error"
 done
 
 : > "$work/expected"
 : > "$work/out"
 "$crates/desk/out/desk" < "$crates/desk/stdin" 2> "$work/err" > /dev/full
-expect "desk into a full device" "desk: standard output: No space left on device (os error 28)"
+expect "desk into a full device" "desk: standard output: No space left on device"
 "$crates/replay/out/replay" < "$work/cases" 2> "$work/err" > /dev/full
-expect "replay into a full device" "replay: standard output: No space left on device (os error 28)"
+expect "replay into a full device" "replay: standard output: No space left on device"
 echo "programs: $tried runs as expected"

@@ -32,7 +32,8 @@ missing (a ∷ []) h l = absurd (omega arith)
 missing (a ∷ b ∷ s) h l = let k : length s < a * 256 + b = omega arith in rw (lt-leb _ _ k)
 
 -- All of it there.
-pub there : (a b : ℕ) (s : List ℕ) → a * 256 + b ≤ length s → desk_of (a ∷ b ∷ s) ≡ printed (flatten_of (take (a * 256 + b) s) (drop (a * 256 + b) s) answer_bytes)
+pub there : (a b : ℕ) (s : List ℕ) → a * 256 + b ≤ length s
+    → desk_of (a ∷ b ∷ s) ≡ printed (flatten_of (take (a * 256 + b) s) (drop (a * 256 + b) s) answer_bytes)
 unfolding desk_of
 there a b s l = rw (le-leb _ _ l)
 

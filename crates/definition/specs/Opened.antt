@@ -166,9 +166,11 @@ unfolding
     keep each joined any all first_of last_of but_last has span place_from same_list less lowest
     numbers number_at cut fields_of follows placed with_letter up_to blocks fault_from fault_among bad_name read_part
     symbol_of type_fault symbol_fault signature_fault signature_of signature_part read_signature arity symbol_count parent_model
-    element_of row_of name_of pairs_of map_of kind_of auxiliary_of named_elements head_fault structure_fault element_fault row_key row_fault name_fault keys_ascend
+    element_of row_of name_of pairs_of map_of kind_of auxiliary_of named_elements head_fault structure_fault element_fault row_key row_fault
+    name_fault keys_ascend
     map_fault kind_fault auxiliary_fault body_fault structures_fault named_in rule_fault structure_of rule_of rule_part read_rule
-    variable_of statement_of title_fault variable_fault flat_rule_fault bad_columns statement_fault flat_rules_fault group_fault flat_rule_of group_of group_part
+    variable_of statement_of title_fault variable_fault flat_rule_fault bad_columns statement_fault flat_rules_fault group_fault flat_rule_of
+    group_of group_part
     read_group
     digits_to numbers_of variable_at fiber carried_key carried numbered base_name new_variable new_variables
     member_row row_before insert_row sort_rows members rows_of last_element row_statement type_sets image_of in_image image_row same_row new_rows pairs_among

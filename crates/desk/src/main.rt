@@ -17,30 +17,30 @@ use streams::Input;
 const INPUT: usize = 98306;
 
 // Prints the answer to an input, and answers whether it could. Where the input fills a buffer, that is the answer to every input that begins so.
-fn print_answer<W: Write>(rt: &impl Eprint, output: &mut W, input: &[u8]) -> bool
+fn print_answer<E: Write, W: Write>(errors: &mut E, output: &mut W, input: &[u8]) -> bool
     ensures answer { result ≡ true → Appends (W.contents output.old) (W.contents output.new) (desk_of input.now) }
     ensures front { result ≡ true → 98306 ≤ length input.now →
         (rest : List ℕ) → Appends (W.contents output.old) (W.contents output.new) (desk_of (input.now ++ rest)) }
 {
     let mut out = [0u8; ANSWER];
     let n = desk(input, &mut out);
-    streams::write_all(rt, output, &out[..n], "desk: standard output")
+    streams::write_all(errors, output, &out[..n], b"desk: standard output")
 }
 
 // Answers all that the reader has, and whether neither a read nor the writing failed. Where a read failed, what came before it is no input.
-fn answer<R: Read, W: Write>(rt: &impl Eprint, input: &mut R, output: &mut W) -> bool
+fn answer<E: Write, R: Read, W: Write>(errors: &mut E, input: &mut R, output: &mut W) -> bool
     ensures { result ≡ true → IfSome (R.remaining input.old) (λ xs. Appends (W.contents output.old) (W.contents output.new) (desk_of xs)) }
 {
     let mut buf = [0u8; INPUT];
-    match streams::read_full(rt, input, &mut buf, "desk: standard input") {
-        Input::Read(n) => print_answer(rt, output, &buf[..n]),
+    match streams::read_full(errors, input, &mut buf, b"desk: standard input") {
+        Input::Read(n) => print_answer(errors, output, &buf[..n]),
         Input::Failed => {
-            print_answer(rt, output, &[]);
+            print_answer(errors, output, &[]);
             false
         }
     }
 }
 
 fn main(rt: HostRuntime) {
-    answer(&rt, &mut rt.stdin(), &mut rt.stdout());
+    answer(&mut rt.stderr(), &mut rt.stdin(), &mut rt.stdout());
 }

@@ -40,7 +40,8 @@ kept_once source target [] h = refl
 kept_once source target (k ∷ ks) h = go (of_pair source target k) refl (kept_once source target ks h.1)
   where
     go : (b : Bool) → of_pair source target k ≡ b → keep (of_pair source target) ks ≡ kinds_of source target (first_of (kind_of_pair source target) ks)
-        → cons_if b k (keep (of_pair source target) ks) ≡ kinds_of source target (or_else (pick b (some k.kind) none) (first_of (kind_of_pair source target) ks))
+        → cons_if b k (keep (of_pair source target) ks)
+        ≡ kinds_of source target (or_else (pick b (some k.kind) none) (first_of (kind_of_pair source target) ks))
     go true e ih =
         let q = pair_is source target k e in
         let n : keep (of_pair source target) ks ≡ [] = keep_none source target ks (λ j m. rw (q.0, q.1) at (h.0 j m)) in
@@ -58,7 +59,8 @@ first_append f (x ∷ xs) ys = go (f x) (first_append f xs ys)
     go none e = e
     go (some b) e = refl
 
-behind : (ks : List Kind) (k : Kind) (source target : ℕ) → kind_at (ks ++ (k ∷ [])) source target ≡ or_else (kind_at ks source target) (kind_of_pair source target k)
+behind : (ks : List Kind) (k : Kind) (source target : ℕ)
+    → kind_at (ks ++ (k ∷ [])) source target ≡ or_else (kind_at ks source target) (kind_of_pair source target k)
 unfolding kind_at first_of
 behind ks k source target =
     first_append (kind_of_pair source target) ks (k ∷ []) ∙ ap (or_else (first_of (kind_of_pair source target) ks)) (or_none (kind_of_pair source target k))

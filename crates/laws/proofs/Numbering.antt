@@ -106,7 +106,8 @@ new_mem st n (e ∷ es) (none ∷ cs) m =
     ⊎_elim (λ q. (n, e, Memᴰ.head refl, q)) (λ t. let r = new_mem st (n + 1) es cs t in (r.0, r.1, Memᴰ.tail r.2, r.3)) (Memᴰ.cases_cons m)
 
 -- The place of a member: there it stands.
-pub place_from_lem : (i e : ℕ) (ns : List ℕ) → e ∈ ns → (i ≤ place_from i e ns) × (place_from i e ns < i + length ns) × (get_or ns (place_from i e ns - i) 0 ≡ e)
+pub place_from_lem : (i e : ℕ) (ns : List ℕ) → e ∈ ns
+    → (i ≤ place_from i e ns) × (place_from i e ns < i + length ns) × (get_or ns (place_from i e ns - i) 0 ≡ e)
 unfolding place_from
 place_from_lem i e [] m = absurd (Memᴰ.not-nil m)
 place_from_lem i e (n ∷ ns) m = go (eqb n e) refl (λ t. place_from_lem (i + 1) e ns t) (Memᴰ.cases_cons m)

@@ -13,7 +13,8 @@ use lib.ListN.{length, get_or, take, drop}
 use borrow.Author.Tests.{eq-eqb, eqb-true, ltb-true, ltb-false, leb-false, not-false}
 use Rattle.definition.specs.Base.{accepted, when, or_else, keep, each, any, all, has, ◌∈◌}
 use Rattle.definition.specs.Limits.{rule_bytes, structure_limit, field_limit, name_bytes}
-use Rattle.definition.specs.Letters.{letter_n, letter_s, letter_e, letter_r, letter_a, letter_v, letter_i, letter_m, letter_k, letter_x, start, predicate, function}
+use Rattle.definition.specs.Letters.{letter_n, letter_s, letter_e, letter_r, letter_a, letter_v}
+use Rattle.definition.specs.Letters.{letter_i, letter_m, letter_k, letter_x, start, predicate, function}
 use Rattle.definition.specs.Records.{
   Field,
   Fields,
@@ -149,7 +150,8 @@ two_numbers (a ∷ b ∷ c ∷ []) h = absurd (omega arith)
 two_numbers (a ∷ b ∷ c ∷ d ∷ s) h = omega arith
 
 -- A source and a target below a count.
-two_ends : (c : List ℕ) (count : ℕ) → 4 ≤ length c → all (λ (s : ℕ). ltb s count) (take 2 (numbers c)) ≡ true → (number_at 0 c < count) × (number_at 1 c < count)
+two_ends : (c : List ℕ) (count : ℕ) → 4 ≤ length c → all (λ (s : ℕ). ltb s count) (take 2 (numbers c)) ≡ true
+    → (number_at 0 c < count) × (number_at 1 c < count)
 unfolding numbers number_at all
 two_ends [] count h e = absurd (omega arith)
 two_ends (a ∷ []) count h e = absurd (omega arith)

@@ -132,13 +132,15 @@ module _ {s index : List ℕ} {source target : ℕ} {m : Map} (a : Laid s index 
       let t = stands b g in
       let e = entries_more (structure_in s source) (structure_in s target) (variables_in (structure_in s source) vars) (numbers_rise b) (take p (pairs_in s m))
       (get_or (pairs_in s m) p no_pair) j t.0 t.1 in
-      let w : length (each entry_of (carried (structure_in s source) (variables_in (structure_in s source) vars) (take p (pairs_in s m)) (structure_in s target)))
+      let w : length (each entry_of
+      (carried (structure_in s source) (variables_in (structure_in s source) vars) (take p (pairs_in s m)) (structure_in s target)))
       ≡ length (numbers_of (structure_in s target))
       = length_each entry_of _ ∙ length_carried (structure_in s source) (structure_in s target) _ (take p (pairs_in s m))
       ∙ sym (length_numbers_of (structure_in s target)) in
       record { same = rw (add-one, take-suc (pairs_in s m) p no_pair l, e, c.same, entry f) (set_row _ _ _ (rw w t.0)) }
 
-  pub carry_end : {row : List ℕ} {p : ℕ} → Carrying s vars source target m row p → p ≡ m.pairs → row ≡ row_of (each entry_of (taken_over s vars source target m))
+  pub carry_end : {row : List ℕ} {p : ℕ} → Carrying s vars source target m row p → p ≡ m.pairs
+      → row ≡ row_of (each entry_of (taken_over s vars source target m))
   carry_end {row} {p} c e = let n = pairs_many map in let q : take p (pairs_in s m) ≡ pairs_in s m = take_all p (pairs_in s m) (omega arith) in c.same ∙ rw q
 
 -- What is taken over was given out before.

@@ -54,7 +54,8 @@ unfolding variable_bytes
 variable_counted s type base number out e z h =
     let n = variable_long (record { type = type; name = base_bytes s base ++ decimal number }) in counted out _ _ (omega arith) (omega arith)
 
-pub variable_bytes_lem : (s : List ℕ) (k number : ℕ) (base : Base) (e : Element) {type n : ℕ} → base_bytes s base ≡ base_name (structure_in s k) n → n ≡ e.number
+pub variable_bytes_lem : (s : List ℕ) (k number : ℕ) (base : Base) (e : Element) {type n : ℕ} → base_bytes s base ≡ base_name (structure_in s k) n
+    → n ≡ e.number
     → type ≡ e.type
     → variable_bytes s type base number ≡ field_bytes (variable_field (new_variable (structure_in s k) number e))
 unfolding variable_bytes new_variable

@@ -97,8 +97,10 @@ module _ {table : List (List ℕ)} {ks : List Kind} (w : Tabled table ks) (k : K
     there : (i j : ℕ) → of_pair i j k ≡ false → kind_at (add_pair ks k) i j ≡ kind_at ks i j
     there i j f = added_at ks k i j ∙ rw f (or_none (kind_at ks i j))
 
-    same : (i j : ℕ) → i < structure_limit → j < structure_limit → Dec (i ≡ source) → Dec (j ≡ target) → kind_in (entry_at more i j) ≡ kind_at (add_pair ks k) i j
-    same i j a b (yes e) (yes f) = rw (e, f, row_here, get_or-set_same (get_or table source []) target n 0 (omega (arith, w.wide source source_in))) (m ∙ sym here)
+    same : (i j : ℕ) → i < structure_limit → j < structure_limit → Dec (i ≡ source) → Dec (j ≡ target)
+        → kind_in (entry_at more i j) ≡ kind_at (add_pair ks k) i j
+    same i j a b (yes e) (yes f) =
+        rw (e, f, row_here, get_or-set_same (get_or table source []) target n 0 (omega (arith, w.wide source source_in))) (m ∙ sym here)
     same i j a b (yes e) (no f) =
         let x : of_pair i j k ≡ false = rw (ne_eqb k.target j (λ z. f (sym (q ∙ z)))) (and-false (eqb k.source i)) in
         let y : entry_at more i j ≡ entry_at table i j = rw (e, row_here) (get_or-set_other (get_or table source []) target j n 0 f) in

@@ -37,7 +37,8 @@ held_same s index index' from zero h = refl
 held_same s index index' from (suc count) h =
     rw (h from (omega arith) (omega arith), held_same s index index' (from + 1) count (λ i a b. h i (omega arith) (omega arith)))
 
-held_snoc : (s index : List ℕ) (from count : ℕ) → held_at s index from (suc count) ≡ held_at s index from count ++ (field_in s (get_or index (from + count) 0) ∷ [])
+held_snoc : (s index : List ℕ) (from count : ℕ)
+    → held_at s index from (suc count) ≡ held_at s index from count ++ (field_in s (get_or index (from + count) 0) ∷ [])
 unfolding held_at
 held_snoc s index from zero = rw (add-zero from)
 held_snoc s index from (suc count) = let e : from + suc count ≡ from + 1 + count = omega arith in

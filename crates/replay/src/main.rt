@@ -122,9 +122,15 @@ fn print_verdict<W: Write>(output: &mut W, v: Verdict) -> io::Result<()> {
     }
 }
 
+// The last hexadecimal digit, lower-case.
+fn digit(x: u8) -> u8 {
+    let d = x % 16;
+    if d < 10 { b'0' + d } else { b'a' - 10 + d }
+}
+
 fn print_hex<W: Write>(output: &mut W, s: &[u8]) -> io::Result<()> {
     for byte in s {
-        write!(output, "{byte:02x}")?;
+        output.write_all(&[digit(*byte / 16), digit(*byte)])?;
     }
     Ok(())
 }
@@ -285,16 +291,16 @@ fn print_bad_case<W: Write>(output: &mut W) -> io::Result<()> {
 }
 
 // What is said of a run that ended before its input: of a failure on standard error, and of a case that was not whole in its place.
-fn end_run<W: Write>(rt: &impl Eprint, output: &mut W, stop: Stop) {
+fn end_run<E: Write, W: Write>(errors: &mut E, output: &mut W, stop: Stop) {
     if let Stop::Unread(error) = stop {
-        streams::tell(rt, "replay: standard input", error);
+        streams::tell(errors, b"replay: standard input", error);
     }
     let printed = match stop {
         Stop::Unwritten(error) => Err(error),
         Stop::BadCase | Stop::Unread(_) => print_bad_case(output),
     };
     if let Err(error) = printed {
-        streams::tell(rt, "replay: standard output", error);
+        streams::tell(errors, b"replay: standard output", error);
     }
 }
 
@@ -306,6 +312,6 @@ fn main(rt: HostRuntime) {
     };
     let mut output = rt.stdout();
     if let Err(stop) = answer_all(&mut rt.stdin(), &mut output, &mut buffers) {
-        end_run(&rt, &mut output, stop);
+        end_run(&mut rt.stderr(), &mut output, stop);
     }
 }

@@ -150,7 +150,8 @@ marks_say {flags} {els} {seen} m h f g =
 
 pub constrained_say : {s index : List ℕ} {k : ℕ} → Elements s index k → {flags : List Bool} {ps qs : List Row} (sig : Signature) (st : Structure)
     → Marks flags (element_numbers s index k) ([] ++ joined (arguments sig) ps ++ joined (arguments sig) qs) → length flags ≡ places
-    → numbers_of st ≡ element_numbers s index k → st.pred_rows ≡ ps → st.func_rows ≡ qs → take (count_at index k) flags ≡ each (constrained sig st) (numbers_of st)
+    → numbers_of st ≡ element_numbers s index k → st.pred_rows ≡ ps → st.func_rows ≡ qs → take (count_at index k) flags
+    ≡ each (constrained sig st) (numbers_of st)
 unfolding constrained
 constrained_say {s} {index} {k} w {flags} {ps} {qs} sig st m h n p q =
     let l = numbers_length s index k in

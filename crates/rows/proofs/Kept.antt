@@ -37,6 +37,7 @@ module _ (s index : List ℕ) (k : ℕ) (st : Structure) (same : st.elements ≡
         flag_at_lem (λ (x : Element). constrained sig st x.number) st.elements flags b i no_element (omega arith) ∙ rw (same, elements_get s index k i l)
 
 -- The member rows of a structure that the index has.
-pub members_are : (s index : List ℕ) (k : ℕ) (st : Structure) → st.elements ≡ elements_in s index k → members st ≡ sort_rows (member_rows (elements_in s index k))
+pub members_are : (s index : List ℕ) (k : ℕ) (st : Structure) → st.elements ≡ elements_in s index k
+    → members st ≡ sort_rows (member_rows (elements_in s index k))
 unfolding members member_rows
 members_are s index k st same = rw same

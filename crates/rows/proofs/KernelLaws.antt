@@ -177,7 +177,8 @@ module _ (type : Pair → ℕ) {s : List ℕ} {m : Map} (h : MapIn s m) where
         go true = refl
         go false = refl
 
-    pub later_clash : q < m.pairs → (pair_at s m p).image ≡ (pair_at s m q).image → (type (pair_at s m p) ≡ type (pair_at s m q) → ⊥) → later_from type s m p q ≡ true
+    pub later_clash : q < m.pairs → (pair_at s m p).image ≡ (pair_at s m q).image → (type (pair_at s m p) ≡ type (pair_at s m q) → ⊥)
+        → later_from type s m p q ≡ true
     unfolding later_from any
     later_clash l e d = rw (left_on h q l, eq-eqb _ _ e, ne_eqb _ _ d)
 
@@ -193,7 +194,8 @@ module _ (type : Pair → ℕ) {s : List ℕ} {m : Map} (h : MapIn s m) where
   unfolding keys_from any_two
   keys_end p l = rw (left_end h p l)
 
-pub later_all : (type : Pair → ℕ) (s : List ℕ) (m : Map) (p : ℕ) → any (clash type (pair_at s m p)) (drop (p + 1) (pairs_in s m)) ≡ later_from type s m p (p + 1)
+pub later_all : (type : Pair → ℕ) (s : List ℕ) (m : Map) (p : ℕ)
+    → any (clash type (pair_at s m p)) (drop (p + 1) (pairs_in s m)) ≡ later_from type s m p (p + 1)
 unfolding later_from
 later_all type s m p = refl
 

@@ -145,7 +145,8 @@ module _ (sig : Signature) (table : List Variable) (source target : Side) (pairs
         keep_append (is_new pairs (rows_of from)) to.pred_rows to.func_rows,
         keep_same (is_new pairs (rows_of from)) (is_new pairs from.pred_rows) to.pred_rows (λ r m. new_pred pairs from v r (w.preds r m)),
         keep_same (is_new pairs (rows_of from)) (is_new pairs from.func_rows) to.func_rows (λ r m. new_func pairs from v r (w.funcs r m)),
-        keep_same (is_new pairs (rows_of from)) (is_new pairs (member_rows from.elements)) (members to) (λ r m. new_member pairs from v r (members_kind to r m)),
+        keep_same (is_new pairs (rows_of from)) (is_new pairs (member_rows from.elements)) (members to)
+            (λ r m. new_member pairs from v r (members_kind to r m)),
       )
 
   -- Without the members whose element is constrained.

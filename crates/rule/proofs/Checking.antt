@@ -77,7 +77,8 @@ module _ {s : List ℕ} {letter : ℕ} {check : ℕ → Option Field → Field �
               let q : l ≡ letter = eqb-true l letter (letter_head letter (field_of s l start len) b.rest o) in
               record { is = q; rest = b.rest; same = b.same ∙ rw q; run = b.run; letters = letter_tail letter (field_of s l start len) b.rest o }
 
-      pub check_fault : {r : Fault} {n : ℕ} → r ≡ Draws n → fault_of r ≡ check count last (field_of s letter start len) → fault_of r ≡ fault_among letter check fs
+      pub check_fault : {r : Fault} {n : ℕ} → r ≡ Draws n → fault_of r ≡ check count last (field_of s letter start len)
+          → fault_of r ≡ fault_among letter check fs
       unfolding fault_from
       check_fault d k = sym (w.fault ∙ rw (first.same, ← k, d))
 

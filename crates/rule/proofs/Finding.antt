@@ -35,7 +35,8 @@ unfolding element_numbers element_fields
 numbers_length s index k =
     length_each (λ (f : Field). number_at 0 f.content) (element_fields s index k) ∙ length_held s index (elements_from + field_limit * k) (count_at index k)
 
-pub numbers_get : {s index : List ℕ} {k : ℕ} → Elements s index k → (i : ℕ) → i < count_at index k → get_or (element_numbers s index k) i 0 ≡ element_at s index k i
+pub numbers_get : {s index : List ℕ} {k : ℕ} → Elements s index k → (i : ℕ) → i < count_at index k
+    → get_or (element_numbers s index k) i 0 ≡ element_at s index k i
 unfolding element_numbers element_fields field_in
 numbers_get {s} {index} {k} w i h =
     let from : ℕ = elements_from + field_limit * k in

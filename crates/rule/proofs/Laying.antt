@@ -189,7 +189,8 @@ module _ (fs : List Field) (f : Field) (n q : ℕ) (e : place_of f.letter ≡ q)
       unfolding fields_in
       add_this h d =
           let b : block_at (fs ++ (f ∷ [])) k ≡ record { head = (block_at fs k).head; body = (block_at fs k).body ++ (f ∷ []) }
-          = ap (λ (bs : List Block). get_or bs k no_block) (blocks_add letter_s f (not_s h) fs) ∙ add_here f (blocks letter_s fs) k no_block (omega (arith, cn)) in
+          = ap (λ (bs : List Block). get_or bs k no_block) (blocks_add letter_s f (not_s h) fs)
+          ∙ add_here f (blocks letter_s fs) k no_block (omega (arith, cn)) in
           rw b (with_snoc (letter_at r) f (whole_block (block_at fs k))
           ∙ rw (of_letter r mine (omega arith) (λ x. to x (kind_of q lo)) (λ x. from x (kind_of q lo))))
         where

@@ -162,7 +162,13 @@ may_cases b q e = go (eqb q place_n) (ltb b place_n) (eqb q place_s) (ltb b plac
 pub may_repeat : (b : ℕ) → place_s < b → b ≤ place_x → may_follow b b ≡ true
 unfolding may_follow
 may_repeat b h k =
-    rw (ne_eqb b place_n (λ z. omega arith), le-ltb b place_n (omega arith), ne_eqb b place_s (λ z. omega arith), le-ltb b place_s (omega arith), le-ltb place_x b k)
+    rw (
+      ne_eqb b place_n (λ z. omega arith),
+      le-ltb b place_n (omega arith),
+      ne_eqb b place_s (λ z. omega arith),
+      le-ltb b place_s (omega arith),
+      le-ltb place_x b k,
+    )
     (le-leb b b (omega arith))
 
 -- The section of a place.

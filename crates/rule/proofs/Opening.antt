@@ -88,11 +88,13 @@ module _ (sig : Signature) (s index : List ℕ) (k : ℕ) (inside : k < length (
   unfolding name_place
   names_at count a b = go (ℕ_discrete count 1)
     where
-      go : Dec (count ≡ 1) → NamesAt s (section_from index k (name_place count)) (section_to index k (name_place count)) count (names_of (structure_in s k) count)
+      go : Dec (count ≡ 1)
+          → NamesAt s (section_from index k (name_place count)) (section_to index k (name_place count)) count (names_of (structure_in s k) count)
       go (yes e) = rw e both.0
       go (no e) = let z : count ≡ 2 = omega arith in rw z both.1
 
-  pub laid : k < structure_limit → ElementsAt s index k → element_fields s index k ≡ with_letter letter_e (block_at (rule_part s).fields k).body → Laid s index k
+  pub laid : k < structure_limit → ElementsAt s index k → element_fields s index k ≡ with_letter letter_e (block_at (rule_part s).fields k).body
+      → Laid s index k
   unfolding structure_of elements_in
   laid few els holds = record { few = few; elements = els; same = ap (λ (st : Structure). st.elements) (structure_is s k inside) ∙ rw holds; names = names_at }
 

@@ -21,7 +21,8 @@ pairs_length [] = refl
 pairs_length (k ∷ []) = refl
 pairs_length (k ∷ i ∷ ns) = let e = pairs_length ns in omega arith
 
-pub pairs_get : (ns : List ℕ) (i : ℕ) → i < length ns / 2 → get_or (pairs_of ns) i no_pair ≡ record { key = get_or ns (2 * i) 0; image = get_or ns (2 * i + 1) 0 }
+pub pairs_get : (ns : List ℕ) (i : ℕ) → i < length ns / 2
+    → get_or (pairs_of ns) i no_pair ≡ record { key = get_or ns (2 * i) 0; image = get_or ns (2 * i + 1) 0 }
 unfolding pairs_of
 pairs_get [] i h = absurd (omega arith)
 pairs_get (k ∷ []) i h = absurd (omega arith)
@@ -77,7 +78,8 @@ module _ (s : List ℕ) (start count : ℕ) (h : start + 4 * count ≤ length s)
 
   module _ (i : ℕ) where
     module _ (p : Pair → Bool) where
-      pub pairs_no : i < count → p (record { key = two_at s (start + 4 * i); image = two_at s (start + 4 * i + 2) }) ≡ false → all_pairs s start count p i ≡ false
+      pub pairs_no : i < count → p (record { key = two_at s (start + 4 * i); image = two_at s (start + 4 * i + 2) }) ≡ false
+          → all_pairs s start count p i ≡ false
       unfolding all_pairs all
       pairs_no l e = rw (pair_on i l, e)
 

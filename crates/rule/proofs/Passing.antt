@@ -190,7 +190,8 @@ module _ {s index : List ℕ} {at behind section n : ℕ} (p : Passing s index a
     old : (t : Section) → Proper t → Run s (bound_at index' to at (number_of t)) (bound_at index' to at (number_of t + 1)) (fields_in t p.passed)
     old t v = rw (same (number_of t), same (number_of t + 1)) (p.runs t v)
 
-    ran : (t : Section) → Proper t → Run s (bound_at index' to next (number_of t)) (bound_at index' to next (number_of t + 1)) (fields_in t (p.passed ++ (f ∷ [])))
+    ran : (t : Section) → Proper t
+        → Run s (bound_at index' to next (number_of t)) (bound_at index' to next (number_of t + 1)) (fields_in t (p.passed ++ (f ∷ [])))
     ran t v = go (dec_lt (number_of t) to) (ℕ_discrete (number_of t) to)
       where
         go : Dec (number_of t < to) → Dec (number_of t ≡ to)

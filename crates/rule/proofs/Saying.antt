@@ -8,7 +8,8 @@ use lib.ListN.{length, get_or, drop, length-drop}
 use Rattle.definition.specs.Base.{each}
 use Rattle.definition.specs.Letters.{letter_s}
 use Rattle.definition.specs.Records.{Field, numbers, number_at, with_letter, blocks}
-use Rattle.definition.specs.Rule.{Element, MorphismKind, If, SurjThen, NonSurjThen, Noop, kind_of, rule_part, rule_of, structure_of, element_of, map_of, auxiliary_of}
+use Rattle.definition.specs.Rule.{Element, MorphismKind, If, SurjThen, NonSurjThen, Noop}
+use Rattle.definition.specs.Rule.{kind_of, rule_part, rule_of, structure_of, element_of, map_of, auxiliary_of}
 use Rattle.definition.specs.Names.{numbers_of}
 use Rattle.definition.specs.Walk.{structure_at, no_structure}
 use Rattle.laws.proofs.Lists.{length_each, get_d_each}

@@ -173,12 +173,14 @@ module _ {s index : List ℕ} {check : ℕ → Option Field → Field → Option
   list_end h = w.held ∙ rw (run_end w.checking.run h, append-nil)
 
   module _ (lt : at < to) {l start len next : ℕ} (e : field_at s at ≡ Got l start len next) where
-    stored : (rest : List Field) → l ≡ letter_e → w.checking.rest ≡ field_of s letter_e start len ∷ rest → elements_from + field_limit * k + count < length index
+    stored : (rest : List Field) → l ≡ letter_e → w.checking.rest ≡ field_of s letter_e start len ∷ rest
+        → elements_from + field_limit * k + count < length index
         → held_at s index (elements_from + field_limit * k) count ++ w.checking.rest
         ≡ held_at s (set index (elements_from + field_limit * k + count) at) (elements_from + field_limit * k) (count + 1) ++ rest
     stored rest q r h = rw (r, held_store s index (elements_from + field_limit * k) count at h, got_field s at e, q, append_assoc)
 
-    pub list_next : {r : Fault} → r ≡ Sound → fault_of r ≡ check count last (field_of s letter_e start len) → elements_from + field_limit * k + count < length index
+    pub list_next : {r : Fault} → r ≡ Sound → fault_of r ≡ check count last (field_of s letter_e start len)
+        → elements_from + field_limit * k + count < length index
         → Listing s (set index (elements_from + field_limit * k + count) at) check to k body next (count + 1) (some (field_of s letter_e start len))
     unfolding check_next
     list_next d c h = let f = first w.checking lt e in

@@ -101,14 +101,16 @@ module _ {s index : List ℕ} {whole : Bool} {n : ℕ} (p : Passes s index whole
             (laid_body p.laid k (omega (arith, o.full)) l);
       }
     where
-      head : (k : ℕ) → k < n → Dec (k < structure_limit) → HeadAt s (section_from index k place_s) (get_or (blocks letter_s p.passed ++ (b ∷ bs)) k no_block).head
+      head : (k : ℕ) → k < n → Dec (k < structure_limit)
+          → HeadAt s (section_from index k place_s) (get_or (blocks letter_s p.passed ++ (b ∷ bs)) k no_block).head
       head k h (yes l) = rw (get_left (blocks letter_s p.passed) (b ∷ bs) k no_block (omega (arith, o.full)))
           (laid_head p.laid k (omega (arith, o.full)) l)
       head k h (no l) =
           let z : k ≡ structure_limit = omega (arith, o.counted) in
           rw (get_right (blocks letter_s p.passed) bs b k no_block (omega (arith, o.full)), e, z) o.head
 
-  blocks_first : (f : Field) (fs : List Field) → f.letter ≡ letter_s → blocks letter_s (f ∷ fs) ≡ record { head = f; body = up_to letter_s fs } ∷ blocks letter_s fs
+  blocks_first : (f : Field) (fs : List Field) → f.letter ≡ letter_s
+      → blocks letter_s (f ∷ fs) ≡ record { head = f; body = up_to letter_s fs } ∷ blocks letter_s fs
   unfolding blocks
   blocks_first f fs e = rw (eq-eqb _ _ e)
 

@@ -92,11 +92,13 @@ module _ (s : List ℕ) (start len : ℕ) (h : start + len ≤ length s) (types 
   symbol_short results q k = rw (lt-ltb _ _ k) at (symbol_odd results q)
 
   pub symbol_columns : (results : ℕ) → len % 2 ≡ 1 → get_or s start 0 + results ≤ len / 2
-      → columns_fault column_limit types before (numbers (stretch s (start + 1) (len - 1))) ≡ symbol_fault results types before last (field_of s letter start len)
+      → columns_fault column_limit types before (numbers (stretch s (start + 1) (len - 1)))
+      ≡ symbol_fault results types before last (field_of s letter start len)
   symbol_columns results q k = rw (le-ltb _ _ k) at (symbol_odd results q)
 
   -- Where a P or F has no fault, its columns are enough.
-  pub symbol_fits : (results : ℕ) → len % 2 ≡ 1 → symbol_fault results types before last (field_of s letter start len) ≡ none → get_or s start 0 + results ≤ len / 2
+  pub symbol_fits : (results : ℕ) → len % 2 ≡ 1 → symbol_fault results types before last (field_of s letter start len) ≡ none
+      → get_or s start 0 + results ≤ len / 2
   symbol_fits results q e =
       ltb-false _ _ (pick_none (ltb (len / 2) (get_or s start 0 + results))
       (columns_fault column_limit types before (numbers (stretch s (start + 1) (len - 1)))) (symbol_odd results q ∙ e))

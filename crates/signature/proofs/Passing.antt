@@ -63,7 +63,8 @@ module _ {s : List ℕ} {at behind types : ℕ} (p : Passing s at behind types) 
     few = small (eqb letter letter_t);
   }
     where
-      one_more : (t : Bool) → eqb letter letter_t ≡ t → pick t (types + 1) types ≡ length (with_letter letter_t (p.passed ++ (field_of s letter start len ∷ [])))
+      one_more : (t : Bool) → eqb letter letter_t ≡ t
+          → pick t (types + 1) types ≡ length (with_letter letter_t (p.passed ++ (field_of s letter start len ∷ [])))
       one_more true q = let c = p.counted in rw (keep_append, q, length-append) (omega arith)
       one_more false q = let c = p.counted in rw (keep_append, q, length-append) (omega arith)
 

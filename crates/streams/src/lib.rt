@@ -18,9 +18,29 @@ pub enum Input {
     Failed,
 }
 
-// Says who failed on standard error, and the error. Nobody is left to hear where that fails.
-pub fn tell(rt: &impl Eprint, who: &str, error: io::Error) {
-    let _ = eprintln!(rt; "{who}: {error}");
+// The system's words for a failure are at most so long; a longer text is cut.
+const WORDS: usize = 256;
+
+// A line of who failed, and the system's words for it, without their number.
+fn write_failure<E: Write>(errors: &mut E, who: &[u8], error: io::Error) -> io::Result<()> {
+    let mut text = [0u8; WORDS];
+    let mut rest: &mut [u8] = &mut text;
+    // What does not fit is left out.
+    let _ = write!(rest, "{error}");
+    let len = WORDS.saturating_sub(rest.len());
+    let shown = str::from_utf8(&text[..len]).unwrap_or("");
+    let words = shown
+        .split_once(" (os error ")
+        .map_or(shown, |(words, _)| words);
+    errors.write_all(who)?;
+    errors.write_all(b": ")?;
+    errors.write_all(words.as_bytes())?;
+    errors.write_all(b"\n")
+}
+
+// Says who failed where errors are told, and how. Nobody is left to hear where that fails.
+pub fn tell<E: Write>(errors: &mut E, who: &[u8], error: io::Error) {
+    let _ = write_failure(errors, who, error);
 }
 
 // Fills the buffer from the reader as far as that goes. The first read that fails ends it.
@@ -41,38 +61,48 @@ pub fn fill<R: Read>(input: &mut R, buf: &mut [u8]) -> io::Result<usize>
 }
 
 // Fills the buffer from the reader as far as that goes. Where a read fails, standard error has a line: who reads, and the error.
-pub fn read_full<R: Read>(rt: &impl Eprint, input: &mut R, buf: &mut [u8], who: &str) -> Input
+pub fn read_full<E: Write, R: Read>(
+    errors: &mut E,
+    input: &mut R,
+    buf: &mut [u8],
+    who: &[u8],
+) -> Input
     ensures within { Within result (length buf.new) }
     ensures taken { Taken result (R.remaining input.old) (R.remaining input.new) buf.new }
 {
     match fill(input, buf) {
         Ok(n) => Input::Read(n),
         Err(error) => {
-            tell(rt, who, error);
+            tell(errors, who, error);
             Input::Failed
         }
     }
 }
 
 // The same for a program that reads once. What came before a failed read is no input, so its length is then 0.
-pub fn read_input<R: Read>(rt: &impl Eprint, input: &mut R, buf: &mut [u8], who: &str) -> usize
+pub fn read_input<E: Write, R: Read>(
+    errors: &mut E,
+    input: &mut R,
+    buf: &mut [u8],
+    who: &[u8],
+) -> usize
     ensures within { result ≤ length buf.new }
     ensures taken { 0 < result → Taken (Read result) (R.remaining input.old) (R.remaining input.new) buf.new }
 {
-    match read_full(rt, input, buf, who) {
+    match read_full(errors, input, buf, who) {
         Input::Read(n) => n,
         Input::Failed => 0,
     }
 }
 
 // Writes all of it, and answers whether it could. Where not, standard error has a line: who writes, and the error.
-pub fn write_all<W: Write>(rt: &impl Eprint, output: &mut W, buf: &[u8], who: &str) -> bool
+pub fn write_all<E: Write, W: Write>(errors: &mut E, output: &mut W, buf: &[u8], who: &[u8]) -> bool
     ensures { result ≡ true → Appends (W.contents output.old) (W.contents output.new) buf.now }
 {
     match output.write_all(buf) {
         Ok(()) => true,
         Err(error) => {
-            tell(rt, who, error);
+            tell(errors, who, error);
             false
         }
     }
@@ -107,7 +137,12 @@ mod tests {
     fn failed_read_is_no_input(rt: HostRuntime) {
         for (left, want) in [(0, 0), (3, 0), (4, 4), (5, 4)] {
             let mut buf = [0u8; 4];
-            let read = read_input(&rt, &mut Broken { left }, &mut buf, "test: a reader");
+            let read = read_input(
+                &mut rt.stderr(),
+                &mut Broken { left },
+                &mut buf,
+                b"test: a reader",
+            );
             assert_eq!(rt; read, want, "with {left} bytes");
         }
     }
@@ -118,30 +153,47 @@ mod tests {
         let mut input: &[u8] = b"abcdef";
         assert!(rt;
             matches!(
-                read_full(&rt, &mut input, &mut buf, "test: bytes"),
+                read_full(&mut rt.stderr(), &mut input, &mut buf, b"test: bytes"),
                 Input::Read(4)
             )
         );
         assert!(rt;
             matches!(
-                read_full(&rt, &mut input, &mut buf, "test: bytes"),
+                read_full(&mut rt.stderr(), &mut input, &mut buf, b"test: bytes"),
                 Input::Read(2)
             )
         );
         assert_eq!(rt; buf, *b"efcd");
         assert!(rt;
             matches!(
-                read_full(&rt, &mut Broken { left: 2 }, &mut buf, "test: a reader"),
+                read_full(
+                    &mut rt.stderr(),
+                    &mut Broken { left: 2 },
+                    &mut buf,
+                    b"test: a reader"
+                ),
                 Input::Failed
             )
         );
     }
 
     #[test]
+    fn failure_is_told_in_the_systems_words(rt: HostRuntime) {
+        let mut line = [0u8; 64];
+        let mut errors: &mut [u8] = &mut line;
+        tell(
+            &mut errors,
+            b"test: a reader",
+            io::Error::from_raw_os_error(5),
+        );
+        assert!(rt; line.starts_with(b"test: a reader: Input/output error\n"));
+    }
+
+    #[test]
     fn failed_write_is_told(rt: HostRuntime) {
         let mut room = [0u8; 4];
         let mut output: &mut [u8] = &mut room;
-        assert!(rt; write_all(&rt, &mut output, b"abc", "test: a writer"));
-        assert!(rt; !write_all(&rt, &mut output, b"def", "test: a writer"));
+        assert!(rt; write_all(&mut rt.stderr(), &mut output, b"abc", b"test: a writer"));
+        assert!(rt; !write_all(&mut rt.stderr(), &mut output, b"def", b"test: a writer"));
     }
 }

@@ -17,7 +17,8 @@ use Rattle.definition.specs.Letters.{letter_b, letter_h}
 use Rattle.definition.specs.Records.{Field}
 use Rattle.definition.specs.Signature.{Signature, symbol_count}
 use Rattle.definition.specs.Group.{Variable, Statement, FlatRule, Group, premise_kinds, conclusion_kinds}
-use Rattle.definition.specs.Writer.{two_bytes, number_bytes, field_bytes, record_bytes, variable_field, statement_field, flat_rule_fields, group_fields, group_bytes_of}
+use Rattle.definition.specs.Writer.{two_bytes, number_bytes, field_bytes, record_bytes}
+use Rattle.definition.specs.Writer.{variable_field, statement_field, flat_rule_fields, group_fields, group_bytes_of}
 use Rattle.laws.proofs.Lists.{and_right, mem_each, mem_joined, all_mem}
 use Rattle.theorems.proofs.Good.{GoodName, GoodStatement, GoodVariable, GoodRule, GoodGroup}
 use Rattle.laws.proofs.NameLaws.{fine}

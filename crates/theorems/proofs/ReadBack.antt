@@ -111,7 +111,12 @@ group_part_lem g = rw (fields_written (group_fields g)) (placed_whole group_gram
 premise_fields : (r : FlatRule) → with_letter letter_b (rule_body r) ≡ each (statement_field letter_b) r.premise
 unfolding statement_field
 premise_fields r =
-    rw (with_append letter_b, with_each letter_b (statement_field letter_b) (λ s. refl), with_each_none letter_b (statement_field letter_h) (λ s. refl), append-nil)
+    rw (
+      with_append letter_b,
+      with_each letter_b (statement_field letter_b) (λ s. refl),
+      with_each_none letter_b (statement_field letter_h) (λ s. refl),
+      append-nil,
+    )
 
 conclusion_fields : (r : FlatRule) → with_letter letter_h (rule_body r) ≡ each (statement_field letter_h) r.conclusion
 unfolding statement_field
@@ -232,7 +237,8 @@ statements_pass sig kinds count letter ss h =
     faults_none (statement_fault sig kinds count) (statement_field letter) ss 0 none (λ n l s k m. statement_passes sig kinds count letter s (h s m) n l)
 
 -- A good group's rules have no fault.
-rules_pass : (sig : Signature) (count : ℕ) (rs : List FlatRule) (before : ℕ) → ((r : FlatRule) → r ∈ rs → GoodRule sig count r) → before + length rs ≤ rule_limit
+rules_pass : (sig : Signature) (count : ℕ) (rs : List FlatRule) (before : ℕ) → ((r : FlatRule) → r ∈ rs → GoodRule sig count r)
+    → before + length rs ≤ rule_limit
     → flat_rules_fault sig count before (each rule_block rs) ≡ none
 unfolding flat_rules_fault flat_rule_fault fault_among each lowest
 rules_pass sig count [] before h few = refl

@@ -28,7 +28,8 @@ use Rattle.definition.specs.Rule.{
   rule_part,
   read_rule,
 }
-use Rattle.definition.specs.Group.{title_fault, variable_fault, flat_rule_fault, statement_fault, flat_rules_fault, group_fault, group_of, group_part, read_group}
+use Rattle.definition.specs.Group.{title_fault, variable_fault, flat_rule_fault, statement_fault}
+use Rattle.definition.specs.Group.{flat_rules_fault, group_fault, group_of, group_part, read_group}
 
 -- A number of a reading's refusal.
 abbrev pub Low : ℕ → Type 0

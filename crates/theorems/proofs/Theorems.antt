@@ -19,7 +19,8 @@ use Rattle.definition.specs.Names.{variable_at}
 use Rattle.definition.specs.Walk.{State, Reached, structure_at, initial_state, walked_kinds, walk_of}
 use Rattle.definition.specs.Writer.{group_bytes_of}
 use Rattle.definition.specs.Flatten.{group_left, fitted, flatten_of}
-use Rattle.definition.specs.Demands.{IsReached, Occurs, Bound, NoTrailingDigit, ends_in_digit, variables_at, variable_got, printed_name, DifferentNames, Demand3}
+use Rattle.definition.specs.Demands.{IsReached, Occurs, Bound, NoTrailingDigit, ends_in_digit}
+use Rattle.definition.specs.Demands.{variables_at, variable_got, printed_name, DifferentNames, Demand3}
 use Rattle.laws.specs.Sound.{SoundRule}
 use Rattle.theorems.proofs.Good.{GoodGroup}
 use Rattle.laws.proofs.Sound.{sound_signature}

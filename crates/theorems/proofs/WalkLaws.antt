@@ -228,7 +228,8 @@ module _ (sig : Signature) (rule : Rule) (sound : SoundRule sig rule) (state : S
       go (some v) q = let b = known.taken_below e v m q in rw (variable_taken st next taken e m q) (omega arith)
       go none q = (variable_new st next taken e m q).1
 
-  target_distinct : (e d : ℕ) → e ∈ numbers_of st → d ∈ numbers_of st → variable_at st (numbered next taking) e ≡ variable_at st (numbered next taking) d → e ≡ d
+  target_distinct : (e d : ℕ) → e ∈ numbers_of st → d ∈ numbers_of st
+      → variable_at st (numbered next taking) e ≡ variable_at st (numbered next taking) d → e ≡ d
   target_distinct e d m k h = go (taken e) refl (taken d) refl
     where
       go : (a : Option ℕ) → taken e ≡ a → (b : Option ℕ) → taken d ≡ b → e ≡ d

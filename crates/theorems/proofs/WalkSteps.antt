@@ -147,7 +147,8 @@ module _ (sig : Signature) (rule : Rule) (sound : SoundRule sig rule) (state : S
       (step_good sig state.variables _ _ pairs reached.statements count facts k.kind h)
 
 -- An accepted first part leads on.
-pub on_accepted_lem : {A B : Type 0} (o : Outcome A) (f : A → Outcome B) {b : B} → on_accepted o f ≡ accepted b → (a : A) × (o ≡ accepted a) × (f a ≡ accepted b)
+pub on_accepted_lem : {A B : Type 0} (o : Outcome A) (f : A → Outcome B) {b : B} → on_accepted o f ≡ accepted b
+    → (a : A) × (o ≡ accepted a) × (f a ≡ accepted b)
 on_accepted_lem (accepted a) f e = (a, refl, e)
 on_accepted_lem (refused n) f e = let z : ◌≡◌ {A = ℕ} 0 1 = cc in absurd (omega arith)
 

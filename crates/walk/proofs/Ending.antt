@@ -125,11 +125,13 @@ first_typed types gr e h = let o = gr.some_one in omega arith
 pub begin_walk : {sig : Signature} {s index : List ℕ} → Ground sig s index → {types types' row : List ℕ} {next n : ℕ} (size : ℕ) → types ≡ replicate size 0
     → n ≡ length (rule_at s).structures → field_limit * n ≤ length types → row ≡ row_of (numbered 0 (nothing_taken (structure_in s 0)))
     → types' ≡ sets types 0 (types_of (new_in (structure_in s 0) 0 row)) → next ≡ count_at index 0
-    → Going sig s (tables (set (replicate structure_limit unreached) 0 0) (set (replicate structure_limit no_masks) 0 all_masks) (set no_rows 0 row)) types' next 0 0
+    → Going sig s (tables (set (replicate structure_limit unreached) 0 0) (set (replicate structure_limit no_masks) 0 all_masks) (set no_rows 0 row))
+    types' next 0 0
 begin_walk {sig} {s} gr {types} {types'} {next = next} size b a h e f c =
     let q : next ≡ length (structure_in s 0).elements = c ∙ sym (elements_are (first_laid gr)) in
     let l : length types ≡ size = ap length b ∙ length-replicate {A = ℕ} size 0 in
-    let g : types' ≡ sets (replicate size 0) 0 (types_of (new_in (structure_in s 0) 0 (row_of (numbered 0 (nothing_taken (structure_in s 0)))))) = f ∙ rw (b, e) in
+    let g : types' ≡ sets (replicate size 0) 0 (types_of (new_in (structure_in s 0) 0 (row_of (numbered 0 (nothing_taken (structure_in s 0)))))) = f
+    ∙ rw (b, e) in
     rw (q, e) (record {
       state = initial_state (rule_at s);
       walking = started sig s (first_rows gr) gr.some_one size (omega arith) g;

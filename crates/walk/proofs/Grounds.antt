@@ -52,7 +52,8 @@ module _ {sig symbols s index : List ℕ} {counts : Counts} {n : ℕ} (w : Reada
   unfolding pairs_on structure_in
   keyed source target p m = go (pairs_between (rule_at s).maps source target) refl m
     where
-      go : (o : Option (List Pair)) → pairs_between (rule_at s).maps source target ≡ o → p ∈ or_default o [] → p.key ∈ numbers_of (structure_at (rule_at s) source)
+      go : (o : Option (List Pair)) → pairs_between (rule_at s).maps source target ≡ o → p ∈ or_default o []
+          → p.key ∈ numbers_of (structure_at (rule_at s) source)
       go none e i = absurd (Memᴰ.not-nil i)
       go (some ps) e i = let b = between (rule_at s).maps source target e in
           let q = sound_map ready b.map b.in_maps in

@@ -206,7 +206,8 @@ module _ (sig : Signature) (s : List ℕ) (rows : FewRows (structure_in s 0)) (s
   unfolding emitted_to concluded_at reached_by concluded_by each
   emitted_first = rw first_source
 
-  pub started : {types : List ℕ} (size : ℕ) → field_limit * length (rule_at s).structures ≤ size → types ≡ sets (replicate size 0) 0 (types_of (new_in st 0 row))
+  pub started : {types : List ℕ} (size : ℕ) → field_limit * length (rule_at s).structures ≤ size
+      → types ≡ sets (replicate size 0) 0 (types_of (new_in st 0 row))
       → Walking sig s tb types (length st.elements) 0 (initial_state (rule_at s))
   started {types} size h e =
       let n : new_in st 0 row ≡ news = new_row st (nothing_below st) (length_nothing st) in

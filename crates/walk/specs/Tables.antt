@@ -106,7 +106,8 @@ reached_by s tb t = pick (eqb t 0) none (kind_on s (source_at tb t) t)
 
 -- Its equalities, statements and domains, as the tables have them.
 unfoldable pub equalities_at : Signature → List Variable → List ℕ → Tables → ℕ → List Statement
-equalities_at sig table s tb t = equalities table (side_in s (source_at tb t) (row_at tb (source_at tb t))) (side_in s t (row_at tb t)) (pairs_on s (source_at tb t) t)
+equalities_at sig table s tb t =
+    equalities table (side_in s (source_at tb t) (row_at tb (source_at tb t))) (side_in s t (row_at tb t)) (pairs_on s (source_at tb t) t)
 
 unfoldable pub said_at : List ℕ → Tables → ℕ → List Statement
 said_at s tb t = said_by (structure_in s t) (variables_in (structure_in s t) (row_at tb t)) (masks_at tb t)

@@ -34,7 +34,8 @@ use Rattle.statements.specs.Said.{said_by}
 use Rattle.statements.specs.Structures.{side_in}
 use Rattle.statements.specs.declared.masks.Masks.{Masks}
 use Rattle.plan.specs.Table.{kind_in, entry_at, Tabled}
-use Rattle.walk.specs.Tables.{Tables, unreached, source_at, row_at, masks_of, masks_at, merged_at, kind_on, pairs_on, own_by, reached_by, equalities_at, said_at}
+use Rattle.walk.specs.Tables.{Tables, unreached, source_at, row_at, masks_of, masks_at}
+use Rattle.walk.specs.Tables.{merged_at, kind_on, pairs_on, own_by, reached_by, equalities_at, said_at}
 use Rattle.walk.specs.Tables.{own_at, statements_of, statements_at, before, mask_in}
 use Rattle.walk.specs.Walks.{ReachedAt}
 use Rattle.walk.specs.Ended.{Ended, Reaching, ReachedBy}

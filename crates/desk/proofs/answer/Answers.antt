@@ -1,5 +1,6 @@
 -- What was read is all that the reader had, or enough of it.
-use Rattle.std.proofs.Common.{◌≡◌, ℕ, ◌≤◌, ◌<◌, List, [], ◌++◌, rules, Bool, true, false, leb, arith, refl, length, take, Some, None, IfSome, sym, ap, ◌∙◌, subst, length-take-le, append-nil}
+use Rattle.std.proofs.Common.{◌≡◌, ℕ, ◌≤◌, ◌<◌, List, [], ◌++◌, rules, Bool, true, false, leb}
+use Rattle.std.proofs.Common.{arith, refl, length, take, Some, None, IfSome, sym, ap, ◌∙◌, subst, length-take-le, append-nil}
 use borrow.Author.Tests.{leb-true, leb-false}
 use Rattle.std.specs.Io.KnownBytes.{Appends, Consumes, IsAtEnd}
 use Rattle.std.specs.declared.option.Option.{Option}

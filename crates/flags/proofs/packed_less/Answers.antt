@@ -17,7 +17,13 @@ pub loop-i-preserved : goal.loop-i-preserved
 loop-i-preserved c =
     let few : c.loop-i.i < places = search rules in let p = c.loop-i.invariant.1.flags in (
       search rules,
-      elim c.if-row-i.branch [ then-row-i+then-not-others-i w ↦ rw (w.mask-is, w.with_flag-mask.ensures) (record { flags = flags_set p few (rw (w.if-row-i.true, w.if-not-others-i.true)) }) | then-row-i+else-not-others-i w ↦ rw w.mask-is (record { flags = flags_clear p few (rw (w.if-row-i.true, w.if-not-others-i.false)) }) | else-row-i w ↦ rw w.mask-is (record { flags = flags_clear p few (rw w.if-row-i.false) }) ],
+      elim c.if-row-i.branch [
+        | then-row-i+then-not-others-i w ↦ rw (w.mask-is, w.with_flag-mask.ensures)
+            (record { flags = flags_set p few (rw (w.if-row-i.true, w.if-not-others-i.true)) })
+        | then-row-i+else-not-others-i w ↦ rw w.mask-is
+            (record { flags = flags_clear p few (rw (w.if-row-i.true, w.if-not-others-i.false)) })
+        | else-row-i w ↦ rw w.mask-is (record { flags = flags_clear p few (rw w.if-row-i.false) })
+      ],
     )
 
 pub returns : goal.returns

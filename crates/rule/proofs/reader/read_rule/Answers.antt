@@ -1,6 +1,6 @@
 -- No loop: N, the structures, then M, K and X are checked front to back, in the sections that `pass` found; the first fault is the rule's
 -- (`answer_head`, `answer_structures`, `answer_tail`). Without one, bytes that are left are 2 (`answer_part`), else the rule is accepted
--- (`answer_sound`), with its index (`answer_indexed`). Each of these takes what the calls so far told (`head-told` and so on).
+-- (`answer_sound`), with its index (`answer_indexed`). Each of these takes what the calls so far told.
 use Rattle.rule.proofs.Whole.{read_long, structured}
 use Rattle.rule.proofs.Answering.{answer_head, answer_structures, answer_tail, answer_part, answer_sound, answer_indexed}
 use Rattle.rule.proofs.Bodies.{known_none}

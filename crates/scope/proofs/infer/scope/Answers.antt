@@ -53,7 +53,9 @@ rule_scope-requires c =
 pub returns : goal.returns
 returns c =
     let w = usable_group c.in-Sound-b.is c.read_group-b.ensures.usable in record {
-      result_value = rule_answer _ _ _ _ c.read_signature-a.ensures.result_after c.in-Sound.is c.read_group-b.ensures.result_value c.in-Sound-b.is w c.if-rules-position.false
+      result_value = rule_answer _ _ _ _ c.read_signature-a.ensures.result_after c.in-Sound.is c.read_group-b.ensures.result_value c.in-Sound-b.is w
+          c.if-rules-position.false
           (c.rule_scope.ensures.result_value _ (rule_says c.rule_sections-rule.ensures.sections_at));
-      owners_stand = owners_stand w c.if-rules-position.false c.rule_sections-rule.ensures.sections_at c.rule_sections-rule.ensures.conclusions_value c.rule_scope.result c.rule_scope.ensures.owners_from;
+      owners_stand = owners_stand w c.if-rules-position.false c.rule_sections-rule.ensures.sections_at c.rule_sections-rule.ensures.conclusions_value
+          c.rule_scope.result c.rule_scope.ensures.owners_from;
     }
