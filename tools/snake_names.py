@@ -37,9 +37,6 @@ def files(root):
                 yield os.path.join(folder, n)
 
 
-USE = re.compile(r"(?m)^(?:pub )?(?:ghost )?(?:pub )?use ([^\s{;]+?)(?:\.\{([^}]*)\})?(?: as [^\s;]+)?;?$")
-
-
 def uses(text):
     """Pairs of a module and the names imported from it."""
     for m in re.finditer(r"(?m)^\s*(?:pub )?(?:ghost )?(?:pub )?(?:open )?use ([A-Za-z·_][^\s{;]*?)(?:\.\{([^}]*)\}|(?: as \S+)?;?$)", text):
@@ -159,8 +156,6 @@ def main(argv):
         for module, names in uses(t):
             if not own_module(module, crates):
                 mine |= {n.split(" as ")[-1].strip() for n in names} | {n.split(" as ")[0].strip() for n in names}
-        proof = p.endswith("/Proof.antt")
-
         def turn(m, what):
             n = m.group(1)
             s = snake(n)
@@ -168,7 +163,7 @@ def main(argv):
                 return n
             before = m.string[:m.start()]
             dotted = before.endswith(".")
-            if n in mine and not (dotted and n in fields and False):
+            if n in mine:
                 return n
             if what == "comment" or not antt:
                 # A Rust item keeps its name, whatever a lemma of that name is called now.
