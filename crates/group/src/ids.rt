@@ -1,5 +1,5 @@
 // The number of a variable: its position among the W fields. A type of its own, as those of the signature are.
-#[derive(Clone, Copy)]
+#[derive(Clone, Copy, PartialEq, Eq, PartialOrd, Ord)]
 pub struct VarId(pub u16);
 
 // The letters of the record.

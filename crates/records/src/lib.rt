@@ -4,4 +4,5 @@ pub mod decimal;
 pub mod fields;
 pub mod names;
 pub mod order;
+pub mod refusal;
 pub mod write;

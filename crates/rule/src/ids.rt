@@ -1,6 +1,6 @@
 // The numbers, letters and limits of a rule record, and the layout of its index.
 // An element's number is a type of its own, so that it is never taken for another.
-#[derive(Clone, Copy)]
+#[derive(Clone, Copy, PartialEq, Eq, PartialOrd, Ord)]
 pub struct ElId(pub u16);
 
 // The letters of the record, in their order.

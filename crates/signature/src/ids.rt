@@ -1,12 +1,12 @@
 // The numbers of types, predicates and functions, each a position among the fields of its letter.
 // They are types of their own, so that one is never taken for another.
-#[derive(Clone, Copy)]
+#[derive(Clone, Copy, PartialEq, Eq, PartialOrd, Ord)]
 pub struct TypeId(pub u16);
 
-#[derive(Clone, Copy)]
+#[derive(Clone, Copy, PartialEq, Eq, PartialOrd, Ord)]
 pub struct PredId(pub u16);
 
-#[derive(Clone, Copy)]
+#[derive(Clone, Copy, PartialEq, Eq, PartialOrd, Ord)]
 pub struct FuncId(pub u16);
 
 // How many there are of each.
