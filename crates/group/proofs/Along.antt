@@ -7,9 +7,9 @@ use native.Mathlib.Omega.{arith}
 use lib.ListN.{length, length-append}
 use borrow.Author.Tests.{eq-eqb, ne_eqb}
 use Rattle.definition.specs.Records.{Field, fault_from}
-use Rattle.records.specs.Places.{field_at, field_of, Ahead, Run, none}
+use Rattle.records.specs.Places.{field_at, field_of, Ahead, Run, none, got}
 use Rattle.records.specs.declared.fields.Field as read
-use Rattle.records.specs.declared.fields.Field.TheVariants.{Got, Bad}
+use Rattle.std.proofs.Common.{None}
 use Rattle.records.proofs.Runs.{Behind, run_got, run_bad, run_end, run_snoc}
 use Rattle.group.specs.Sections.{leading, trailing}
 use Rattle.group.specs.Answers.{HereAt, Section}
@@ -19,14 +19,14 @@ use Rattle.group.specs.declared.reader.Here.TheVariants as here
 
 -- What was read at a position, as the letter that was asked for.
 module _ {s : List ℕ} {at letter : ℕ} where
-  pub here_bad : field_at s at ≡ Bad → HereAt here.Nothing s at letter
+  pub here_bad : field_at s at ≡ None → HereAt here.Nothing s at letter
   here_bad e = record { is = λ start len next q. let z : ◌≡◌ {A = ℕ} 0 1 = cc in omega arith }
 
-  module _ {l start len next : ℕ} (e : field_at s at ≡ Got l start len next) where
+  module _ {l start len next : ℕ} (e : field_at s at ≡ got l start len next) where
     pub here_other : (l ≡ letter → ⊥) → HereAt here.Nothing s at letter
     here_other n = record { is = λ start₁ len₁ next₁ q. let z : l ≡ letter = cc in n z }
 
-    pub here_is : l ≡ letter → Ahead (Got l start len next) at (length s) → HereAt (here.Field start len next) s at letter
+    pub here_is : l ≡ letter → Ahead (got l start len next) at (length s) → HereAt (here.Field start len next) s at letter
     here_is q a = record { is = (rw q at e, omega arith, omega arith, omega arith) }
 
   pub here_told : {r : Here} {start len next : ℕ} → r ≡ here.Field start len next → HereAt r s at letter → HereAt (here.Field start len next) s at letter
@@ -59,7 +59,7 @@ module _ {s : List ℕ} {from end letter : ℕ} {check : ℕ → Option Field �
   unfolding leading trailing
   over_end h = let e = run_end w.run h in record { front_over = rw e; back_over = rw e }
 
-  pub over_stop : at < end → {l start len next : ℕ} → field_at s at ≡ Got l start len next → (l ≡ letter → ⊥) → Over
+  pub over_stop : at < end → {l start len next : ℕ} → field_at s at ≡ got l start len next → (l ≡ letter → ⊥) → Over
   unfolding leading trailing
   over_stop lt {l} e q =
       let b = run_got w.run lt e in
@@ -69,8 +69,8 @@ module _ {s : List ℕ} {from end letter : ℕ} {check : ℕ → Option Field �
   over_none lt n = go (field_at s at) refl
     where
       go : (f : read.Field) → field_at s at ≡ f → Over
-      go Bad e = run_bad w.run lt e
-      go (Got l start len next) e = over_stop lt e (λ q. n.is start len next (rw q at e))
+      go None e = run_bad w.run lt e
+      go (got l start len next) e = over_stop lt e (λ q. n.is start len next (rw q at e))
 
   pub over_front : Over → leading letter fs ≡ w.done
   over_front v = w.front ∙ rw (v.front_over, append-nil)
@@ -81,7 +81,7 @@ module _ {s : List ℕ} {from end letter : ℕ} {check : ℕ → Option Field �
       { is = (w.fault ∙ rw v.front_over, rw (over_front v) w.counted, rw (over_front v) w.passed, rw (w.back ∙ v.back_over) w.run) }
 
   module _ (lt : at < end) where
-    module _ {start len next : ℕ} (e : field_at s at ≡ Got letter start len next) where
+    module _ {start len next : ℕ} (e : field_at s at ≡ got letter start len next) where
       -- The first of what is left is of the letter.
       pub first : (b : Behind s end letter start len next w.rest) → leading letter w.rest ≡ field_of s letter start len ∷ leading letter b.rest
       unfolding leading

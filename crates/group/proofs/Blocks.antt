@@ -13,8 +13,7 @@ use Rattle.definition.specs.Signature.{Signature}
 use Rattle.definition.specs.Group.{group_grammar, premise_kinds, conclusion_kinds, flat_rule_fault, statement_fault}
 use Rattle.definition.specs.Scope.{conclusion_at}
 use Rattle.laws.proofs.Lists.{lowest_none}
-use Rattle.records.specs.Places.{two_at, field_at, field_of, Run}
-use Rattle.records.specs.declared.fields.Field.TheVariants.{Got}
+use Rattle.records.specs.Places.{two_at, field_at, field_of, Run, got}
 use Rattle.records.proofs.Link.{got_is}
 use Rattle.records.proofs.Index.{got_field}
 use Rattle.records.proofs.Lists.{keep_append}
@@ -95,7 +94,7 @@ rule_few before f e = leb-false _ _ (lowest_none 4 _ _ (sym e)).0
 
 -- The check of a rule from its U field on.
 module _ (sig : Signature) (variables before : ℕ) {s : List ℕ} {at end : ℕ} {f : Field} {fs : List Field} (r : Run s at end (f ∷ fs)) (o : AtRule (f ∷ fs))
-    {l start len next : ℕ} (e : field_at s at ≡ Got l start len next) where
+    {l start len next : ℕ} (e : field_at s at ≡ got l start len next) where
   -- The checks of the two sections, as the definition has them.
   premise_check : fault_among letter_b (statement_fault sig premise_kinds variables) (up_to letter_u fs)
       ≡ fault_from (statement_fault sig (kinds_of letter_b) variables) 0 none (leading letter_b fs)

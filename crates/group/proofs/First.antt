@@ -6,8 +6,8 @@ use mathlib.Core.Option.{Option, some}
 use mathlib.Core.Option as option
 use mathlib.Core.Path.{◌≡◌, refl, sym, ◌∙◌, ap}
 use Rattle.definition.specs.Records.{Field}
-use Rattle.records.specs.Places.{field_at, field_of, Run, none, more}
-use Rattle.records.specs.declared.fields.Field.TheVariants.{Got, Bad}
+use Rattle.records.specs.Places.{field_at, field_of, Run, none, more, got}
+use Rattle.std.proofs.Common.{None}
 use Rattle.group.specs.Answers.{First, number_of, rule_number_of}
 use Rattle.group.specs.declared.reader.Checked.{Checked}
 use Rattle.group.specs.declared.reader.Ruled.{Ruled}
@@ -15,7 +15,7 @@ use Rattle.group.specs.declared.reader.Ruled.TheVariants as ruled
 use Rattle.group.specs.declared.reader.Checked.TheVariants as checked
 
 -- The first field of a run is the one that is read.
-pub run_cons : {s : List ℕ} {at end l start len next : ℕ} {f : Field} {fs : List Field} → Run s at end (f ∷ fs) → field_at s at ≡ Got l start len next
+pub run_cons : {s : List ℕ} {at end l start len next : ℕ} {f : Field} {fs : List Field} → Run s at end (f ∷ fs) → field_at s at ≡ got l start len next
     → (f ≡ field_of s l start len) × Run s next end fs
 run_cons {s} {at} {end} {l} {start} {len} {next} (more {letter = k} {start = b} {len = n} {next = x} {fs = fs} d r) e =
     let x_is : x ≡ next = cc in
@@ -26,10 +26,10 @@ run_cons {s} {at} {end} {l} {start} {len} {next} (more {letter = k} {start = b} 
 pub run_nil : {s : List ℕ} {at end : ℕ} → Run s at end [] → end ≡ at
 run_nil none = refl
 
-pub run_cons_bad : {A : Type 0} {s : List ℕ} {at end : ℕ} {f : Field} {fs : List Field} → Run s at end (f ∷ fs) → field_at s at ≡ Bad → A
+pub run_cons_bad : {A : Type 0} {s : List ℕ} {at end : ℕ} {f : Field} {fs : List Field} → Run s at end (f ∷ fs) → field_at s at ≡ None → A
 run_cons_bad (more d r) e = let z : ◌≡◌ {A = ℕ} 0 1 = cc in absurd (omega arith)
 
-module _ {s : List ℕ} {at end l start len next : ℕ} {f : Field} {fs : List Field} (r : Run s at end (f ∷ fs)) (e : field_at s at ≡ Got l start len next)
+module _ {s : List ℕ} {at end l start len next : ℕ} {f : Field} {fs : List Field} (r : Run s at end (f ∷ fs)) (e : field_at s at ≡ got l start len next)
     (check : Field → Option ℕ) where
   pub first_fault : {n : ℕ} → ((letter : ℕ) → some n ≡ check (field_of s letter start len)) → First (checked.Refused n) s at end (check f) f fs
   first_fault k = record { is = ap check (run_cons r e).0 ∙ sym (k l) }

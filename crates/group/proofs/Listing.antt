@@ -14,9 +14,8 @@ use Rattle.definition.specs.Records.{Field}
 use Rattle.definition.specs.Signature.{Signature}
 use Rattle.definition.specs.Group.{variable_fault, variable_of}
 use Rattle.laws.proofs.Lists.{lowest_none}
-use Rattle.records.specs.Places.{field_at, field_of, Run}
+use Rattle.records.specs.Places.{field_at, field_of, Run, got}
 use Rattle.records.specs.Held.{held_at}
-use Rattle.records.specs.declared.fields.Field.TheVariants.{Got}
 use Rattle.records.proofs.Link.{got_is}
 use Rattle.records.proofs.Numbers.{length_stretch}
 use Rattle.records.proofs.Index.{got_field, held_store}
@@ -67,7 +66,7 @@ stored_start l = record { size = l; few = omega arith; each = λ i h. absurd (om
 
 -- A field without a fault, for some signature, is stored.
 pub stored_next : {s index : List ℕ} {count letter start len next : ℕ} (sig : Signature) (at : ℕ) → Stored s index count
-    → field_at s at ≡ Got letter start len next
+    → field_at s at ≡ got letter start len next
     → none ≡ variable_fault sig count none (field_of s letter start len) → Stored s (set index (variables_from + count) at) (count + 1)
 stored_next {s} {index} {count} {letter} {start} {len} sig at w e k =
     let g = got_is s at e in
@@ -100,7 +99,7 @@ module _ {sig : Signature} {s index : List ℕ} {from end : ℕ} {fs : List Fiel
   pub listing_fault : {n : ℕ} → Section (checked.Refused n) s from end letter_w (variable_fault sig) fs → Variable (checked.Refused n) sig s index from end fs
   listing_fault q = record { section = q; listed = tt }
 
-  pub listing_next : at < end → {start len next : ℕ} → variables_from + count < length index → field_at s at ≡ Got letter_w start len next
+  pub listing_next : at < end → {start len next : ℕ} → variables_from + count < length index → field_at s at ≡ got letter_w start len next
       → ((last : Option Field) → none ≡ variable_fault sig count last (field_of s letter_w start len))
       → Listing sig s (set index (variables_from + count) at) from end fs next (count + 1)
   unfolding along_next

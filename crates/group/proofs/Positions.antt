@@ -10,8 +10,7 @@ use Rattle.definition.specs.Base.{pick, cons_if, keep}
 use Rattle.definition.specs.Letters.{letter_u, letter_h}
 use Rattle.definition.specs.Records.{Field, with_letter}
 use Rattle.definition.specs.Scope.{field_size, conclusion_at}
-use Rattle.records.specs.Places.{field_at, field_of, Run, none, more}
-use Rattle.records.specs.declared.fields.Field.TheVariants.{Got}
+use Rattle.records.specs.Places.{field_at, field_of, Run, none, more, got}
 use Rattle.records.proofs.Link.{got_is}
 use Rattle.records.proofs.Numbers.{length_stretch}
 use Rattle.group.specs.Sections.{leading}
@@ -22,7 +21,7 @@ sought_of zero = letter_h
 sought_of (suc r) = letter_u
 
 -- A field's bytes end where the next one starts.
-field_end : (s : List ℕ) (at : ℕ) {letter start len next : ℕ} → field_at s at ≡ Got letter start len next → at + field_size (field_of s letter start len) ≡ next
+field_end : (s : List ℕ) (at : ℕ) {letter start len next : ℕ} → field_at s at ≡ got letter start len next → at + field_size (field_of s letter start len) ≡ next
 field_end s at {letter} {start} {len} e = let g = got_is s at e in let l = length_stretch s start len (omega arith) in omega arith
 
 -- The first is of another letter.
@@ -49,7 +48,7 @@ passed_over {s} (more {at = at} {letter = l} {start = b} {len = n} {next = x} {f
     step (suc r) e = ap (λ (t : Bool). conclusion_at (pick t r (suc r)) (xs ++ ys) (at + field_size (field_of s l b n))) e
 
 -- A rule begins with its U field.
-pub begun : (s : List ℕ) (at : ℕ) {l start len next : ℕ} → field_at s at ≡ Got l start len next → l ≡ letter_u → (r : ℕ) (ys : List Field)
+pub begun : (s : List ℕ) (at : ℕ) {l start len next : ℕ} → field_at s at ≡ got l start len next → l ≡ letter_u → (r : ℕ) (ys : List Field)
     → conclusion_at (suc r) (field_of s l start len ∷ ys) at ≡ conclusion_at r ys next
 unfolding conclusion_at
 begun s at {l} e u r ys = rw (eq-eqb l letter_u u, field_end s at e)

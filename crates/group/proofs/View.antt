@@ -13,8 +13,7 @@ use Rattle.definition.specs.Signature.{Signature, symbol_count}
 use Rattle.definition.specs.Group as definition
 use Rattle.definition.specs.Group.{statement_of, flat_rule_of, group_part}
 use Rattle.records.specs.Held.{field_in}
-use Rattle.records.specs.Places.{two_at, stretch, field_at, field_of, Run, none, more}
-use Rattle.records.specs.declared.fields.Field.TheVariants.{Got}
+use Rattle.records.specs.Places.{two_at, stretch, field_at, field_of, Run, none, more, got}
 use Rattle.records.proofs.Link.{got_is}
 use Rattle.records.proofs.Numbers.{length_stretch}
 use Rattle.records.proofs.Runs.{run_le}
@@ -33,7 +32,7 @@ pub record FieldHere (s : List ℕ) (at end : ℕ) (fs : List Field) : Type 0 wh
   pub run : Run s (at + 3 + two_at s (at + 1)) end rest
   pub within : at + 3 + two_at s (at + 1) ≤ length s
 
-got_field : (s : List ℕ) (at : ℕ) {letter start len next : ℕ} → field_at s at ≡ Got letter start len next → field_in s at ≡ field_of s letter start len
+got_field : (s : List ℕ) (at : ℕ) {letter start len next : ℕ} → field_at s at ≡ got letter start len next → field_in s at ≡ field_of s letter start len
 unfolding field_in
 got_field s at e = let g = got_is s at e in rw (g.letter_is, g.start_is, g.len_is)
 

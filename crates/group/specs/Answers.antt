@@ -8,8 +8,7 @@ use Rattle.definition.specs.Records.{Field, Block, fault_from, with_letter, up_t
 use Rattle.definition.specs.Signature.{Signature, type_parents, arity}
 use Rattle.definition.specs.Group.{Group, group_of, group_part, variable_fault, flat_rules_fault}
 use Rattle.definition.specs.Scope.{conclusion_at}
-use Rattle.records.specs.Places.{two_at, field_at, Run}
-use Rattle.records.specs.declared.fields.Field.TheVariants.{Got}
+use Rattle.records.specs.Places.{two_at, field_at, Run, got}
 use Rattle.records.specs.Held.{field_in}
 use Rattle.group.specs.Sections.{leading, trailing, AtRule, block_fault}
 use Rattle.group.specs.Index.{rules_from, Variables, RuleSound, FirstConclusion, no_block, Rules, Indexed}
@@ -47,8 +46,8 @@ columns_differ sig kind symbol columns = not (eqb columns (arity sig kind symbol
 
 -- A field of a letter stands at a position and lies in the record, or none of that letter stands there.
 abbrev HereAs : Here → List ℕ → ℕ → ℕ → Type 0
-HereAs (here.Field start len next) s at letter = (field_at s at ≡ Got letter start len next) × (at < next) × (start + len ≤ length s) × (next ≤ length s)
-HereAs here.Nothing s at letter = (start len next : ℕ) → field_at s at ≡ Got letter start len next → ⊥
+HereAs (here.Field start len next) s at letter = (field_at s at ≡ got letter start len next) × (at < next) × (start + len ≤ length s) × (next ≤ length s)
+HereAs here.Nothing s at letter = (start len next : ℕ) → field_at s at ≡ got letter start len next → ⊥
 
 pub record HereAt (r : Here) (s : List ℕ) (at letter : ℕ) : Type 0 where
   pub is : HereAs r s at letter

@@ -7,8 +7,8 @@ use lib.ListN.{length}
 use Rattle.definition.specs.Base.{each}
 use Rattle.definition.specs.Records.{Field, with_letter}
 use Rattle.definition.specs.Rule.{map_of, kind_of, auxiliary_of, rule_part, rule_of}
-use Rattle.records.specs.Places.{field_at, field_of, Run}
-use Rattle.records.specs.declared.fields.Field.TheVariants.{Got, Bad}
+use Rattle.records.specs.Places.{field_at, field_of, Run, got}
+use Rattle.std.proofs.Common.{None}
 use Rattle.records.proofs.Link.{got_is}
 use Rattle.records.proofs.Runs.{run_got, run_bad, run_end}
 use Rattle.rule.specs.Layout.{letter_at, place_m, place_k, place_x}
@@ -34,10 +34,10 @@ module _ {A : Type 0} {s : List ℕ} {of : Field → A} {least to at : ℕ} {xs 
   values_end h = w.same ∙ rw (run_end w.run h)
 
   module _ (lt : at < to) where
-    pub values_bad : {B : Type 0} → field_at s at ≡ Bad → B
+    pub values_bad : {B : Type 0} → field_at s at ≡ None → B
     values_bad e = run_bad w.run lt e
 
-    module _ {letter start len next : ℕ} (e : field_at s at ≡ Got letter start len next) where
+    module _ {letter start len next : ℕ} (e : field_at s at ≡ got letter start len next) where
       pub values_inside : start + len ≤ length s
       values_inside = let g = got_is s at e in omega arith
 
@@ -101,7 +101,7 @@ module _ {A B : Type 0} {s : List ℕ} {of : Field → A} {least to at : ℕ} {a
   pub asked_end : to ≤ at → ask all ≡ ask []
   asked_end h = w.left ∙ ap ask (values_end w.values h)
 
-  module _ (lt : at < to) {letter start len next : ℕ} (e : field_at s at ≡ Got letter start len next) where
+  module _ (lt : at < to) {letter start len next : ℕ} (e : field_at s at ≡ got letter start len next) where
     -- The field answers it,
     pub answered : {b : B} → ((rest : List A) → ask (of (field_of s letter start len) ∷ rest) ≡ b) → ask all ≡ b
     answered h = let n = values_next w.values lt e in w.left ∙ ap ask n.same ∙ h n.rest

@@ -9,8 +9,7 @@ use Rattle.definition.specs.Base.{or_else, or_default, first_of, ◌∈◌}
 use Rattle.definition.specs.Limits.{structure_limit}
 use Rattle.definition.specs.Rule.{Map, Kind, Auxiliary, kind_of, auxiliary_of}
 use Rattle.definition.specs.Walk.{incoming_source, auxiliary_kind, add_pair, completed}
-use Rattle.records.specs.Places.{field_at, field_of}
-use Rattle.records.specs.declared.fields.Field.TheVariants.{Got}
+use Rattle.records.specs.Places.{field_at, field_of, got}
 use Rattle.rule.specs.Lookup.{Ready, rule_at}
 use Rattle.laws.proofs.KindTable.{added_at}
 use Rattle.laws.specs.KindTable.{kind_of_pair, kind_at}
@@ -47,7 +46,7 @@ module _ {s : List ℕ} {to at : ℕ} {table : List (List ℕ)} (w : Storing s t
   store_end h = let e = values_end w.values h in
       tabled_as w.tabled (λ source target. w.left source target ∙ rw e (or_none (kind_at w.done source target)))
 
-  module _ (lt : at < to) {letter start len next : ℕ} (e : field_at s at ≡ Got letter start len next) where
+  module _ (lt : at < to) {letter start len next : ℕ} (e : field_at s at ≡ got letter start len next) where
     abbrev kind : Kind
     kind = kind_of (field_of s letter start len)
 
@@ -101,7 +100,7 @@ module _ {s : List ℕ} {to at : ℕ} {table : List (List ℕ)} (w : Completing 
   unfolding completed
   complete_end h = let e = values_end w.values h in let q : completed (rule_at s).maps w.done w.rest ≡ w.done = rw e in rw (w.left ∙ q) w.tabled
 
-  module _ (lt : at < to) {letter start len next : ℕ} (e : field_at s at ≡ Got letter start len next) where
+  module _ (lt : at < to) {letter start len next : ℕ} (e : field_at s at ≡ got letter start len next) where
     abbrev auxiliary : Auxiliary
     auxiliary = auxiliary_of (field_of s letter start len)
 

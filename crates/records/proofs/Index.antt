@@ -8,13 +8,12 @@ use mathlib.Core.Path.{◌≡◌, refl, ap}
 use lib.ListN.{length, get_or, set}
 use lib.Seq.{get_or-set_same, get_or-set_other}
 use Rattle.definition.specs.Records.{Field}
-use Rattle.records.specs.Places.{field_at, field_of}
+use Rattle.records.specs.Places.{field_at, field_of, got}
 use Rattle.records.specs.Held.{field_in, held_at}
-use Rattle.records.specs.declared.fields.Field.TheVariants.{Got}
 use Rattle.records.proofs.Link.{got_is}
 
 -- The field at a position is the one that is read there.
-pub got_field : (s : List ℕ) (p : ℕ) {letter start len next : ℕ} → field_at s p ≡ Got letter start len next → field_in s p ≡ field_of s letter start len
+pub got_field : (s : List ℕ) (p : ℕ) {letter start len next : ℕ} → field_at s p ≡ got letter start len next → field_in s p ≡ field_of s letter start len
 unfolding field_in
 got_field s p e = let g = got_is s p e in rw (g.letter_is, g.start_is, g.len_is)
 

@@ -12,3 +12,4 @@ pub mod Tail
 pub mod Copying
 pub mod Digits
 pub mod Parts
+mod Slices

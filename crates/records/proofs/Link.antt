@@ -5,7 +5,7 @@ use native.Mathlib.Numerals.{add-one}
 use mathlib.Core.Bool.{Bool, true, false}
 use mathlib.Core.List.{List, [], ◌∷◌}
 use mathlib.Core.Logic.{◌⊎◌, inl, inr, ⊎_elim}
-use mathlib.Core.Path.{◌≡◌, refl, ◌∙◌}
+use mathlib.Core.Path.{◌≡◌, refl, ◌∙◌, ap}
 use lib.Dec.{ltb}
 use lib.ListN.{length, get_or, take, drop, length-drop}
 use lib.Seq.{drop-cons, drop-drop}
@@ -13,9 +13,9 @@ use borrow.Author.Tests.{ltb-false, ltb-true, le-leb, lt-leb}
 use Rattle.definition.specs.Base.{pick}
 use Rattle.definition.specs.Records.{end, bad, ◌▸◌, cut, fields_of}
 use Rattle.laws.proofs.Numbers.{cut_same}
-use Rattle.records.specs.Places.{two_at, stretch, field_at, fields_at, field_of}
+use Rattle.records.specs.Places.{two_at, stretch, field_at, fields_at, field_of, got}
 use Rattle.records.specs.declared.fields.Field as read
-use Rattle.records.specs.declared.fields.Field.TheVariants.{Got, Bad}
+use Rattle.std.proofs.Common.{Option, Some, None}
 
 -- A field that was read, and where it lies.
 pub record GotAt (s : List ℕ) (at letter start len next : ℕ) : Type 0 where
@@ -25,32 +25,52 @@ pub record GotAt (s : List ℕ) (at letter start len next : ℕ) : Type 0 where
   pub next_is : start + len ≡ next
   pub within : next ≤ length s
 
--- What a reading tells: of Bad, that fewer than three bytes are left, or fewer than its length says.
-abbrev Seen : List ℕ → ℕ → read.Field → Type 0
-Seen s at Bad = (length s < at + 3) ⊎ ((at + 3 ≤ length s) × (length s < at + 3 + two_at s (at + 1)))
-Seen s at (Got letter start len next) = GotAt s at letter start len next
+-- What a reading tells: of none, that fewer than three bytes are left, or fewer than its length says.
+abbrev Seen : List ℕ → ℕ → Option read.Field → Type 0
+Seen s at None = (length s < at + 3) ⊎ ((at + 3 ≤ length s) × (length s < at + 3 + two_at s (at + 1)))
+Seen s at (Some f) = GotAt s at f.letter f.start f.len f.next
 
 module _ (s : List ℕ) (at : ℕ) where
   seen : Seen s at (field_at s at)
   unfolding field_at
-  seen = go (ltb (length s) at) (ltb (length s - at) 3) (ltb (length s - (at + 3)) (two_at s (at + 1))) refl refl refl
+  seen = go (ltb (length s - at) 3) (ltb (length s - (at + 3)) (two_at s (at + 1))) refl refl
     where
-      go : (a b d : Bool) → ltb (length s) at ≡ a → ltb (length s - at) 3 ≡ b → ltb (length s - (at + 3)) (two_at s (at + 1)) ≡ d
-          → Seen s at (pick a Bad (pick b Bad (pick d Bad (Got (get_or s at 0) (at + 3) (two_at s (at + 1)) (at + 3 + two_at s (at + 1))))))
-      go true b d p q r = inl (omega (arith, ltb-true))
-      go false true d p q r = inl (omega (arith, ltb-true))
-      go false false true p q r = inr (omega (arith, ltb-false), omega (arith, ltb-true, ltb-false))
-      go false false false p q r = record { letter_is = refl; start_is = refl; len_is = refl; next_is = refl; within = omega (arith, ltb-false) }
+      go : (b d : Bool) → ltb (length s - at) 3 ≡ b → ltb (length s - (at + 3)) (two_at s (at + 1)) ≡ d
+          → Seen s at (pick b None (pick d None (got (get_or s at 0) (at + 3) (two_at s (at + 1)) (at + 3 + two_at s (at + 1)))))
+      go true d q r = inl (omega (arith, ltb-true))
+      go false true q r = inr (omega (arith, ltb-false), omega (arith, ltb-true, ltb-false))
+      go false false q r = record { letter_is = refl; start_is = refl; len_is = refl; next_is = refl; within = omega (arith, ltb-false) }
 
-  pub got_is : {letter start len next : ℕ} → field_at s at ≡ Got letter start len next → GotAt s at letter start len next
+  pub got_is : {letter start len next : ℕ} → field_at s at ≡ got letter start len next → GotAt s at letter start len next
   got_is e = rw e at seen
 
-  bad_is : field_at s at ≡ Bad → (length s < at + 3) ⊎ ((at + 3 ≤ length s) × (length s < at + 3 + two_at s (at + 1)))
+  bad_is : field_at s at ≡ None → (length s < at + 3) ⊎ ((at + 3 ≤ length s) × (length s < at + 3 + two_at s (at + 1)))
   bad_is e = rw e at seen
 
+-- Fields that are read alike are alike.
+part_of : (read.Field → ℕ) → Option read.Field → ℕ
+part_of part None = 0
+part_of part (Some f) = part f
+
+pub record SameGot (letter start len next l b n x : ℕ) : Type 0 where
+  pub letter_is : l ≡ letter
+  pub start_is : b ≡ start
+  pub len_is : n ≡ len
+  pub next_is : x ≡ next
+
+pub got_same : {letter start len next l b n x : ℕ} → got l b n x ≡ got letter start len next → SameGot letter start len next l b n x
+unfolding part_of
+got_same e =
+    record {
+      letter_is = ap (part_of (λ f. f.letter)) e;
+      start_is = ap (part_of (λ f. f.start)) e;
+      len_is = ap (part_of (λ f. f.len)) e;
+      next_is = ap (part_of (λ f. f.next)) e;
+    }
+
 -- A field whose letter was tested.
-pub got_letter : (s : List ℕ) (at : ℕ) {l letter start len next : ℕ} → field_at s at ≡ Got l start len next → l ≡ letter
-    → field_at s at ≡ Got letter start len next
+pub got_letter : (s : List ℕ) (at : ℕ) {l letter start len next : ℕ} → field_at s at ≡ got l start len next → l ≡ letter
+    → field_at s at ≡ got letter start len next
 got_letter s at e q = e ∙ rw q
 
 -- A byte at a position, and the rest; three bytes.
@@ -89,7 +109,7 @@ module _ (s : List ℕ) (at : ℕ) where
   unfolding fields_at
   turn = cut_same (length s) (suc (length s)) (drop at s) (omega (arith, left)) (omega (arith, left))
 
-  pub fields_bad : at < length s → field_at s at ≡ Bad → fields_at s at ≡ bad
+  pub fields_bad : at < length s → field_at s at ≡ None → fields_at s at ≡ bad
   fields_bad lt e = turn ∙ ⊎_elim few cut_off (bad_is s at e)
     where
       few : length s < at + 3 → cut (suc (length s)) (drop at s) ≡ bad
@@ -98,7 +118,7 @@ module _ (s : List ℕ) (at : ℕ) where
       cut_off : (at + 3 ≤ length s) × (length s < at + 3 + two_at s (at + 1)) → cut (suc (length s)) (drop at s) ≡ bad
       cut_off h = rw (three s at h.0) (long (length s) _ _ _ _ (omega (arith, length-drop (at + 3) s, h.1)))
 
-  pub fields_got : {letter start len next : ℕ} → field_at s at ≡ Got letter start len next
+  pub fields_got : {letter start len next : ℕ} → field_at s at ≡ got letter start len next
       → fields_at s at ≡ field_of s letter start len ▸ fields_at s next
   unfolding fields_at stretch
   fields_got {letter} {start} {len} {next} e =

@@ -8,8 +8,8 @@ use lib.ListN.{length}
 use Rattle.definition.specs.Base.{has}
 use Rattle.definition.specs.Letters.{start}
 use Rattle.definition.specs.Records.{Field, Part, Grammar, follows, in_front, placed, fields_of}
-use Rattle.records.specs.Places.{field_at, fields_at, field_of, Run, none, Parted}
-use Rattle.records.specs.declared.fields.Field.TheVariants.{Got, Bad}
+use Rattle.records.specs.Places.{field_at, fields_at, field_of, Run, none, Parted, got}
+use Rattle.std.proofs.Common.{None}
 use Rattle.records.proofs.Link.{got_is, fields_bad, fields_got, fields_end, fields_all}
 use Rattle.records.proofs.Runs.{run_snoc}
 
@@ -50,7 +50,7 @@ module _ {g : Grammar} {s : List ℕ} {part : Part} {behind at : ℕ} {passed : 
       record { parted = record { run = rw q p.run; within = p.within; same = rw q }; fields = rw q }
 
   -- A field whose letter may stand here is passed.
-  pub placing_next : {letter start len next : ℕ} → field_at s at ≡ Got letter start len next → follows g.places behind letter ≡ true
+  pub placing_next : {letter start len next : ℕ} → field_at s at ≡ got letter start len next → follows g.places behind letter ≡ true
       → Placing g s part letter next (passed ++ (field_of s letter start len ∷ []))
   unfolding placed
   placing_next {letter} {start} {len} {next} e f = record {
@@ -60,12 +60,12 @@ module _ {g : Grammar} {s : List ℕ} {part : Part} {behind at : ℕ} {passed : 
   }
 
   -- Any other ends the part, as does one that passes the end of the record.
-  pub placing_stop : {letter start len next : ℕ} → field_at s at ≡ Got letter start len next → follows g.places behind letter ≡ false
+  pub placing_stop : {letter start len next : ℕ} → field_at s at ≡ got letter start len next → follows g.places behind letter ≡ false
       → Placed s part at false passed
   unfolding placed
   placing_stop e f = placing_done false (rw (fields_got s at e, f))
 
-  pub placing_bad : at < length s → field_at s at ≡ Bad → Placed s part at false passed
+  pub placing_bad : at < length s → field_at s at ≡ None → Placed s part at false passed
   unfolding placed
   placing_bad h e = placing_done false (rw (fields_bad s at h e))
 

@@ -2,12 +2,12 @@
 use Prim.Native.Nat.{ℕ, ◌≤◌, ◌<◌}
 use native.Mathlib.Omega.{arith}
 use mathlib.Core.List.{List, [], ◌∷◌, ◌++◌}
-use mathlib.Core.Path.{◌≡◌, refl, sym}
+use mathlib.Core.Path.{◌≡◌, refl, sym, ◌∙◌}
 use lib.ListN.{length}
 use Rattle.definition.specs.Records.{Field}
-use Rattle.records.specs.Places.{field_at, field_of, Run, none, more}
-use Rattle.records.specs.declared.fields.Field.TheVariants.{Got, Bad}
-use Rattle.records.proofs.Link.{got_is}
+use Rattle.records.specs.Places.{field_at, field_of, Run, none, more, got}
+use Rattle.std.proofs.Common.{None}
+use Rattle.records.proofs.Link.{got_is, got_same}
 
 -- The first field of a run, and the run behind it.
 pub record Behind (s : List ℕ) (end letter start len next : ℕ) (fs : List Field) : Type 0 where
@@ -45,7 +45,7 @@ module _ {s : List ℕ} where
   run_append (more e q) r = more e (run_append q r)
 
   -- One field more.
-  pub run_snoc : {at end letter start len next : ℕ} {fs : List Field} → Run s at end fs → field_at s end ≡ Got letter start len next
+  pub run_snoc : {at end letter start len next : ℕ} {fs : List Field} → Run s at end fs → field_at s end ≡ got letter start len next
       → Run s at next (fs ++ (field_of s letter start len ∷ []))
   run_snoc r e = run_append r (more e none)
 
@@ -54,17 +54,16 @@ module _ {s : List ℕ} where
   run_end none h = refl
   run_end (more {at} e r) h = let g = got_is s at e in let l = run_le r in absurd (omega arith)
 
-  pub run_bad : {A : Type 0} {at end : ℕ} {fs : List Field} → Run s at end fs → at < end → field_at s at ≡ Bad → A
+  pub run_bad : {A : Type 0} {at end : ℕ} {fs : List Field} → Run s at end fs → at < end → field_at s at ≡ None → A
   run_bad none h e = absurd (omega arith)
   run_bad (more d r) h e = let z : ◌≡◌ {A = ℕ} 0 1 = cc in absurd (omega arith)
 
-  pub run_got : {at end letter start len next : ℕ} {fs : List Field} → Run s at end fs → at < end → field_at s at ≡ Got letter start len next
+  pub run_got : {at end letter start len next : ℕ} {fs : List Field} → Run s at end fs → at < end → field_at s at ≡ got letter start len next
       → Behind s end letter start len next fs
   run_got none h e = absurd (omega arith)
   run_got {end = end} {letter} {start} {len} {next} (more {letter = l} {start = b} {len = n} {next = x} {fs = gs} d r) h e =
-      let x_is : x ≡ next = cc in
-      let same : field_of s l b n ∷ gs ≡ field_of s letter start len ∷ gs = cc in
-      record { rest = gs; same = same; run = rw x_is at r }
+      let g = got_same (sym d ∙ e) in
+      record { rest = gs; same = rw (g.letter_is, g.start_is, g.len_is) refl; run = rw g.next_is at r }
 
   pub run_starts : {at end next : ℕ} {f : Field} {fs : List Field} → Run s at end fs → at < end → Run s at next (f ∷ []) → StartsWith s end next f fs
   run_starts r h (more e none) = let b = run_got r h e in record { rest = b.rest; same = b.same; run = b.run; within = run_le b.run }

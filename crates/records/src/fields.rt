@@ -4,14 +4,11 @@ ghost use Rattle.records.specs.Places.{two_at, field_at, Ahead};
 
 // A field that stands in a record: its letter, where its content starts and how long it is, where the next field starts.
 #[derive(Clone, Copy)]
-pub enum Field {
-    Got {
-        letter: u8,
-        start: usize,
-        len: usize,
-        next: usize,
-    },
-    Bad,
+pub struct Field {
+    pub letter: u8,
+    pub start: usize,
+    pub len: usize,
+    pub next: usize,
 }
 
 // A byte as a length or a place.
@@ -40,7 +37,7 @@ pub fn num(s: &[u8], at: usize) -> u16
     requires { at + 2 ≤ length s.now }
     ensures { result ≡ two_at s.now at }
 {
-    short(s[at]) * 256 + short(s[at + 1])
+    u16::from_be_bytes([s[at], s[at + 1]])
 }
 
 // The same as a length or a place.
@@ -49,29 +46,26 @@ pub fn two(s: &[u8], at: usize) -> usize
     ensures value { result ≡ two_at s.now at }
     ensures upper_bound { result < 65536 }
 {
-    place(num(s, at))
+    usize::from(num(s, at))
 }
 
-// The field that starts at a position; Bad where it passes the end.
-pub fn read_field(s: &[u8], at: usize) -> Field
+// The field that starts at a position; none where it passes the end.
+pub fn read_field(s: &[u8], at: usize) -> Option<Field>
     ensures value { result ≡ field_at s.now at }
     ensures ahead { Ahead result at (length s.now) }
 {
-    if s.len() < at {
-        return Field::Bad;
-    }
-    if s.len() - at < 3 {
-        return Field::Bad;
+    if s.len().saturating_sub(at) < 3 {
+        return None;
     }
     let len = two(s, at + 1);
     let start = at + 3;
     if s.len() - start < len {
-        return Field::Bad;
+        return None;
     }
-    Field::Got {
+    Some(Field {
         letter: s[at],
         start,
         len,
         next: start + len,
-    }
+    })
 }

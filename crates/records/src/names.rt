@@ -1,6 +1,6 @@
 // Names: their lengths and their bytes.
-ghost use Rattle.std.specs.Prelude.{◌≡◌, not, ◌+◌, ◌≤◌, ◌<◌, length};
-ghost use Rattle.definition.specs.Base.{all};
+ghost use Rattle.std.specs.Prelude.{◌≡◌, ◌+◌, ◌≤◌, ◌<◌, length};
+ghost use Rattle.std.specs.List.{list_all};
 ghost use Rattle.definition.specs.Records.{bad_name, name_byte};
 ghost use Rattle.records.specs.Places.{stretch};
 
@@ -9,23 +9,12 @@ pub const FIRST_NAME_BYTE: u8 = 33;
 
 pub const LAST_NAME_BYTE: u8 = 126;
 
-// Has the stretch a byte that no name may have?
-fn bad_bytes(s: &[u8], start: usize, len: usize) -> bool
-    requires { start + len ≤ length s.now }
-    ensures { result ≡ not (all name_byte (stretch s.now start len)) }
+// May a name have all of these bytes?
+fn all_name_bytes(name: &[u8]) -> bool
+    ensures { result ≡ list_all name_byte name.now }
 {
-    let mut i: usize = 0;
-    while i < len {
-        let b = s[start + i];
-        if b < FIRST_NAME_BYTE {
-            return true;
-        }
-        if LAST_NAME_BYTE < b {
-            return true;
-        }
-        i += 1;
-    }
-    false
+    name.iter()
+        .all(|b| FIRST_NAME_BYTE <= *b && *b <= LAST_NAME_BYTE)
 }
 
 // Is the stretch no name of at least the shortest and at most the longest length?
@@ -39,5 +28,5 @@ pub fn bad_name(s: &[u8], start: usize, len: usize, shortest: usize, longest: us
     if longest < len {
         return true;
     }
-    bad_bytes(s, start, len)
+    !all_name_bytes(&s[start..start + len])
 }

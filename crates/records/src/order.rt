@@ -11,22 +11,7 @@ pub fn less_bytes(s: &[u8], a: usize, m: usize, b: usize, n: usize) -> bool
     requires { (a + m ≤ length s.now) × (b + n ≤ length s.now) }
     ensures { result ≡ less (stretch s.now a m) (stretch s.now b n) }
 {
-    let mut i: usize = 0;
-    while i < m {
-        if n <= i {
-            return false;
-        }
-        let x = s[a + i];
-        let y = s[b + i];
-        if x < y {
-            return true;
-        }
-        if y < x {
-            return false;
-        }
-        i += 1;
-    }
-    i < n
+    s[a..a + m] < s[b..b + n]
 }
 
 // Are they the same bytes?
@@ -34,17 +19,7 @@ pub fn same_bytes(s: &[u8], a: usize, m: usize, b: usize, n: usize) -> bool
     requires { (a + m ≤ length s.now) × (b + n ≤ length s.now) }
     ensures { result ≡ same_list (stretch s.now a m) (stretch s.now b n) }
 {
-    if m != n {
-        return false;
-    }
-    let mut i: usize = 0;
-    while i < m {
-        if s[a + i] != s[b + i] {
-            return false;
-        }
-        i += 1;
-    }
-    true
+    s[a..a + m] == s[b..b + n]
 }
 
 // The order of the numbers that stand there: with the high byte first they compare like their bytes. An odd byte at the end is no number.
@@ -60,13 +35,10 @@ pub fn named(s: &[u8], start: usize, len: usize, limit: usize) -> bool
     requires { start + len ≤ length s.now }
     ensures { result ≡ all (λ (n : ℕ). ltb n limit) (numbers (stretch s.now start len)) }
 {
-    let count = len >> 1;
-    let mut i: usize = 0;
-    while i < count {
+    for i in 0..len >> 1 {
         if limit <= two(s, start + 2 * i) {
             return false;
         }
-        i += 1;
     }
     true
 }

@@ -13,20 +13,14 @@ pub fn past(at: usize, k: usize) -> usize
     requires { (at ≤ count_limit) × (k ≤ count_limit) }
     ensures { result ≡ capped (at + k) }
 {
-    if COUNT_LIMIT - at < k {
-        return COUNT_LIMIT;
-    }
-    at + k
+    (at + k).min(COUNT_LIMIT)
 }
 
 // Where the rest of a buffer from at on begins; behind its end there is none.
 pub fn rest_at(at: usize, len: usize) -> usize
     ensures { result ≡ min at len }
 {
-    if at < len {
-        return at;
-    }
-    len
+    at.min(len)
 }
 
 // One byte.
@@ -49,8 +43,7 @@ pub fn put_num(out: &mut [u8], at: usize, v: u16) -> usize
 {
     let end = past(at, 2);
     if at + 2 <= out.len() {
-        out[at] = (v >> 8) as u8;
-        out[at + 1] = (v & 255) as u8;
+        [out[at], out[at + 1]] = v.to_be_bytes();
         return end;
     }
     end
@@ -65,18 +58,6 @@ pub fn put_field_head(out: &mut [u8], at: usize, letter: u8, len: u16) -> usize
     put_num(out, behind, len)
 }
 
-// The bytes of a stretch of another slice, stored one behind the other.
-fn copy_bytes(out: &mut [u8], at: usize, s: &[u8], start: usize, len: usize)
-    requires { (at + len ≤ length out.old) × (start + len ≤ length s.now) }
-    ensures { out.new ≡ paste out.old at (drop start s.now) len }
-{
-    let mut i: usize = 0;
-    while i < len {
-        out[at + i] = s[start + i];
-        i += 1;
-    }
-}
-
 // A stretch of another slice: all of it where it fits, so that room is asked for once.
 pub fn put_bytes(out: &mut [u8], from: usize, s: &[u8], start: usize, len: usize) -> usize
     requires { (from ≤ count_limit) × (start + len ≤ length s.now) }
@@ -87,7 +68,7 @@ pub fn put_bytes(out: &mut [u8], from: usize, s: &[u8], start: usize, len: usize
     }
     let end = from + len;
     if end <= out.len() {
-        copy_bytes(out, from, s, start, len);
+        out[from..end].copy_from_slice(&s[start..start + len]);
         return end;
     }
     end

@@ -15,9 +15,9 @@ use Rattle.definition.specs.Limits.{field_limit}
 use Rattle.definition.specs.Records.{Field, number_at, with_letter}
 use Rattle.definition.specs.Rule.{named_elements}
 use Rattle.laws.proofs.Lists.{length_each, get_d_each}
-use Rattle.records.specs.Places.{two_at, stretch, field_at, field_of, Run}
+use Rattle.records.specs.Places.{two_at, stretch, field_at, field_of, Run, got}
 use Rattle.records.specs.Held.{field_in}
-use Rattle.records.specs.declared.fields.Field.TheVariants.{Got, Bad}
+use Rattle.std.proofs.Common.{None}
 use Rattle.records.proofs.Link.{got_is}
 use Rattle.records.proofs.Numbers.{length_stretch, number_in}
 use Rattle.records.proofs.Index.{length_held, held_get}
@@ -138,10 +138,10 @@ module _ {s : List ℕ} {to e at : ℕ} {body : List Field} (w : Scanning s to e
   scan_end h = w.left ∙ rw (run_end w.run h)
 
   module _ (lt : at < to) where
-    pub scan_bad : {A : Type 0} → field_at s at ≡ Bad → A
+    pub scan_bad : {A : Type 0} → field_at s at ≡ None → A
     scan_bad e = run_bad w.run lt e
 
-    module _ {letter start len next : ℕ} (g : field_at s at ≡ Got letter start len next) where
+    module _ {letter start len next : ℕ} (g : field_at s at ≡ got letter start len next) where
       size : length (stretch s start len) ≡ len
       size = let x = got_is s at g in length_stretch s start len (omega arith)
 

@@ -5,17 +5,17 @@ use mathlib.Core.List.{List}
 use mathlib.Core.Path.{◌≡◌, ◌∙◌}
 use lib.ListN.{length, get_or}
 use Rattle.definition.specs.Records.{Field}
-use Rattle.records.specs.Places.{field_at}
-use Rattle.records.specs.declared.fields.Field.TheVariants.{Got, Bad}
+use Rattle.records.specs.Places.{field_at, got}
+use Rattle.std.proofs.Common.{None}
 use Rattle.records.proofs.Link.{got_is}
 use Rattle.records.proofs.Numbers.{length_stretch}
 use Rattle.rule.specs.Layout.{place_n, place_s, letters, number_of, within, section_from}
 use Rattle.rule.specs.Answers.{HeadAt}
 
-pub head_bad : {A : Type 0} {s : List ℕ} {at : ℕ} {f : Field} → HeadAt s at f → field_at s at ≡ Bad → A
+pub head_bad : {A : Type 0} {s : List ℕ} {at : ℕ} {f : Field} → HeadAt s at f → field_at s at ≡ None → A
 head_bad h e = let g = h.got in let z : ◌≡◌ {A = ℕ} 0 1 = cc in absurd (omega arith)
 
-pub head_size : {s : List ℕ} {at letter start len next : ℕ} {f : Field} → HeadAt s at f → field_at s at ≡ Got letter start len next → length f.content ≡ len
+pub head_size : {s : List ℕ} {at letter start len next : ℕ} {f : Field} → HeadAt s at f → field_at s at ≡ got letter start len next → length f.content ≡ len
 head_size {s} {at} {letter} {start} {len} {next} h e =
     let g = h.got in let x = got_is s at h.got in
     let q : h.len ≡ len = cc in

@@ -12,8 +12,8 @@ use Rattle.definition.specs.Letters.{letter_m}
 use Rattle.definition.specs.Records.{Field, with_letter}
 use Rattle.definition.specs.Rule.{map_of, rule_part, rule_of}
 use Rattle.definition.specs.Walk.{map_of_pair, pairs_between}
-use Rattle.records.specs.Places.{field_at, field_of, Run}
-use Rattle.records.specs.declared.fields.Field.TheVariants.{Got, Bad}
+use Rattle.records.specs.Places.{field_at, field_of, Run, got}
+use Rattle.std.proofs.Common.{None}
 use Rattle.records.proofs.Link.{got_is}
 use Rattle.records.proofs.Runs.{run_got, run_bad, run_end}
 use Rattle.rule.specs.Lookup.{Ready, rule_at, FindsMap}
@@ -45,10 +45,10 @@ module _ {s : List ℕ} {source target to at : ℕ} (w : Seeking s source target
   seek_end h = record { is = w.left ∙ rw (run_end w.run h) }
 
   module _ (lt : at < to) where
-    pub seek_bad : {A : Type 0} → field_at s at ≡ Bad → A
+    pub seek_bad : {A : Type 0} → field_at s at ≡ None → A
     seek_bad e = run_bad w.run lt e
 
-    module _ {letter start len next : ℕ} (e : field_at s at ≡ Got letter start len next) where
+    module _ {letter start len next : ℕ} (e : field_at s at ≡ got letter start len next) where
       pub seek_inside : start + len ≤ length s
       seek_inside = let g = got_is s at e in omega arith
 

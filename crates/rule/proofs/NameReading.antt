@@ -8,8 +8,7 @@ use Rattle.definition.specs.Base.{each, ◌∈◌}
 use Rattle.definition.specs.Limits.{name_bytes}
 use Rattle.definition.specs.Records.{Field, number_at}
 use Rattle.definition.specs.Rule.{name_of}
-use Rattle.records.specs.Places.{two_at, stretch, field_at, field_of, Run, none, more}
-use Rattle.records.specs.declared.fields.Field.TheVariants.{Got}
+use Rattle.records.specs.Places.{two_at, stretch, field_at, field_of, Run, none, more, got}
 use Rattle.records.proofs.Link.{got_is}
 use Rattle.records.proofs.Numbers.{length_stretch, drop_stretch, number_in}
 use Rattle.records.proofs.Parts.{drop_mem}
@@ -52,7 +51,7 @@ module _ {s : List ℕ} {at count : ℕ} where
           record { least = omega arith; most = omega arith; within = omega arith }
 
   -- It says what is read.
-  field_says : 1 ≤ count → NameLies s at count → {letter start len next : ℕ} → field_at s at ≡ Got letter start len next
+  field_says : 1 ≤ count → NameLies s at count → {letter start len next : ℕ} → field_at s at ≡ got letter start len next
       → name_of count (field_of s letter start len) ≡ name_from s (read_at s at count)
   unfolding name_of
   field_says one v {letter} {start} {len} e =

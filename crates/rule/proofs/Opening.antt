@@ -18,9 +18,9 @@ use Rattle.definition.specs.Signature.{Signature}
 use Rattle.definition.specs.Rule.{rule_grammar, Rule, Structure, Name, Map, name_of, named_elements, head_fault, name_fault, body_fault, structure_of}
 use Rattle.definition.specs.Rule.{head_field, rule_of, rule_part, rule_fault, read_rule}
 use Rattle.definition.specs.Walk.{no_structure}
-use Rattle.records.specs.Places.{two_at, stretch, field_at, field_of, Run}
+use Rattle.records.specs.Places.{two_at, stretch, field_at, field_of, Run, got}
 use Rattle.records.specs.declared.fields.Field as read_field
-use Rattle.records.specs.declared.fields.Field.TheVariants.{Got, Bad}
+use Rattle.std.proofs.Common.{None}
 use Rattle.records.proofs.Link.{got_is, fields_all, fields_bad, fields_got, fields_end}
 use Rattle.records.proofs.Numbers.{length_stretch, drop_stretch, number_in}
 use Rattle.laws.proofs.Lists.{get_d_each, lowest_none, mem_at}
@@ -127,21 +127,21 @@ pub record FirstRead (s : List ℕ) : Type 0 where
   pub from : ℕ
   pub len : ℕ
   pub next : ℕ
-  pub got : field_at s 0 ≡ Got letter from len next
+  pub got : field_at s 0 ≡ got letter from len next
   pub same : head_field (rule_part s).fields ≡ field_of s letter from len
 
 first_read : (s : List ℕ) → Begins (rule_part s).fields → FirstRead s
 unfolding rule_part placed
 first_read s b = go (field_at s 0) refl
   where
-    none_read : Dec (0 < length s) → field_at s 0 ≡ Bad → ⊥
+    none_read : Dec (0 < length s) → field_at s 0 ≡ None → ⊥
     none_read (yes l) e = let n : fields_of s ≡ bad = fields_all s ∙ fields_bad s 0 l e in no_fields (rw n) b
     none_read (no l) e = let n : fields_of s ≡ end = fields_all s ∙ fields_end s 0 (omega arith) in no_fields (rw n) b
 
     go : (r : read_field.Field) → field_at s 0 ≡ r → FirstRead s
-    go (Got l from len next) e =
+    go (got l from len next) e =
         record { letter = l; from = from; len = len; next = next; got = e; same = head_first (fields_of s) (fields_all s ∙ fields_got s 0 e) b }
-    go Bad e = absurd (none_read (dec_lt 0 (length s)) e)
+    go None e = absurd (none_read (dec_lt 0 (length s)) e)
 
 head_sized : (n : ℕ) (l : Option Field) (f : Field) → head_fault n l f ≡ none → (2 ≤ length f.content) × (length f.content ≤ 2 + name_bytes)
 unfolding head_fault

@@ -16,8 +16,8 @@ use Rattle.definition.specs.Limits.{structure_limit, rule_bytes}
 use Rattle.definition.specs.Records.{Field, Fields, end, bad, ◌▸◌, Part, follows, placed, with_letter, blocks, in_front}
 use Rattle.definition.specs.Rule.{rule_grammar, rule_part}
 use Rattle.laws.proofs.Lists.{never}
-use Rattle.records.specs.Places.{field_at, fields_at, field_of, Run, none}
-use Rattle.records.specs.declared.fields.Field.TheVariants.{Got, Bad}
+use Rattle.records.specs.Places.{field_at, fields_at, field_of, Run, none, got}
+use Rattle.std.proofs.Common.{None}
 use Rattle.records.proofs.Runs.{run_snoc, run_end}
 use Rattle.records.proofs.Placed.{Placing, Placed, passing, placing_start, placing_next, placing_stop, placing_bad, placing_end}
 use Rattle.rule.specs.Layout.{letter_at, place_of, place_n, place_s, place_e, place_i, place_m, place_x, letters, may_follow, with_one, section_at}
@@ -175,7 +175,7 @@ module _ {s index : List ℕ} {at behind section n : ℕ} (p : Passing s index a
       go w (no a) (no b) = omega (arith, section_behind (with_one n q) q (omega arith), w.1)
 
   -- One field more.
-  module _ (letter start len next q : ℕ) (index' : List ℕ) (e : field_at s at ≡ Got letter start len next) (place : q ≡ place_of letter)
+  module _ (letter start len next q : ℕ) (index' : List ℕ) (e : field_at s at ≡ got letter start len next) (place : q ≡ place_of letter)
       (m : may_follow behind q ≡ true) (few : with_one n q ≤ structure_limit)
       (same : (t : ℕ) → bound_at index' (section_at (with_one n q) q) at t ≡ bound_at index section at t) where
     abbrev to : ℕ
@@ -237,7 +237,7 @@ module _ {s index : List ℕ} {at behind section n : ℕ} (p : Passing s index a
     }
 
   -- A letter that is repeated stays in its section.
-  pub pass_again : (letter start len next : ℕ) → field_at s at ≡ Got letter start len next → behind ≡ place_of letter → place_s < behind
+  pub pass_again : (letter start len next : ℕ) → field_at s at ≡ got letter start len next → behind ≡ place_of letter → place_s < behind
       → Passing s index next behind section n
   pass_again letter start len next e place h =
       let one : with_one n behind ≡ n = rw (ne_eqb behind place_s (λ z. omega arith)) in
@@ -261,10 +261,10 @@ module _ {s index : List ℕ} {at behind section n : ℕ} (p : Passing s index a
       upto = inl (record { fields = q.fields; same = q.parted.same; counted = p.counted; some = λ e. p.later (m e) });
     }
 
-    pub pass_bad : at < length s → field_at s at ≡ Bad → Passes s index' false n
+    pub pass_bad : at < length s → field_at s at ≡ None → Passes s index' false n
     pass_bad h e = ended (λ z. never z refl) (placing_bad p.placing h e)
 
-    pub pass_stop : (letter start len next q : ℕ) → field_at s at ≡ Got letter start len next → q ≡ place_of letter → may_follow behind q ≡ false
+    pub pass_stop : (letter start len next q : ℕ) → field_at s at ≡ got letter start len next → q ≡ place_of letter → may_follow behind q ≡ false
         → Passes s index' false n
     pass_stop letter start len next q e place m = ended (λ z. never z refl) (placing_stop p.placing e (go (dec_lt place_x q)))
       where
@@ -276,7 +276,7 @@ module _ {s index : List ℕ} {at behind section n : ℕ} (p : Passing s index a
     pass_end h = ended (λ z. leb-true place_s behind z) (placing_end p.placing h (last_is behind p.place))
 
     -- A structure over the limit.
-    module _ (letter start len next q : ℕ) (e : field_at s at ≡ Got letter start len next) (place : q ≡ place_of letter)
+    module _ (letter start len next q : ℕ) (e : field_at s at ≡ got letter start len next) (place : q ≡ place_of letter)
         (m : may_follow behind q ≡ true) (over : structure_limit < with_one n q) where
       place_s_lem : q ≡ place_s
       place_s_lem = go (ℕ_discrete q place_s)

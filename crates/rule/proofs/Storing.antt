@@ -10,9 +10,8 @@ use lib.Seq.{get_or-set_same, get_or-set_other}
 use Rattle.definition.specs.Letters.{letter_e}
 use Rattle.definition.specs.Limits.{structure_limit, field_limit}
 use Rattle.definition.specs.Records.{Field, with_letter}
-use Rattle.records.specs.Places.{two_at, field_at, field_of, Run}
+use Rattle.records.specs.Places.{two_at, field_at, field_of, Run, got}
 use Rattle.records.specs.Held.{held_at}
-use Rattle.records.specs.declared.fields.Field.TheVariants.{Got}
 use Rattle.records.proofs.Link.{got_is}
 use Rattle.records.proofs.Runs.{run_end}
 use Rattle.records.proofs.Index.{got_field, held_store, held_same}
@@ -62,7 +61,7 @@ module _ {s index₀ index : List ℕ} {k count : ℕ} {last : Last} (w : Storin
   from = elements_from + field_limit * k
 
   -- One more.
-  module _ (at : ℕ) {letter start len next : ℕ} (e : field_at s at ≡ Got letter start len next) (fits : Fits Sound s start len count last) where
+  module _ (at : ℕ) {letter start len next : ℕ} (e : field_at s at ≡ got letter start len next) (fits : Fits Sound s start len count last) where
     abbrev index' : List ℕ
     index' = set index (from + count) at
 
@@ -172,7 +171,7 @@ module _ {s index : List ℕ} {check : ℕ → Option Field → Field → Option
   pub list_end : to ≤ at → with_letter letter_e body ≡ held_at s index (elements_from + field_limit * k) count
   list_end h = w.held ∙ rw (run_end w.checking.run h, append-nil)
 
-  module _ (lt : at < to) {l start len next : ℕ} (e : field_at s at ≡ Got l start len next) where
+  module _ (lt : at < to) {l start len next : ℕ} (e : field_at s at ≡ got l start len next) where
     stored : (rest : List Field) → l ≡ letter_e → w.checking.rest ≡ field_of s letter_e start len ∷ rest
         → elements_from + field_limit * k + count < length index
         → held_at s index (elements_from + field_limit * k) count ++ w.checking.rest

@@ -7,8 +7,7 @@ use Rattle.definition.specs.Limits.{structure_limit, field_limit}
 use Rattle.definition.specs.Records.{Field, Block, with_letter, blocks, fault_among}
 use Rattle.definition.specs.Signature.{Signature}
 use Rattle.definition.specs.Rule.{Rule, rule_of, rule_part, rule_fault, element_fault, named_elements}
-use Rattle.records.specs.Places.{field_at, field_of, Run}
-use Rattle.records.specs.declared.fields.Field.TheVariants.{Got}
+use Rattle.records.specs.Places.{field_at, field_of, Run, got}
 use Rattle.signature.specs.Faults.{fault_of}
 use Rattle.signature.specs.declared.faults.Fault.{Fault}
 use Rattle.signature.specs.declared.faults.Fault.TheVariants.{Sound, Draws}
@@ -29,7 +28,7 @@ pub record HeadAt (s : List ℕ) (at : ℕ) (f : Field) : Type 0 where
   pub start : ℕ
   pub len : ℕ
   pub next : ℕ
-  pub got : field_at s at ≡ Got letter_s start len next
+  pub got : field_at s at ≡ got letter_s start len next
   pub same : f ≡ field_of s letter_s start len
 
 -- The fields of structure k behind its S: the section of each letter, by its place.

@@ -14,9 +14,9 @@ use Rattle.definition.specs.Letters.{letter_t, letter_p}
 use Rattle.definition.specs.Limits.{symbol_limit, parent_limit, column_limit}
 use Rattle.definition.specs.Records.{Field, numbers, with_letter, fault_from, fault_among}
 use Rattle.definition.specs.Signature.{type_fault, symbol_fault, columns_of}
-use Rattle.records.specs.Places.{two_at, field_at, field_of, Run}
+use Rattle.records.specs.Places.{two_at, field_at, field_of, Run, got}
 use Rattle.records.specs.Held.{field_in, held_at}
-use Rattle.records.specs.declared.fields.Field.TheVariants.{Got, Bad}
+use Rattle.std.proofs.Common.{None}
 use Rattle.records.proofs.Link.{got_is}
 use Rattle.records.proofs.Runs.{run_got, run_bad, run_end}
 use Rattle.records.proofs.Index.{got_field, held_store}
@@ -60,7 +60,7 @@ module _ {s index₀ : List ℕ} {letter types from : ℕ} where
     stored_refused n = record { long = w.long; kept = w.kept; held = tt }
 
     -- One more field without a fault.
-    pub stored_next : {start len next : ℕ} → from + symbol_limit ≤ index_size → field_at s at ≡ Got letter start len next
+    pub stored_next : {start len next : ℕ} → from + symbol_limit ≤ index_size → field_at s at ≡ got letter start len next
         → check_of letter types count none (field_of s letter start len) ≡ none
         → Stored (Count (count + 1) next) s index₀ (set index (from + count) at) letter types from
     stored_next {start} {len} {next} b e k =
@@ -125,15 +125,15 @@ module _ {s index : List ℕ} {letter types from end : ℕ} {fs rest : List Fiel
     check_end h = check_done (rw (run_end w.run h))
 
     module _ (lt : at < end) where
-      pub check_bad : {A : Type 0} → field_at s at ≡ Bad → A
+      pub check_bad : {A : Type 0} → field_at s at ≡ None → A
       check_bad e = run_bad w.run lt e
 
       module _ {start len next : ℕ} where
         -- A field of another letter stands behind all of the letter.
-        pub check_stop : {l : ℕ} → field_at s at ≡ Got l start len next → (l ≡ letter → ⊥) → Checks (Count count at) s index letter types from end fs rest
+        pub check_stop : {l : ℕ} → field_at s at ≡ got l start len next → (l ≡ letter → ⊥) → Checks (Count count at) s index letter types from end fs rest
         check_stop {l} e q = let b = run_got w.run lt e in check_done (front_other letter rest b.same w.front q)
 
-        module _ (e : field_at s at ≡ Got letter start len next) where
+        module _ (e : field_at s at ≡ got letter start len next) where
           -- Its fault is the first.
           pub check_fault : {n : ℕ} → ((last : Option Field) → some n ≡ check_of letter types count last (field_of s letter start len))
               → Checks (Refused n) s index letter types from end fs rest

@@ -12,8 +12,8 @@ use Rattle.definition.specs.Letters.{letter_t, letter_p, letter_f, start}
 use Rattle.definition.specs.Records.{Field, follows, with_letter}
 use Rattle.definition.specs.Signature.{signature_grammar, signature_part}
 use Rattle.laws.proofs.Lists.{never}
-use Rattle.records.specs.Places.{field_at, field_of, Parted}
-use Rattle.records.specs.declared.fields.Field.TheVariants.{Got, Bad}
+use Rattle.records.specs.Places.{field_at, field_of, Parted, got}
+use Rattle.std.proofs.Common.{None}
 use Rattle.records.proofs.Link.{got_is}
 use Rattle.records.proofs.Lists.{keep_append}
 use Rattle.records.proofs.Placed.{Placing, Placed, placing_start, placing_next, placing_stop, placing_bad, placing_end}
@@ -52,7 +52,7 @@ module _ {s : List ℕ} {at behind types : ℕ} (p : Passing s at behind types) 
   answered : {whole : Bool} → Placed s (signature_part s) at whole p.passed → Answers s at whole types
   answered q = (q.parted, rw q.fields p.counted)
 
-  pub pass_next : {letter start len next : ℕ} → field_at s at ≡ Got letter start len next → follows signature_grammar.places behind letter ≡ true
+  pub pass_next : {letter start len next : ℕ} → field_at s at ≡ got letter start len next → follows signature_grammar.places behind letter ≡ true
       → Passing s next letter (pick (eqb letter letter_t) (types + 1) types)
   unfolding with_letter keep
   pass_next {letter} {start} {len} {next} e f = record {
@@ -72,11 +72,11 @@ module _ {s : List ℕ} {at behind types : ℕ} (p : Passing s at behind types) 
       small true = let g = got_is s at e in omega (arith, p.few)
       small false = let g = got_is s at e in omega (arith, p.few)
 
-  pub pass_stop : {letter start len next : ℕ} → field_at s at ≡ Got letter start len next → follows signature_grammar.places behind letter ≡ false
+  pub pass_stop : {letter start len next : ℕ} → field_at s at ≡ got letter start len next → follows signature_grammar.places behind letter ≡ false
       → Answers s at false types
   pass_stop e f = answered (placing_stop p.placing e f)
 
-  pub pass_bad : at < length s → field_at s at ≡ Bad → Answers s at false types
+  pub pass_bad : at < length s → field_at s at ≡ None → Answers s at false types
   pass_bad h e = answered (placing_bad p.placing h e)
 
   pub pass_end : length s ≤ at → Answers s at true types

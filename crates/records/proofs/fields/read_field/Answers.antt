@@ -1,42 +1,17 @@
 use borrow.Author.Tests.{lt-ltb, le-ltb}
-use borrow.Author.Rules.{rules}
 use Rattle.records.specs.Places.{field_at}
 use Rattle.records.proofs.fields.read_field.Goals as goal
 
-pub returns-then-s-at : goal.returns-then-s-at
+pub returns-then-saturating_sub-lt3-clause-value : goal.returns-then-saturating_sub-lt3-clause-value
 unfolding field_at
-returns-then-s-at c =
-    record {
-      value = simp (lt-ltb _ _ c.if-s-at.true);
-      ahead = tt;
-    }
+returns-then-saturating_sub-lt3-clause-value c = simp (← c.saturating_sub.ensures, lt-ltb _ _ c.if-saturating_sub-lt3.true)
 
-pub returns-then-s-at-lt3 : goal.returns-then-s-at-lt3
+pub returns-then-s-start-clause-value : goal.returns-then-s-start-clause-value
 unfolding field_at
-returns-then-s-at-lt3 c =
-    record {
-      value = simp (le-ltb _ _ c.if-s-at.false, lt-ltb _ _ c.if-s-at-lt3.true);
-      ahead = tt;
-    }
+returns-then-s-start-clause-value c =
+    simp (← c.saturating_sub.ensures, le-ltb _ _ c.if-saturating_sub-lt3.false, ← c.two-len.ensures.value, lt-ltb _ _ c.if-s-start.true)
 
-pub returns-then-s-start : goal.returns-then-s-start
+pub returns-clause-value : goal.returns-clause-value
 unfolding field_at
-returns-then-s-start c =
-    let e = c.two-len.ensures.value in
-    record {
-      value = simp (le-ltb _ _ c.if-s-at.false, le-ltb _ _ c.if-s-at-lt3.false, ← e, lt-ltb _ _ c.if-s-start.true);
-      ahead = tt;
-    }
-
-pub returns : goal.returns
-unfolding field_at
-returns c =
-    let e = c.two-len.ensures.value in record {
-      value = simp (
-        le-ltb _ _ c.if-s-at.false,
-        le-ltb _ _ c.if-s-at-lt3.false,
-        ← e,
-        le-ltb _ _ c.if-s-start.false,
-      );
-      ahead = search rules;
-    }
+returns-clause-value c =
+    simp (← c.saturating_sub.ensures, le-ltb _ _ c.if-saturating_sub-lt3.false, ← c.two-len.ensures.value, le-ltb _ _ c.if-s-start.false)

@@ -1,31 +1,6 @@
--- Invariant: the order from index i on is the order.
-use mathlib.Core.Path.{refl, ◌∙◌, sym}
-use Rattle.records.proofs.Along.{less_start, less_short, less_yes, less_no, less_on, less_end}
+use mathlib.Core.Path.{◌∙◌}
+use Rattle.records.proofs.Slices.{less_parts}
 use Rattle.records.proofs.order.less_bytes.Goals as goal
 
-pub loop-i-init : goal.loop-i-init
-loop-i-init c = refl
-
-pub returns-then-n-i : goal.returns-then-n-i
-returns-then-n-i c =
-    sym (less_start _ _ _ _ _ ∙ c.loop-i.invariant ∙ less_short _ _ _ _ _ c.requires _ c.loop-i-test.true
-    c.if-n-i.true)
-
-pub returns-then-x-y : goal.returns-then-x-y
-returns-then-x-y c =
-    sym (less_start _ _ _ _ _ ∙ c.loop-i.invariant ∙ less_yes _ _ _ _ _ c.requires _ c.loop-i-test.true
-    c.if-n-i.false c.if-x-y.true)
-
-pub returns-then-y-x : goal.returns-then-y-x
-returns-then-y-x c =
-    sym (less_start _ _ _ _ _ ∙ c.loop-i.invariant
-    ∙ less_no _ _ _ _ _ c.requires _ c.loop-i-test.true c.if-n-i.false c.if-x-y.false
-    c.if-y-x.true)
-
-pub loop-i-preserved : goal.loop-i-preserved
-loop-i-preserved c =
-    c.loop-i.invariant ∙ less_on _ _ _ _ _ c.requires _ c.loop-i-test.true c.if-n-i.false
-    c.if-x-y.false c.if-y-x.false
-
 pub returns : goal.returns
-returns c = less_end _ _ _ _ _ c.requires _ c.loop-i-test.false ∙ sym (less_start _ _ _ _ _ ∙ c.loop-i.invariant)
+returns c = c.lt.ensures ∙ less_parts c.args.s.now c.args.a c.args.m c.args.b c.args.n

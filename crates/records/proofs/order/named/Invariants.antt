@@ -1,4 +1,4 @@
-use Prim.Native.Nat.{ℕ, ◌-◌, ◌/◌}
+use Prim.Native.Nat.{ℕ}
 use mathlib.Core.Path.{◌≡◌}
 use lib.Dec.{ltb}
 use Rattle.definition.specs.Records.{numbers}
@@ -8,8 +8,5 @@ use Rattle.records.proofs.order.named.Given as goal
 
 abbrev pub invariant-loop-i : goal.invariant-loop-i
 invariant-loop-i l =
-    (l.count ≡ l.len / 2) × (all_from (λ (n : ℕ). ltb n l.limit) (numbers (stretch l.s l.start l.len)) 0
-    ≡ all_from (λ (n : ℕ). ltb n l.limit) (numbers (stretch l.s l.start l.len)) l.i)
-
-abbrev pub decreases-loop-i : goal.decreases-loop-i
-decreases-loop-i l = l.count - l.i
+    all_from (λ (n : ℕ). ltb n l.limit) (numbers (stretch l.s l.start l.len)) 0
+    ≡ all_from (λ (n : ℕ). ltb n l.limit) (numbers (stretch l.s l.start l.len)) l.i

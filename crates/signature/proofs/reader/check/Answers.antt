@@ -5,8 +5,7 @@ use mathlib.Core.Path.{◌≡◌, sym, ◌∙◌}
 use mathlib.Core.Option.{Option, none}
 use lib.ListN.{length}
 use Rattle.definition.specs.Records.{Field}
-use Rattle.records.specs.declared.fields.Field.TheVariants.{Got}
-use Rattle.records.specs.Places.{field_at}
+use Rattle.records.specs.Places.{field_at, got}
 use Rattle.records.proofs.Link.{got_letter}
 use Rattle.signature.proofs.Checking.{told_sound, told_drawn, few_before, stored_start, stored_refused, stored_next, check_start}
 use Rattle.signature.proofs.Checking.{check_end, check_bad, check_stop, check_fault, check_store}
@@ -54,7 +53,7 @@ loop-at-smaller c = let a = rw c.in-Got.is at c.read_field.ensures.ahead in omeg
 pub loop-at-preserved : goal.loop-at-preserved
 loop-at-preserved c =
     let fine = λ (last : Option Field). told_sound (c.field_fault-fault.ensures last) c.in-Sound.is in
-    let got : field_at c.args.s.now c.loop-at.at ≡ Got c.args.letter c.in-Got.start c.in-Got.len c.in-Got.next =
+    let got : field_at c.args.s.now c.loop-at.at ≡ got c.args.letter c.in-Got.start c.in-Got.len c.in-Got.next =
     got_letter _ _ (sym c.read_field.ensures.value ∙ c.in-Got.is) c.if-l-letter.false in
     let few = few_before _ _ _ none _ (sym (fine none)) in
     let l = c.loop-at.invariant.0.long in

@@ -1,9 +1,0 @@
-use Prim.Native.Nat.{◌-◌, ◌≤◌}
-use Rattle.records.proofs.Copying.{Copying}
-use Rattle.records.proofs.write.copy_bytes.Given as goal
-
-abbrev pub invariant-loop-i : goal.invariant-loop-i
-invariant-loop-i l = (l.i ≤ l.len) × Copying l.initial.out l.out l.s l.at l.start l.i
-
-abbrev pub decreases-loop-i : goal.decreases-loop-i
-decreases-loop-i l = l.len - l.i
