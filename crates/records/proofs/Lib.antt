@@ -12,4 +12,5 @@ pub mod Tail
 pub mod Copying
 pub mod Digits
 pub mod Parts
-mod Slices
+pub mod Slices
+pub mod Results

@@ -31,9 +31,9 @@ number refusal.PremiseEquality = 42
 number refusal.TooFewVariables = 43
 
 -- What a check found, as the definition's fault: the refusal's number, or none.
-abbrev pub fault_in : {A : Type 0} → Result A Refusal → Option ℕ
-fault_in (Ok x) = none
-fault_in (Err r) = some (number r)
+abbrev pub fault_of : {A : Type 0} → Result A Refusal → Option ℕ
+fault_of (Ok x) = none
+fault_of (Err r) = some (number r)
 
 -- What a reader or a writer answers, as the definition's outcome: the refusal's number, or what the value is seen as.
 abbrev pub outcome_by : {A B : Type 0} → (A → B) → Result A Refusal → Outcome B

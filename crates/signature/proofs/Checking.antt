@@ -16,17 +16,16 @@ use Rattle.definition.specs.Records.{Field, numbers, with_letter, fault_from, fa
 use Rattle.definition.specs.Signature.{type_fault, symbol_fault, columns_of}
 use Rattle.records.specs.Places.{two_at, field_at, field_of, Run, got}
 use Rattle.records.specs.Held.{field_in, held_at}
-use Rattle.std.proofs.Common.{None}
+use Rattle.std.proofs.Common.{None, Result, Ok, Err}
 use Rattle.records.proofs.Link.{got_is}
 use Rattle.records.proofs.Runs.{run_got, run_bad, run_end}
 use Rattle.records.proofs.Index.{got_field, held_store}
 use Rattle.records.proofs.Lists.{letter_yes}
-use Rattle.signature.specs.Faults.{fault_of, drawn_by, check_of}
+use Rattle.records.specs.Refusals.{number, fault_of}
+use Rattle.records.specs.declared.refusal.Refusal.{Refusal}
+use Rattle.signature.specs.Faults.{check_of}
 use Rattle.signature.specs.Index.{index_size}
-use Rattle.signature.specs.Answers.{Checks, Stored}
-use Rattle.signature.specs.declared.faults.Fault.{Fault}
-use Rattle.signature.specs.declared.faults.Fault.TheVariants as fault
-use Rattle.signature.specs.declared.reader.Checked.TheVariants.{Count, Refused}
+use Rattle.signature.specs.Answers.{Checks, Stored, counted}
 use Rattle.signature.proofs.Drawn.{columns_none, type_none, symbol_none}
 use Rattle.signature.proofs.InOrder.{front_same, front_other}
 
@@ -41,28 +40,28 @@ few_before letter types before last f e = go (eqb letter letter_t) (eqb letter l
     go false false e = (columns_none column_limit types before (columns_of f.content) (symbol_none 1 types before last f e)).0
 
 -- The answer about a field, taken apart.
-module _ {r : Fault} {x : Option ℕ} (h : fault_of r ≡ x) where
-  pub told_sound : r ≡ fault.Sound → none ≡ x
+module _ {A : Type 0} {r : Result A Refusal} {x : Option ℕ} (h : fault_of r ≡ x) where
+  pub told_sound : {a : A} → r ≡ Ok a → none ≡ x
   told_sound e = sym (ap fault_of e) ∙ h
 
-  pub told_drawn : {m n : ℕ} → r ≡ fault.Draws m → n ≡ drawn_by r → some n ≡ x
-  told_drawn e d = ap some (d ∙ ap drawn_by e) ∙ sym (ap fault_of e) ∙ h
+  pub told_drawn : {f : Refusal} → r ≡ Err f → some (number f) ≡ x
+  told_drawn e = sym (ap fault_of e) ∙ h
 
 module _ {s index₀ : List ℕ} {letter types from : ℕ} where
   -- Nothing is stored yet.
-  pub stored_start : {begin : ℕ} → length index₀ ≡ index_size → Stored (Count 0 begin) s index₀ index₀ letter types from
+  pub stored_start : {begin : ℕ} → length index₀ ≡ index_size → Stored (counted 0 begin) s index₀ index₀ letter types from
   stored_start l = record
       { long = l; kept = λ i h. refl; held = record { few = omega arith; within = λ i h. absurd (omega arith); sound = λ i h. absurd (omega arith) } }
 
-  module _ {index : List ℕ} {count at : ℕ} (w : Stored (Count count at) s index₀ index letter types from) where
+  module _ {index : List ℕ} {count at : ℕ} (w : Stored (counted count at) s index₀ index letter types from) where
     -- A refusal asks nothing of the index's new entries.
-    pub stored_refused : (n : ℕ) → Stored (Refused n) s index₀ index letter types from
-    stored_refused n = record { long = w.long; kept = w.kept; held = tt }
+    pub stored_refused : (r : Refusal) → Stored (Err r) s index₀ index letter types from
+    stored_refused r = record { long = w.long; kept = w.kept; held = tt }
 
     -- One more field without a fault.
     pub stored_next : {start len next : ℕ} → from + symbol_limit ≤ index_size → field_at s at ≡ got letter start len next
         → check_of letter types count none (field_of s letter start len) ≡ none
-        → Stored (Count (count + 1) next) s index₀ (set index (from + count) at) letter types from
+        → Stored (counted (count + 1) next) s index₀ (set index (from + count) at) letter types from
     stored_next {start} {len} {next} b e k =
         let few = few_before letter types count none (field_of s letter start len) k in
         let l : from + count < length index = omega (arith, w.long) in
@@ -114,13 +113,13 @@ check_start {fs = fs} r f = record { left = fs; last = none; run = r; front = f;
 module _ {s index : List ℕ} {letter types from end : ℕ} {fs rest : List Field} {at count : ℕ} (w : Checking s index letter types from end fs rest at count)
   where
     -- None of the letter is left: what is left is the rest.
-    check_done : with_letter letter w.left ≡ [] → Checks (Count count at) s index letter types from end fs rest
+    check_done : with_letter letter w.left ≡ [] → Checks (counted count at) s index letter types from end fs rest
     unfolding fault_from
     check_done e =
         let same : w.left ≡ rest = w.front ∙ rw e in
         record { is = (w.fault ∙ rw e, sym (w.held ∙ rw (e, append-nil)), rw same at w.run) }
 
-    pub check_end : end ≤ at → Checks (Count count at) s index letter types from end fs rest
+    pub check_end : end ≤ at → Checks (counted count at) s index letter types from end fs rest
     unfolding with_letter keep
     check_end h = check_done (rw (run_end w.run h))
 
@@ -130,13 +129,13 @@ module _ {s index : List ℕ} {letter types from end : ℕ} {fs rest : List Fiel
 
       module _ {start len next : ℕ} where
         -- A field of another letter stands behind all of the letter.
-        pub check_stop : {l : ℕ} → field_at s at ≡ got l start len next → (l ≡ letter → ⊥) → Checks (Count count at) s index letter types from end fs rest
+        pub check_stop : {l : ℕ} → field_at s at ≡ got l start len next → (l ≡ letter → ⊥) → Checks (counted count at) s index letter types from end fs rest
         check_stop {l} e q = let b = run_got w.run lt e in check_done (front_other letter rest b.same w.front q)
 
         module _ (e : field_at s at ≡ got letter start len next) where
           -- Its fault is the first.
-          pub check_fault : {n : ℕ} → ((last : Option Field) → some n ≡ check_of letter types count last (field_of s letter start len))
-              → Checks (Refused n) s index letter types from end fs rest
+          pub check_fault : {f : Refusal} → ((last : Option Field) → some (number f) ≡ check_of letter types count last (field_of s letter start len))
+              → Checks (Err f) s index letter types from end fs rest
           unfolding fault_from
           check_fault k =
               let b = run_got w.run lt e in

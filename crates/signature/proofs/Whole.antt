@@ -17,10 +17,12 @@ use Rattle.records.specs.Held.{held_at}
 use Rattle.records.proofs.Index.{length_held, held_same}
 use Rattle.signature.specs.Faults.{check_of}
 use Rattle.signature.specs.Index.{types_from, preds_from, funcs_from, signature_at, Held, Indexed}
-use Rattle.signature.specs.Answers.{Checks, ChecksUpTo, Stored, number_of}
+use Rattle.signature.specs.Answers.{Checks, ChecksUpTo, Stored, counted}
 use Rattle.signature.specs.declared.ids.Counts.{Counts}
 use Rattle.signature.specs.declared.reader.Checked.{Checked}
-use Rattle.signature.specs.declared.reader.Checked.TheVariants.{Count, Refused}
+use Rattle.records.specs.Refusals.{number}
+use Rattle.records.specs.declared.refusal.Refusal.{Refusal}
+use Rattle.std.proofs.Common.{Result, Err}
 use Rattle.signature.proofs.InOrder.{fields, behind_t, behind_p, preds_same, funcs_same, types_front, preds_front, funcs_front}
 
 -- 1 comes before all fields.
@@ -29,7 +31,7 @@ unfolding read_signature
 read_long s h = rw (lt-ltb _ _ h)
 
 -- What earlier entries of the index hold stays, where only later ones were stored.
-module _ {s index₀ index : List ℕ} {letter types from n next : ℕ} (w : Stored (Count n next) s index₀ index letter types from) where
+module _ {s index₀ index : List ℕ} {letter types from n next : ℕ} (w : Stored (counted n next) s index₀ index letter types from) where
   held_kept : (base count : ℕ) → base + count ≤ from → held_at s index base count ≡ held_at s index₀ base count
   held_kept base count h = held_same s index index₀ base count (λ i a b. w.kept i (omega arith))
 
@@ -51,18 +53,18 @@ module _ {s : List ℕ} {end t : ℕ} {whole : Bool} (p : Parted s (signature_pa
   unfolding read_signature
   read_is q = rw (le-ltb _ _ short, q)
 
-  drawn : {r : Checked} {n m : ℕ} → r ≡ Refused n → m ≡ number_of r → signature_fault (fields s) ≡ some n → refused m ≡ read_signature s
+  drawn : (f : Refusal) → signature_fault (fields s) ≡ some (number f) → refused (number f) ≡ read_signature s
   unfolding read_part
-  drawn told d q = ap refused (d ∙ ap number_of told) ∙ read_is q
+  drawn f q = read_is q
 
   -- A fault of a T.
-  pub read_types : {r : Checked} {h₁ : List ℕ} {n m : ℕ} → ChecksUpTo r s h₁ letter_t t types_from 0 end → r ≡ Refused n → m ≡ number_of r
-      → refused m ≡ read_signature s
-  read_types c told d = drawn told d (faults ∙ rw (rw told at (c (fields s) (behind_t s) p.run (types_front s))).is)
+  pub read_types : {r : Result Checked Refusal} {h₁ : List ℕ} {f : Refusal} → ChecksUpTo r s h₁ letter_t t types_from 0 end → r ≡ Err f
+      → refused (number f) ≡ read_signature s
+  read_types c told = drawn _ (faults ∙ rw (rw told at (c (fields s) (behind_t s) p.run (types_front s))).is)
 
   -- What the checks told, and that there was no fault: first that of the T.
-  module _ {r₁ : Checked} {h₁ : List ℕ} (types : ChecksUpTo r₁ s h₁ letter_t t types_from 0 end) {nt a : ℕ} (told₁ : r₁ ≡ Count nt a) where
-    ct : Checks (Count nt a) s h₁ letter_t t types_from end (fields s) (behind_t s)
+  module _ {r₁ : Result Checked Refusal} {h₁ : List ℕ} (types : ChecksUpTo r₁ s h₁ letter_t t types_from 0 end) {nt a : ℕ} (told₁ : r₁ ≡ counted nt a) where
+    ct : Checks (counted nt a) s h₁ letter_t t types_from end (fields s) (behind_t s)
     ct = rw told₁ at (types (fields s) (behind_t s) p.run (types_front s))
 
     -- The T checked are those that were counted.
@@ -70,21 +72,21 @@ module _ {s : List ℕ} {end t : ℕ} {whole : Bool} (p : Parted s (signature_pa
     types_same = sym (length_held s h₁ types_from nt) ∙ ap length ct.is.1 ∙ sym e
 
     -- A fault of a P.
-    pub read_preds : {r : Checked} {h₂ : List ℕ} {n m : ℕ} → ChecksUpTo r s h₂ letter_p nt preds_from a end → r ≡ Refused n → m ≡ number_of r
-        → refused m ≡ read_signature s
-    read_preds c told d = drawn told d (faults ∙ rw (ct.is.0, ← types_same, (rw told at (c (behind_t s) (behind_p s) ct.is.2 (preds_front s))).is))
+    pub read_preds : {r : Result Checked Refusal} {h₂ : List ℕ} {f : Refusal} → ChecksUpTo r s h₂ letter_p nt preds_from a end → r ≡ Err f
+        → refused (number f) ≡ read_signature s
+    read_preds c told = drawn _ (faults ∙ rw (ct.is.0, ← types_same, (rw told at (c (behind_t s) (behind_p s) ct.is.2 (preds_front s))).is))
 
-    module _ {r₂ : Checked} {h₂ : List ℕ} (preds : ChecksUpTo r₂ s h₂ letter_p nt preds_from a end) {np b : ℕ} (told₂ : r₂ ≡ Count np b) where
-      cp : Checks (Count np b) s h₂ letter_p nt preds_from end (behind_t s) (behind_p s)
+    module _ {r₂ : Result Checked Refusal} {h₂ : List ℕ} (preds : ChecksUpTo r₂ s h₂ letter_p nt preds_from a end) {np b : ℕ} (told₂ : r₂ ≡ counted np b) where
+      cp : Checks (counted np b) s h₂ letter_p nt preds_from end (behind_t s) (behind_p s)
       cp = rw told₂ at (preds (behind_t s) (behind_p s) ct.is.2 (preds_front s))
 
       -- A fault of an F.
-      pub read_funcs : {r : Checked} {h₃ : List ℕ} {n m : ℕ} → ChecksUpTo r s h₃ letter_f nt funcs_from b end → r ≡ Refused n → m ≡ number_of r
-          → refused m ≡ read_signature s
-      read_funcs c told d = drawn told d (faults ∙ rw (ct.is.0, ← types_same, cp.is.0, (rw told at (c (behind_p s) [] cp.is.2 (funcs_front s))).is))
+      pub read_funcs : {r : Result Checked Refusal} {h₃ : List ℕ} {f : Refusal} → ChecksUpTo r s h₃ letter_f nt funcs_from b end → r ≡ Err f
+          → refused (number f) ≡ read_signature s
+      read_funcs c told = drawn _ (faults ∙ rw (ct.is.0, ← types_same, cp.is.0, (rw told at (c (behind_p s) [] cp.is.2 (funcs_front s))).is))
 
-      module _ {r₃ : Checked} {h₃ : List ℕ} (funcs : ChecksUpTo r₃ s h₃ letter_f nt funcs_from b end) {nf d : ℕ} (told₃ : r₃ ≡ Count nf d) where
-        cf : Checks (Count nf d) s h₃ letter_f nt funcs_from end (behind_p s) []
+      module _ {r₃ : Result Checked Refusal} {h₃ : List ℕ} (funcs : ChecksUpTo r₃ s h₃ letter_f nt funcs_from b end) {nf d : ℕ} (told₃ : r₃ ≡ counted nf d) where
+        cf : Checks (counted nf d) s h₃ letter_f nt funcs_from end (behind_p s) []
         cf = rw told₃ at (funcs (behind_p s) [] cp.is.2 (funcs_front s))
 
         faultless : signature_fault (fields s) ≡ none

@@ -1,11 +1,11 @@
 -- What stands at an entry of the index, as the lookups need it.
-use Rattle.std.specs.Prelude.{true, List, ◌≡◌, ℕ, ◌+◌, ◌/◌, ◌%◌, ◌≤◌, ◌<◌, length, get_or}
+use Rattle.std.specs.Prelude as std
+use Rattle.std.specs.Prelude.{Some, None, true, List, ◌≡◌, ℕ, ◌+◌, ◌/◌, ◌%◌, ◌≤◌, ◌<◌, length, get_or}
 use Rattle.std.proofs.Math.Option.{Option, none, some}
 use Rattle.definition.specs.Signature.{columns_of, named}
 use Rattle.records.specs.Places.{two_at}
 use Rattle.records.specs.Held.{field_in}
-use Rattle.signature.specs.declared.lookup.ParentModel.{ParentModel}
-use Rattle.signature.specs.declared.lookup.ParentModel.TheVariants.{Model, Nothing}
+use Rattle.signature.specs.declared.ids.TypeId.{TypeId}
 
 -- The field at a position lies in the record.
 abbrev pub Sits : List ℕ → ℕ → Type 0
@@ -22,11 +22,11 @@ pub record AllNamed (types : ℕ) (s : List ℕ) (p : ℕ) : Type 0 where
   pub is : named types (columns_of (field_in s p).content) ≡ true
 
 -- The model as the definition's.
-abbrev pub model_of : ParentModel → Option ℕ
-model_of (Model t) = some t.0
-model_of Nothing = none
+abbrev pub model_of : std.Option TypeId → Option ℕ
+model_of (Some t) = some t.0
+model_of None = none
 
 -- The model is one of so many types.
-abbrev pub Named : ParentModel → ℕ → Type 0
-Named (Model t) types = t.0 < types
-Named Nothing types = Unit
+abbrev pub Named : std.Option TypeId → ℕ → Type 0
+Named (Some t) types = t.0 < types
+Named None types = Unit

@@ -1,23 +1,11 @@
 -- The faults of a field as the definition's.
 use Rattle.std.specs.Prelude.{not, ◌||◌, List, [], ◌∷◌, ℕ, eqb, ltb, leb, length}
-use Rattle.std.proofs.Math.Option.{Option, none, some}
+use Rattle.std.proofs.Math.Option.{Option}
 use Rattle.definition.specs.Base.{pick, lowest}
 use Rattle.definition.specs.Letters.{letter_t, letter_p}
 use Rattle.definition.specs.Limits.{symbol_limit}
 use Rattle.definition.specs.Records.{Field}
 use Rattle.definition.specs.Signature.{type_fault, symbol_fault, named}
-use Rattle.signature.specs.declared.faults.Fault.{Fault}
-use Rattle.signature.specs.declared.faults.Fault.TheVariants.{Sound, Draws}
-
--- A field's lowest fault.
-abbrev pub fault_of : Fault → Option ℕ
-fault_of Sound = none
-fault_of (Draws n) = some n
-
--- The number that it draws; 0 where there is none.
-abbrev pub drawn_by : Fault → ℕ
-drawn_by Sound = 0
-drawn_by (Draws n) = n
 
 -- The faults that a field can have by its numbers, however they are cut: 4 and 5.
 unfoldable pub columns_fault : ℕ → ℕ → ℕ → List ℕ → Option ℕ

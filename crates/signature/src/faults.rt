@@ -4,27 +4,12 @@ ghost use Rattle.std.proofs.Math.Option.{Option};
 ghost use Rattle.definition.specs.Records.{Field, numbers};
 ghost use Rattle.definition.specs.Signature.{type_fault, symbol_fault};
 ghost use Rattle.records.specs.Places.{stretch, field_of};
-ghost use Rattle.signature.specs.Faults.{fault_of, drawn_by, columns_fault, check_of};
+ghost use Rattle.records.specs.Refusals.{fault_of};
+ghost use Rattle.signature.specs.Faults.{columns_fault, check_of};
 
 use crate::ids::{COLUMNS, LETTER_P, LETTER_T, PARENTS, SYMBOLS};
-use records::fields::wide;
 use records::order::named;
-
-#[derive(Clone, Copy)]
-pub enum Fault {
-    Sound,
-    Draws(u8),
-}
-
-// The number that a fault draws; 0 where there is none.
-pub fn drawn(f: Fault) -> u8
-    ensures { result ≡ drawn_by f }
-{
-    match f {
-        Fault::Sound => 0,
-        Fault::Draws(n) => n,
-    }
-}
+use records::refusal::Refusal;
 
 // What T, P and F share: 4 past a limit, 5 at a number that names no type.
 fn columns_fault(
@@ -34,30 +19,36 @@ fn columns_fault(
     most: usize,
     types: usize,
     before: usize,
-) -> Fault
+) -> Result<(), Refusal>
     requires { start + len ≤ length s.now }
     ensures { fault_of result ≡ columns_fault most types before (numbers (stretch s.now start len)) }
 {
     if SYMBOLS <= before {
-        return Fault::Draws(4);
+        return Err(Refusal::TooMany);
     }
     if most < len >> 1 {
-        return Fault::Draws(4);
+        return Err(Refusal::TooMany);
     }
     if !named(s, start, len, types) {
-        return Fault::Draws(5);
+        return Err(Refusal::Undeclared);
     }
-    Fault::Sound
+    Ok(())
 }
 
 // A T field: its parents.
-fn type_fault(s: &[u8], start: usize, len: usize, types: usize, before: usize) -> Fault
+fn type_fault(
+    s: &[u8],
+    start: usize,
+    len: usize,
+    types: usize,
+    before: usize,
+) -> Result<(), Refusal>
     requires { start + len ≤ length s.now }
     ensures { (letter : ℕ) (last : Option Field)
         → fault_of result ≡ type_fault types before last (field_of s.now letter start len) }
 {
     if (len & 1) == 1 {
-        return Fault::Draws(3);
+        return Err(Refusal::BadLength);
     }
     columns_fault(s, start, len, PARENTS, types, before)
 }
@@ -70,16 +61,16 @@ fn symbol_fault(
     results: usize,
     types: usize,
     before: usize,
-) -> Fault
+) -> Result<(), Refusal>
     requires { (start + len ≤ length s.now) × (results ≤ 1) }
     ensures { (letter : ℕ) (last : Option Field)
         → fault_of result ≡ symbol_fault results types before last (field_of s.now letter start len) }
 {
     if (len & 1) != 1 {
-        return Fault::Draws(3);
+        return Err(Refusal::BadLength);
     }
-    if len >> 1 < wide(s[start]) + results {
-        return Fault::Draws(3);
+    if len >> 1 < usize::from(s[start]) + results {
+        return Err(Refusal::BadLength);
     }
     columns_fault(s, start + 1, len - 1, COLUMNS, types, before)
 }
@@ -92,7 +83,7 @@ pub fn field_fault(
     len: usize,
     types: usize,
     before: usize,
-) -> Fault
+) -> Result<(), Refusal>
     requires { start + len ≤ length s.now }
     ensures { (last : Option Field)
         → fault_of result ≡ check_of letter types before last (field_of s.now letter start len) }

@@ -14,14 +14,7 @@ use crate::ids::{
     Counts, EQUALITY, FUNCS_FROM, FUNCTION, FuncId, INDEX, MEMBER, PREDICATE, PREDS_FROM, PredId,
     Relation, TYPE_SET, TYPES_FROM, TypeId,
 };
-use records::fields::{num, place, two, wide};
-
-// The model that a symbol belongs to: its last parent.
-#[derive(Clone, Copy)]
-pub enum ParentModel {
-    Model(TypeId),
-    Nothing,
-}
+use records::fields::{num, two};
 
 // The content of a field.
 #[derive(Clone, Copy)]
@@ -37,7 +30,7 @@ fn content_at(s: &[u8], index: &[u16; INDEX], entry: usize) -> Content
     ensures start_value { result.start ≡ get_or index.now entry 0 + 3 }
     ensures len_value { result.len ≡ two_at s.now (get_or index.now entry 0 + 1) }
 {
-    let at = place(index[entry]);
+    let at = usize::from(index[entry]);
     Content {
         start: at + 3,
         len: two(s, at + 1),
@@ -50,7 +43,7 @@ pub fn type_parents(s: &[u8], index: &[u16; INDEX], counts: Counts, t: TypeId) -
     requires t_lt_types { t.0 < counts.types }
     ensures { result ≡ length (type_parents (signature_at s.now index.now counts) t.0) }
 {
-    let c = content_at(s, index, TYPES_FROM + place(t.0));
+    let c = content_at(s, index, TYPES_FROM + usize::from(t.0));
     c.len >> 1
 }
 
@@ -61,7 +54,7 @@ pub fn type_parent(s: &[u8], index: &[u16; INDEX], counts: Counts, t: TypeId, i:
     ensures result_value { result.0 ≡ get_or (type_parents (signature_at s.now index.now counts) t.0) i 0 }
     ensures result_lt_types { result.0 < counts.types }
 {
-    let c = content_at(s, index, TYPES_FROM + place(t.0));
+    let c = content_at(s, index, TYPES_FROM + usize::from(t.0));
     TypeId(num(s, c.start + 2 * i))
 }
 
@@ -92,7 +85,7 @@ fn parents(s: &[u8], index: &[u16; INDEX], entry: usize) -> usize
 {
     let c = content_at(s, index, entry);
     let start = c.start;
-    wide(s[start])
+    usize::from(s[start])
 }
 
 // One of the parents.
@@ -107,7 +100,7 @@ fn parent(s: &[u8], index: &[u16; INDEX], entry: usize, i: usize) -> TypeId
 }
 
 // The last of the parents.
-fn model(s: &[u8], index: &[u16; INDEX], entry: usize) -> ParentModel
+fn model(s: &[u8], index: &[u16; INDEX], entry: usize) -> Option<TypeId>
     requires lt_index_size { entry < index_size }
     requires columned { Columned s.now (get_or index.now entry 0) }
     ensures result_value { model_of result ≡ last_of (symbol_of (field_in s.now (get_or index.now entry 0))).parents }
@@ -115,13 +108,13 @@ fn model(s: &[u8], index: &[u16; INDEX], entry: usize) -> ParentModel
 {
     let n = parents(s, index, entry);
     if n == 0 {
-        return ParentModel::Nothing;
+        return None;
     }
-    ParentModel::Model(parent(s, index, entry, n - 1))
+    Some(parent(s, index, entry, n - 1))
 }
 
 // The last parent of a type.
-fn type_model(s: &[u8], index: &[u16; INDEX], counts: Counts, t: TypeId) -> ParentModel
+fn type_model(s: &[u8], index: &[u16; INDEX], counts: Counts, t: TypeId) -> Option<TypeId>
     requires indexed { Indexed s.now index.now counts }
     requires t_lt_types { t.0 < counts.types }
     ensures result_value { model_of result ≡ last_of (type_parents (signature_at s.now index.now counts) t.0) }
@@ -129,9 +122,9 @@ fn type_model(s: &[u8], index: &[u16; INDEX], counts: Counts, t: TypeId) -> Pare
 {
     let n = type_parents(s, index, counts, t);
     if n == 0 {
-        return ParentModel::Nothing;
+        return None;
     }
-    ParentModel::Model(type_parent(s, index, counts, t, n - 1))
+    Some(type_parent(s, index, counts, t, n - 1))
 }
 
 // How many columns a predicate has.
@@ -140,7 +133,7 @@ pub fn pred_columns(s: &[u8], index: &[u16; INDEX], counts: Counts, p: PredId) -
     requires p_lt_preds { p.0 < counts.preds }
     ensures { result ≡ column_count (pred_of (signature_at s.now index.now counts) p.0) }
 {
-    columns(s, index, PREDS_FROM + place(p.0))
+    columns(s, index, PREDS_FROM + usize::from(p.0))
 }
 
 // How many of them are parents.
@@ -149,7 +142,7 @@ pub fn pred_parents(s: &[u8], index: &[u16; INDEX], counts: Counts, p: PredId) -
     requires p_lt_preds { p.0 < counts.preds }
     ensures { result ≡ length (pred_of (signature_at s.now index.now counts) p.0).parents }
 {
-    parents(s, index, PREDS_FROM + place(p.0))
+    parents(s, index, PREDS_FROM + usize::from(p.0))
 }
 
 // How many columns a function has; the last is its result.
@@ -158,7 +151,7 @@ pub fn func_columns(s: &[u8], index: &[u16; INDEX], counts: Counts, f: FuncId) -
     requires f_lt_funcs { f.0 < counts.funcs }
     ensures { result ≡ column_count (func_of (signature_at s.now index.now counts) f.0) }
 {
-    columns(s, index, FUNCS_FROM + place(f.0))
+    columns(s, index, FUNCS_FROM + usize::from(f.0))
 }
 
 // How many of them are parents.
@@ -167,7 +160,7 @@ pub fn func_parents(s: &[u8], index: &[u16; INDEX], counts: Counts, f: FuncId) -
     requires f_lt_funcs { f.0 < counts.funcs }
     ensures { result ≡ length (func_of (signature_at s.now index.now counts) f.0).parents }
 {
-    parents(s, index, FUNCS_FROM + place(f.0))
+    parents(s, index, FUNCS_FROM + usize::from(f.0))
 }
 
 // The columns of a function without its result.
@@ -180,23 +173,23 @@ pub fn flat_domain(s: &[u8], index: &[u16; INDEX], counts: Counts, f: FuncId) ->
 }
 
 // The last parent of a predicate.
-fn pred_model(s: &[u8], index: &[u16; INDEX], counts: Counts, p: PredId) -> ParentModel
+fn pred_model(s: &[u8], index: &[u16; INDEX], counts: Counts, p: PredId) -> Option<TypeId>
     requires indexed { Indexed s.now index.now counts }
     requires p_lt_preds { p.0 < counts.preds }
     ensures result_value { model_of result ≡ last_of (pred_of (signature_at s.now index.now counts) p.0).parents }
     ensures named { Named result counts.types }
 {
-    model(s, index, PREDS_FROM + place(p.0))
+    model(s, index, PREDS_FROM + usize::from(p.0))
 }
 
 // The last parent of a function.
-fn func_model(s: &[u8], index: &[u16; INDEX], counts: Counts, f: FuncId) -> ParentModel
+fn func_model(s: &[u8], index: &[u16; INDEX], counts: Counts, f: FuncId) -> Option<TypeId>
     requires indexed { Indexed s.now index.now counts }
     requires f_lt_funcs { f.0 < counts.funcs }
     ensures result_value { model_of result ≡ last_of (func_of (signature_at s.now index.now counts) f.0).parents }
     ensures named { Named result counts.types }
 {
-    model(s, index, FUNCS_FROM + place(f.0))
+    model(s, index, FUNCS_FROM + usize::from(f.0))
 }
 
 // What a statement is about. Only here does a number become an id by a kind.
@@ -219,12 +212,12 @@ pub fn declared(counts: Counts, rel: Relation) -> bool
     ensures { result ≡ ltb (number_of rel) (count_of counts rel) }
 {
     match rel {
-        Relation::Predicate(p) => place(p.0) < counts.preds,
-        Relation::Function(f) => place(f.0) < counts.funcs,
-        Relation::Member(t) => place(t.0) < counts.types,
-        Relation::Equality(t) => place(t.0) < counts.types,
-        Relation::TypeSet(t) => place(t.0) < counts.types,
-        Relation::FuncDomain(f) => place(f.0) < counts.funcs,
+        Relation::Predicate(p) => usize::from(p.0) < counts.preds,
+        Relation::Function(f) => usize::from(f.0) < counts.funcs,
+        Relation::Member(t) => usize::from(t.0) < counts.types,
+        Relation::Equality(t) => usize::from(t.0) < counts.types,
+        Relation::TypeSet(t) => usize::from(t.0) < counts.types,
+        Relation::FuncDomain(f) => usize::from(f.0) < counts.funcs,
     }
 }
 
@@ -250,7 +243,7 @@ pub fn parent_model_type(
     index: &[u16; INDEX],
     counts: Counts,
     rel: Relation,
-) -> ParentModel
+) -> Option<TypeId>
     requires indexed { Indexed s.now index.now counts }
     requires rel_bound { number_of rel < count_of counts rel }
     ensures result_value { model_of result ≡ parent_model (signature_at s.now index.now counts) (kind_of rel) (number_of rel) }
@@ -260,7 +253,7 @@ pub fn parent_model_type(
         Relation::Predicate(p) => pred_model(s, index, counts, p),
         Relation::Function(f) | Relation::FuncDomain(f) => func_model(s, index, counts, f),
         Relation::Member(t) => type_model(s, index, counts, t),
-        Relation::Equality(_) => ParentModel::Nothing,
-        Relation::TypeSet(_) => ParentModel::Nothing,
+        Relation::Equality(_) => None,
+        Relation::TypeSet(_) => None,
     }
 }

@@ -5,21 +5,16 @@ ghost use Rattle.definition.specs.Limits.{symbol_limit, signature_bytes};
 ghost use Rattle.definition.specs.Records.{follows, with_letter};
 ghost use Rattle.definition.specs.Signature.{signature_grammar, signature_part, read_signature};
 ghost use Rattle.records.specs.Places.{Parted};
-ghost use Rattle.signature.specs.Answers.{ChecksUpTo, Stored, number_of, signature_reading, Usable, refusal_number};
+ghost use Rattle.signature.specs.Answers.{ChecksUpTo, Stored, signature_reading, Usable};
 ghost use Rattle.signature.specs.Index.{index_size};
 
-use crate::faults::{Fault, drawn, field_fault};
+use crate::faults::field_fault;
 use crate::ids::{
     Counts, FUNCS_FROM, INDEX, LETTER_F, LETTER_P, LETTER_T, PREDS_FROM, SIGNATURE_BYTES, START,
     TYPES_FROM,
 };
 use records::fields::{Field, read_field};
-
-#[derive(Clone, Copy)]
-pub enum Reading {
-    Sound(Counts),
-    Refused(u8),
-}
+use records::refusal::Refusal;
 
 // Where the part before the first field that draws 2 ends, whether it is the whole record, and how many T stand in it.
 #[derive(Clone, Copy)]
@@ -29,30 +24,22 @@ struct Passed {
     types: usize,
 }
 
-// The fields of one letter: how many there are and where the next letter's begin, or the first fault.
+// The fields of one letter: how many there are and where the next letter's begin.
 #[derive(Clone, Copy)]
-enum Checked {
-    Count { count: usize, next: usize },
-    Refused(u8),
+struct Checked {
+    count: usize,
+    next: usize,
 }
 
 // May a field of a letter stand directly behind one of another?
+#[tactic(auto, unfolding(definition::specs::Records::follows, definition::specs::Base::any, definition::specs::Base::has))]
 fn may_follow(behind: u8, letter: u8) -> bool
     ensures { result ≡ follows signature_grammar.places behind letter }
 {
     match letter {
-        LETTER_T => match behind {
-            START | LETTER_T => true,
-            _ => false,
-        },
-        LETTER_P => match behind {
-            START | LETTER_T | LETTER_P => true,
-            _ => false,
-        },
-        LETTER_F => match behind {
-            START | LETTER_T | LETTER_P | LETTER_F => true,
-            _ => false,
-        },
+        LETTER_T => matches!(behind, START | LETTER_T),
+        LETTER_P => matches!(behind, START | LETTER_T | LETTER_P),
+        LETTER_F => matches!(behind, START | LETTER_T | LETTER_P | LETTER_F),
         _ => false,
     }
 }
@@ -66,8 +53,7 @@ fn pass(s: &[u8]) -> Passed
     let mut behind = START;
     let mut types: usize = 0;
     while at < s.len() {
-        let f = read_field(s, at);
-        let Field::Got { letter, next, .. } = f else {
+        let Some(Field { letter, next, .. }) = read_field(s, at) else {
             return Passed {
                 end: at,
                 whole: false,
@@ -107,7 +93,7 @@ fn check(
     types: usize,
     index: &mut [u16],
     from: usize,
-) -> Checked
+) -> Result<Checked, Refusal>
     requires end_in_bounds { (end ≤ length s.now) × (length s.now ≤ signature_bytes) }
     requires symbol_limit_bound { (from + symbol_limit ≤ index_size) × (length index.old ≡ index_size) }
     ensures checks_up_to { ChecksUpTo result s.now index.new letter types from begin end }
@@ -116,79 +102,38 @@ fn check(
     let mut at = begin;
     let mut count: usize = 0;
     while at < end {
-        let Field::Got {
-            letter: l,
-            start,
-            len,
-            next,
-        } = read_field(s, at)
-        else {
-            return Checked::Refused(2);
-        };
-        if l != letter {
-            return Checked::Count { count, next: at };
+        let f = read_field(s, at).ok_or(Refusal::BadFields)?;
+        if f.letter != letter {
+            return Ok(Checked { count, next: at });
         }
-        let fault = field_fault(s, letter, start, len, types, count);
-        let Fault::Sound = fault else {
-            return Checked::Refused(drawn(fault));
-        };
+        field_fault(s, letter, f.start, f.len, types, count)?;
         index[from + count] = at as u16;
         count += 1;
-        at = next;
+        at = f.next;
     }
-    Checked::Count { count, next: at }
-}
-
-// The number of a refusal.
-fn number(c: Checked) -> u8
-    ensures { result ≡ number_of c }
-{
-    match c {
-        Checked::Refused(n) => n,
-        Checked::Count { .. } => 0,
-    }
+    Ok(Checked { count, next: at })
 }
 
 // The signature's answer; where it is accepted, the index holds the positions of its fields.
 // Where it is refused, the entries of the index are left free: any may have been written, and only their number holds.
-pub fn read_signature(s: &[u8], index: &mut [u16; INDEX]) -> Reading
+pub fn read_signature(s: &[u8], index: &mut [u16; INDEX]) -> Result<Counts, Refusal>
     ensures result_after { signature_reading s.now index.new result ≡ read_signature s.now }
     ensures usable { Usable s.now index.new result }
     ensures index_len_unchanged { length index.new ≡ length index.old }
 {
     if SIGNATURE_BYTES < s.len() {
-        return Reading::Refused(1);
+        return Err(Refusal::TooLong);
     }
     let p = pass(s);
-    let end = p.end;
-    let t = check(s, 0, end, LETTER_T, p.types, index, TYPES_FROM);
-    let Checked::Count { count: types, next } = t else {
-        return Reading::Refused(number(t));
-    };
-    let q = check(s, next, end, LETTER_P, types, index, PREDS_FROM);
-    let Checked::Count { count: preds, next } = q else {
-        return Reading::Refused(number(q));
-    };
-    let f = check(s, next, end, LETTER_F, types, index, FUNCS_FROM);
-    let Checked::Count { count: funcs, .. } = f else {
-        return Reading::Refused(number(f));
-    };
+    let t = check(s, 0, p.end, LETTER_T, p.types, index, TYPES_FROM)?;
+    let q = check(s, t.next, p.end, LETTER_P, t.count, index, PREDS_FROM)?;
+    let f = check(s, q.next, p.end, LETTER_F, t.count, index, FUNCS_FROM)?;
     if !p.whole {
-        return Reading::Refused(2);
+        return Err(Refusal::BadFields);
     }
-    Reading::Sound(Counts {
-        types,
-        preds,
-        funcs,
+    Ok(Counts {
+        types: t.count,
+        preds: q.count,
+        funcs: f.count,
     })
-}
-
-// The number of a refused signature; 0 for an accepted one.
-pub fn refusal(r: Reading) -> u8
-    ensures { result ≡ refusal_number r }
-{
-    match r {
-        Reading::Sound(_) => 0,
-        Reading::Refused(n) => n,
-    }
 }

@@ -6,5 +6,5 @@ pub returns : goal.returns
 returns c =
     record {
       start_value = search rules;
-      len_value = c.two.ensures.value ∙ rw c.place-at.ensures.0;
+      len_value = c.two.ensures.value ∙ rw c.from-at.ensures;
     }

@@ -6,8 +6,8 @@ pub columns-requires : goal.columns-requires
 columns-requires c =
     record {
       lt_index_size = search rules;
-      columned = rw c.place.ensures.0 (func_sound c.requires.indexed _ c.requires.f_lt_funcs).columned;
+      columned = rw c.from.ensures (func_sound c.requires.indexed _ c.requires.f_lt_funcs).columned;
     }
 
 pub returns : goal.returns
-returns c = rw (func_at c.requires.indexed _ c.requires.f_lt_funcs, ← c.place.ensures.0) c.columns.ensures
+returns c = rw (func_at c.requires.indexed _ c.requires.f_lt_funcs, ← c.from.ensures) c.columns.ensures

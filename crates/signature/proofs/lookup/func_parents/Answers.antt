@@ -6,8 +6,8 @@ pub parents-requires : goal.parents-requires
 parents-requires c =
     record {
       lt_index_size = search rules;
-      columned = rw c.place.ensures.0 (func_sound c.requires.indexed _ c.requires.f_lt_funcs).columned;
+      columned = rw c.from.ensures (func_sound c.requires.indexed _ c.requires.f_lt_funcs).columned;
     }
 
 pub returns : goal.returns
-returns c = rw (func_at c.requires.indexed _ c.requires.f_lt_funcs, ← c.place.ensures.0) c.parents.ensures
+returns c = rw (func_at c.requires.indexed _ c.requires.f_lt_funcs, ← c.from.ensures) c.parents.ensures

@@ -10,4 +10,4 @@ content_at-c-requires c =
     }
 
 pub returns : goal.returns
-returns c = c.wide.ensures.0 ∙ rw c.content_at-c.ensures.start_value (sym (parents_of c.requires.columned))
+returns c = c.from.ensures ∙ rw c.content_at-c.ensures.start_value (sym (parents_of c.requires.columned))

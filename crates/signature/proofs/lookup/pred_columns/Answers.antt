@@ -6,8 +6,8 @@ pub columns-requires : goal.columns-requires
 columns-requires c =
     record {
       lt_index_size = search rules;
-      columned = rw c.place.ensures.0 (pred_sound c.requires.indexed _ c.requires.p_lt_preds).columned;
+      columned = rw c.from.ensures (pred_sound c.requires.indexed _ c.requires.p_lt_preds).columned;
     }
 
 pub returns : goal.returns
-returns c = rw (pred_at c.requires.indexed _ c.requires.p_lt_preds, ← c.place.ensures.0) c.columns.ensures
+returns c = rw (pred_at c.requires.indexed _ c.requires.p_lt_preds, ← c.from.ensures) c.columns.ensures

@@ -7,10 +7,10 @@ pub content_at-c-requires : goal.content_at-c-requires
 content_at-c-requires c =
     record {
       lt_index_size = search rules;
-      sits = rw c.place.ensures.0 (c.requires.indexed.types.within _ c.requires.t_lt_types);
+      sits = rw c.from.ensures (c.requires.indexed.types.within _ c.requires.t_lt_types);
     }
 
 pub returns : goal.returns
 returns c =
-    rw (c.content_at-c.ensures.len_value, c.place.ensures.0)
+    rw (c.content_at-c.ensures.len_value, c.from.ensures)
     (sym (type_parents_lem c.requires.indexed _ c.requires.t_lt_types))
