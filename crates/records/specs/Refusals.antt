@@ -35,7 +35,12 @@ abbrev pub fault_of : {A : Type 0} → Result A Refusal → Option ℕ
 fault_of (Ok x) = none
 fault_of (Err r) = some (number r)
 
--- What a reader or a writer answers, as the definition's outcome: the refusal's number, or what the value is seen as.
+-- What a reader or a writer answers, as the definition's outcome: the refusal's number, or the value.
+abbrev pub outcome : {A : Type 0} → Result A Refusal → Outcome A
+outcome (Ok x) = accepted x
+outcome (Err r) = refused (number r)
+
+-- The same where the value is seen as another.
 abbrev pub outcome_by : {A B : Type 0} → (A → B) → Result A Refusal → Outcome B
 outcome_by view (Ok x) = accepted (view x)
 outcome_by view (Err r) = refused (number r)

@@ -8,16 +8,13 @@ use mathlib.Core.Path.{◌≡◌, sym}
 use lib.Dec.{ltb}
 use lib.ListN.{length, get_or}
 use Rattle.definition.specs.Base.{last_of, empty}
-use Rattle.definition.specs.Letters.{predicate, function, member, equality, type_set, func_domain}
+use Rattle.definition.specs.Letters.{func_domain}
 use Rattle.definition.specs.Signature.{Signature, column_count, type_parents, func_of, symbol_count}
 use Rattle.laws.proofs.Lists.{length_each}
 use Rattle.records.proofs.Index.{length_held}
 use Rattle.records.proofs.Lists.{last_some, has_some}
 use Rattle.signature.specs.Index.{signature_at, Indexed}
-use Rattle.signature.specs.Relations.{kind_of, count_of}
 use Rattle.signature.specs.declared.ids.Counts.{Counts}
-use Rattle.signature.specs.declared.ids.Relation.{Relation}
-use Rattle.signature.specs.declared.ids.Relation.TheVariants.{Predicate, Function, Member, Equality, TypeSet, FuncDomain}
 use Rattle.signature.proofs.Symbols.{func_at, func_sound, columns_of_lem}
 
 -- The counts of the signature are those of its index.
@@ -25,15 +22,6 @@ pub counts_are : (s index : List ℕ) (counts : Counts) (kind : ℕ) → symbol_
     ≡ get_or (counts.preds ∷ counts.funcs ∷ counts.types ∷ counts.types ∷ counts.types ∷ counts.funcs ∷ []) kind 0
 unfolding symbol_count signature_at
 counts_are s index counts kind = simp (length_each, length_held)
-
--- So are those of what a statement is about.
-pub counted : (s index : List ℕ) (counts : Counts) (rel : Relation) → symbol_count (signature_at s index counts) (kind_of rel) ≡ count_of counts rel
-counted s index counts (Predicate p) = counts_are s index counts predicate
-counted s index counts (Function f) = counts_are s index counts function
-counted s index counts (Member t) = counts_are s index counts member
-counted s index counts (Equality t) = counts_are s index counts equality
-counted s index counts (TypeSet t) = counts_are s index counts type_set
-counted s index counts (FuncDomain f) = counts_are s index counts func_domain
 
 -- A number that a kind's symbols have is of a kind that there is.
 pub kind_known : (sig : Signature) (kind : ℕ) {n : ℕ} → n < symbol_count sig kind → kind ≤ func_domain

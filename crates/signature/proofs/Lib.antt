@@ -5,3 +5,4 @@ pub mod Checking
 pub mod Whole
 pub mod Symbols
 pub mod ByKind
+pub mod Views

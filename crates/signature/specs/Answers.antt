@@ -1,26 +1,14 @@
 -- The reader's answers as the definition's.
 use Rattle.std.specs.Prelude.{Result, Ok, Err, List, ◌++◌, ◌≡◌, ℕ, ◌<◌, length, get_or}
 use Rattle.std.proofs.Math.Option.{none, some}
-use Rattle.definition.specs.Base.{Outcome}
 use Rattle.definition.specs.Records.{Field, with_letter, fault_among}
-use Rattle.definition.specs.Signature.{Signature}
 use Rattle.records.specs.Held.{held_at}
 use Rattle.records.specs.Places.{Run}
 use Rattle.signature.specs.Faults.{check_of}
-use Rattle.signature.specs.Index.{index_size, signature_at, Held, Indexed}
-use Rattle.records.specs.Refusals.{number, outcome_by}
+use Rattle.signature.specs.Index.{index_size, Held}
+use Rattle.records.specs.Refusals.{number}
 use Rattle.records.specs.declared.refusal.Refusal.{Refusal}
-use Rattle.signature.specs.declared.ids.Counts.{Counts}
 use Rattle.signature.specs.declared.reader.Checked.{Checked}
-
--- A signature read: refused, or accepted with what the index holds.
-abbrev pub signature_reading : List ℕ → List ℕ → Result Counts Refusal → Outcome Signature
-signature_reading s index = outcome_by (signature_at s index)
-
--- What is accepted can be looked up.
-abbrev pub Usable : List ℕ → List ℕ → Result Counts Refusal → Type 0
-Usable s index (Err r) = Unit
-Usable s index (Ok counts) = Indexed s index counts
 
 -- So many fields of a letter, and where the next letter's begin.
 abbrev pub counted : ℕ → ℕ → Result Checked Refusal

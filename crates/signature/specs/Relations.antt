@@ -1,7 +1,6 @@
 -- What a statement is about, as the definition's kind and number.
 use Rattle.std.specs.Prelude.{ℕ}
 use Rattle.definition.specs.Letters.{predicate, function, member, equality, type_set, func_domain}
-use Rattle.signature.specs.declared.ids.Counts.{Counts}
 use Rattle.signature.specs.declared.ids.Relation.{Relation}
 use Rattle.signature.specs.declared.ids.Relation.TheVariants.{Predicate, Function, Member, Equality, TypeSet, FuncDomain}
 
@@ -22,12 +21,3 @@ number_of (Member t) = t.0
 number_of (Equality t) = t.0
 number_of (TypeSet t) = t.0
 number_of (FuncDomain f) = f.0
-
--- How many symbols it may be.
-abbrev pub count_of : Counts → Relation → ℕ
-count_of counts (Predicate p) = counts.preds
-count_of counts (Function f) = counts.funcs
-count_of counts (Member t) = counts.types
-count_of counts (Equality t) = counts.types
-count_of counts (TypeSet t) = counts.types
-count_of counts (FuncDomain f) = counts.funcs

@@ -4,8 +4,9 @@ ghost use Rattle.definition.specs.Letters.{letter_t};
 ghost use Rattle.definition.specs.Limits.{symbol_limit, signature_bytes};
 ghost use Rattle.definition.specs.Records.{follows, with_letter};
 ghost use Rattle.definition.specs.Signature.{signature_grammar, signature_part, read_signature};
+ghost use Rattle.records.specs.Refusals.{outcome};
 ghost use Rattle.records.specs.Places.{Parted};
-ghost use Rattle.signature.specs.Answers.{ChecksUpTo, Stored, signature_reading, Usable};
+ghost use Rattle.signature.specs.Answers.{ChecksUpTo, Stored};
 ghost use Rattle.signature.specs.Index.{index_size};
 
 use crate::faults::field_fault;
@@ -13,6 +14,7 @@ use crate::ids::{
     Counts, FUNCS_FROM, INDEX, LETTER_F, LETTER_P, LETTER_T, PREDS_FROM, SIGNATURE_BYTES, START,
     TYPES_FROM,
 };
+use crate::lookup::Signature;
 use records::fields::{Field, read_field};
 use records::refusal::Refusal;
 
@@ -114,12 +116,12 @@ fn check(
     Ok(Checked { count, next: at })
 }
 
-// The signature's answer; where it is accepted, the index holds the positions of its fields.
-// Where it is refused, the entries of the index are left free: any may have been written, and only their number holds.
-pub fn read_signature(s: &[u8], index: &mut [u16; INDEX]) -> Result<Counts, Refusal>
-    ensures result_after { signature_reading s.now index.new result ≡ read_signature s.now }
-    ensures usable { Usable s.now index.new result }
-    ensures index_len_unchanged { length index.new ≡ length index.old }
+// The signature, or why it is refused. The index is lent for as long as the signature is used.
+pub fn read_signature<'a>(
+    s: &'a [u8],
+    index: &'a mut [u16; INDEX],
+) -> Result<Signature<'a>, Refusal>
+    ensures { outcome result ≡ read_signature s.now }
 {
     if SIGNATURE_BYTES < s.len() {
         return Err(Refusal::TooLong);
@@ -131,9 +133,14 @@ pub fn read_signature(s: &[u8], index: &mut [u16; INDEX]) -> Result<Counts, Refu
     if !p.whole {
         return Err(Refusal::BadFields);
     }
-    Ok(Counts {
+    let counts = Counts {
         types: t.count,
         preds: q.count,
         funcs: f.count,
+    };
+    Ok(Signature {
+        bytes: s,
+        index,
+        counts,
     })
 }

@@ -2,46 +2,45 @@
 -- `read_funcs`). Without one, bytes that are left are 2 (`read_part_lem`); else it is accepted (`read_sound`), and the index holds its fields,
 -- as no check alters entries before its own (`read_indexed`). Each of these takes what the calls so far told.
 use borrow.Author.Tests.{not-true, not-false}
-use borrow.Author.Rules.{rules}
 use Rattle.records.proofs.Results.{passed_on}
 use Rattle.signature.proofs.Whole.{read_long, read_types, read_preds, read_funcs, read_part_lem, read_sound, read_indexed}
 use Rattle.signature.proofs.reader.read_signature.Goals as goal
 
-pub returns-then-s-gt-SIGNATURE_BYTES-clause-result_after : goal.returns-then-s-gt-SIGNATURE_BYTES-clause-result_after
-returns-then-s-gt-SIGNATURE_BYTES-clause-result_after c = read_long _ c.if-s-gt-SIGNATURE_BYTES.true
+pub returns-then-s-gt-SIGNATURE_BYTES : goal.returns-then-s-gt-SIGNATURE_BYTES
+returns-then-s-gt-SIGNATURE_BYTES c = read_long _ c.if-s-gt-SIGNATURE_BYTES.true
 
-pub returns-in_err-t-clause-result_after : goal.returns-in_err-t-clause-result_after
-returns-in_err-t-clause-result_after c =
+pub returns-in_err-t : goal.returns-in_err-t
+returns-in_err-t c =
     rw (passed_on c.from_residual.ensures)
     (read_types c.pass-p.ensures.parted c.pass-p.ensures.types_value c.if-s-gt-SIGNATURE_BYTES.false
     c.check.ensures.checks_up_to c.in_err-t.was)
 
-pub returns-in_err-q-clause-result_after : goal.returns-in_err-q-clause-result_after
-returns-in_err-q-clause-result_after c =
+pub returns-in_err-q : goal.returns-in_err-q
+returns-in_err-q c =
     rw (passed_on c.from_residual-in_err-q.ensures)
     (read_preds c.pass-p.ensures.parted c.pass-p.ensures.types_value c.if-s-gt-SIGNATURE_BYTES.false
     c.check.ensures.checks_up_to c.in_ok-t.was c.check-2.ensures.checks_up_to c.in_err-q.was)
 
-pub returns-in_err-f-clause-result_after : goal.returns-in_err-f-clause-result_after
-returns-in_err-f-clause-result_after c =
+pub returns-in_err-f : goal.returns-in_err-f
+returns-in_err-f c =
     rw (passed_on c.from_residual-in_err-f.ensures)
     (read_funcs c.pass-p.ensures.parted c.pass-p.ensures.types_value c.if-s-gt-SIGNATURE_BYTES.false
     c.check.ensures.checks_up_to c.in_ok-t.was c.check-2.ensures.checks_up_to c.in_ok-q.was c.check-3.ensures.checks_up_to c.in_err-f.was)
 
-pub returns-then-not-p-clause-result_after : goal.returns-then-not-p-clause-result_after
-returns-then-not-p-clause-result_after c =
+pub returns-then-not-p : goal.returns-then-not-p
+returns-then-not-p c =
     read_part_lem c.pass-p.ensures.parted c.pass-p.ensures.types_value c.if-s-gt-SIGNATURE_BYTES.false
     c.check.ensures.checks_up_to c.in_ok-t.was c.check-2.ensures.checks_up_to c.in_ok-q.was c.check-3.ensures.checks_up_to c.in_ok-f.was
     (not-true _ c.if-not-p.true)
 
+pub invariant_of-result : goal.invariant_of-result
+invariant_of-result c =
+    read_indexed c.pass-p.ensures.parted c.pass-p.ensures.types_value c.if-s-gt-SIGNATURE_BYTES.false
+    c.check.ensures.checks_up_to c.in_ok-t.was c.check-2.ensures.checks_up_to c.in_ok-q.was c.check-3.ensures.checks_up_to c.in_ok-f.was
+    c.check.ensures.stored c.check-2.ensures.stored c.check-3.ensures.stored
+
 pub returns : goal.returns
 returns c =
-    record {
-      result_after = read_sound c.pass-p.ensures.parted c.pass-p.ensures.types_value c.if-s-gt-SIGNATURE_BYTES.false
-          c.check.ensures.checks_up_to c.in_ok-t.was c.check-2.ensures.checks_up_to c.in_ok-q.was c.check-3.ensures.checks_up_to c.in_ok-f.was
-          c.check.ensures.stored c.check-2.ensures.stored c.check-3.ensures.stored (not-false _ c.if-not-p.false);
-      usable = read_indexed c.pass-p.ensures.parted c.pass-p.ensures.types_value c.if-s-gt-SIGNATURE_BYTES.false
-          c.check.ensures.checks_up_to c.in_ok-t.was c.check-2.ensures.checks_up_to c.in_ok-q.was c.check-3.ensures.checks_up_to c.in_ok-f.was
-          c.check.ensures.stored c.check-2.ensures.stored c.check-3.ensures.stored;
-      index_len_unchanged = search rules;
-    }
+    read_sound c.pass-p.ensures.parted c.pass-p.ensures.types_value c.if-s-gt-SIGNATURE_BYTES.false
+    c.check.ensures.checks_up_to c.in_ok-t.was c.check-2.ensures.checks_up_to c.in_ok-q.was c.check-3.ensures.checks_up_to c.in_ok-f.was
+    c.check.ensures.stored c.check-2.ensures.stored c.check-3.ensures.stored (not-false _ c.if-not-p.false)
