@@ -125,10 +125,7 @@ pub fn statement_fault(
         ≡ statement_fault (signature_at sig.now symbols.now counts)
         (kinds_of letter) variables before last (field_of s.now letter start len) }
 {
-    if (len & 1) != 1 {
-        return Err(Refusal::BadLength);
-    }
-    if len < VARS_AT {
+    if (len & 1) != 1 || len < VARS_AT {
         return Err(Refusal::BadLength);
     }
     let kind = s[start];
@@ -136,10 +133,7 @@ pub fn statement_fault(
         return Err(Refusal::Undeclared);
     }
     let rel = relation(kind, num(s, start + 1));
-    if !declared(counts, rel) {
-        return Err(Refusal::Undeclared);
-    }
-    if !named(s, start + VARS_AT, len - VARS_AT, variables) {
+    if !declared(counts, rel) || !named(s, start + VARS_AT, len - VARS_AT, variables) {
         return Err(Refusal::Undeclared);
     }
     if bad_columns(sig, symbols, counts, rel, (len - VARS_AT) >> 1) {

@@ -139,7 +139,7 @@ fn variables(
     let mut count: usize = 0;
     while at < end {
         let Some(f) = field_here(s, at, LETTER_W) else {
-            return Ok(Checked { count, next: at });
+            break;
         };
         variable_fault(s, f.start, f.len, types, count)?;
         index[VARIABLES_FROM + count] = at as u16;
@@ -171,7 +171,7 @@ fn statements(
     let mut count: usize = 0;
     while at < end {
         let Some(f) = field_here(s, at, letter) else {
-            return Ok(Checked { count, next: at });
+            break;
         };
         statement_fault(sig, symbols, counts, s, letter, f.start, f.len, variables)?;
         count += 1;

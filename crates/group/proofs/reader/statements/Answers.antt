@@ -31,5 +31,5 @@ loop-at-preserved c =
           (λ last. told_sound (c.statement_fault.ensures _ last) c.in_ok-statement_fault.was),
     )
 
-pub returns-clause-section : goal.returns-clause-section
-returns-clause-section c = λ fs r. let w = c.loop-at.invariant.3 fs r in along_over w (over_end w c.loop-at-test.false)
+pub returns-after-loop-at-clause-section : goal.returns-after-loop-at-clause-section
+returns-after-loop-at-clause-section c = λ fs r. let w = c.loop-at.invariant.3 fs r in along_over w (over_end w c.loop-at-test.false)

@@ -51,6 +51,6 @@ loop-at-preserved c =
       λ sig fs e r. listing_next (c.loop-at.invariant.3 sig fs e r) c.loop-at-test.true room found.is.0 (fine sig e),
     )
 
-pub returns-clause-variable : goal.returns-clause-variable
-returns-clause-variable c = λ sig fs e r.
+pub returns-after-loop-at-clause-variable : goal.returns-after-loop-at-clause-variable
+returns-after-loop-at-clause-variable c = λ sig fs e r.
     let w = c.loop-at.invariant.3 sig fs e r in listing_over w c.loop-at.invariant.2 (over_end w.along c.loop-at-test.false)
