@@ -21,13 +21,11 @@ pub fn assign_structure_el_vars(row: [u16; FIELDS], count: usize, next: u16) -> 
 {
     let mut vars = row;
     let mut number = next;
-    let mut i: usize = 0;
-    while i < count {
-        if vars[i] == NO_VAR {
-            vars[i] = number;
+    for var in &mut vars[..count] {
+        if *var == NO_VAR {
+            *var = number;
             number += 1;
         }
-        i += 1;
     }
     vars
 }
@@ -37,15 +35,7 @@ pub fn fresh(row: [u16; FIELDS], count: usize, first: u16) -> u16
     requires { count ≤ field_limit }
     ensures { result ≡ numbering.fresh (kept_in first count row) }
 {
-    let mut n: u16 = 0;
-    let mut i: usize = 0;
-    while i < count {
-        if first <= row[i] {
-            n += 1;
-        }
-        i += 1;
-    }
-    n
+    row[..count].iter().filter(|&&var| first <= var).count() as u16
 }
 
 // Which elements of a numbered row are images, so that they took a variable over.
@@ -54,10 +44,8 @@ pub fn image_els(row: [u16; FIELDS], count: usize, first: u16) -> [bool; FIELDS]
     ensures { take count result ≡ each given (kept_in first count row) }
 {
     let mut flags = [false; FIELDS];
-    let mut i: usize = 0;
-    while i < count {
-        flags[i] = row[i] < first;
-        i += 1;
+    for (i, &var) in row[..count].iter().enumerate() {
+        flags[i] = var < first;
     }
     flags
 }
