@@ -35,7 +35,13 @@ pub fn fresh(row: [u16; FIELDS], count: usize, first: u16) -> u16
     requires { count ≤ field_limit }
     ensures { result ≡ numbering.fresh (kept_in first count row) }
 {
-    row[..count].iter().filter(|&&var| first <= var).count() as u16
+    let mut n = 0;
+    for &var in &row[..count] {
+        if first <= var {
+            n += 1;
+        }
+    }
+    n
 }
 
 // Which elements of a numbered row are images, so that they took a variable over.
