@@ -9,15 +9,8 @@ use rule::ids::{PLACE_K, PLACE_M, PLACE_X, RULE_INDEX};
 use rule::lookup::{MapFound, find_map, source_at, structure_at, target_at};
 use rule::sections::section_behind;
 
-// The lowest source of a structure.
-#[derive(Clone, Copy)]
-pub enum Source {
-    At(usize),
-    Nothing,
-}
-
-// Maps stand by their sources, so the first map into a structure has the lowest source.
-pub fn incoming_source(s: &[u8], index: &[u16; RULE_INDEX], target: usize) -> Source
+// The lowest source of a structure. Maps stand by their sources, so that of the first map into it.
+pub fn incoming_source(s: &[u8], index: &[u16; RULE_INDEX], target: usize) -> Option<usize>
     requires { Ready s.now index.now }
     ensures { source_is result ≡ incoming_source (rule_at s.now).maps target }
 {
@@ -32,14 +25,14 @@ pub fn incoming_source(s: &[u8], index: &[u16; RULE_INDEX], target: usize) -> So
             next,
         } = f
         else {
-            return Source::Nothing;
+            return None;
         };
         if target_at(s, start, len) == target {
-            return Source::At(source_at(s, start, len));
+            return Some(source_at(s, start, len));
         }
         at = next;
     }
-    Source::Nothing
+    None
 }
 
 // 21: an X structure has no map into it.
@@ -60,10 +53,9 @@ pub fn unmapped_auxiliary(s: &[u8], index: &[u16; RULE_INDEX]) -> bool
         else {
             return true;
         };
-        let source = incoming_source(s, index, structure_at(s, start, len));
-        let Source::At(_) = source else {
+        if incoming_source(s, index, structure_at(s, start, len)).is_none() {
             return true;
-        };
+        }
         at = next;
     }
     false

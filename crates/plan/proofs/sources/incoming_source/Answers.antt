@@ -1,7 +1,6 @@
 use Rattle.plan.proofs.SourceLaws.{source_here, source_behind, source_none}
 use Rattle.plan.proofs.Scanning.{asking, asked_end, answered, passed, maps_from, values_bad, values_inside, values_long}
 use mathlib.Core.Path.{◌∙◌, sym}
-use native.Mathlib.Omega.{arith}
 use Rattle.plan.proofs.sources.incoming_source.Goals as goal
 
 pub loop-at-init : goal.loop-at-init
@@ -26,9 +25,6 @@ pub returns-then-target_at-target : goal.returns-then-target_at-target
 returns-then-target_at-target c =
     sym (answered c.loop-at.invariant c.loop-at-test.true (sym c.read_field-f.ensures.value ∙ c.in-Got.is)
     (source_here _ _ (c.target_at.ensures.by_index _) (c.source_at.ensures.by_index _) c.if-target_at-target.true))
-
-pub loop-at-smaller : goal.loop-at-smaller
-loop-at-smaller c = let a = rw c.in-Got.is at c.read_field-f.ensures.ahead in omega arith
 
 pub loop-at-preserved : goal.loop-at-preserved
 loop-at-preserved c =

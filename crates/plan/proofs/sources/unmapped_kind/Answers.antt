@@ -34,9 +34,6 @@ returns-in_default-map c =
     (no_map_here _ _ (c.source_at.ensures.by_index_2 _) (c.target_at.ensures.by_index_2 _)
     c.find_map-map.ensures c.in_default-map.is))
 
-pub loop-at-smaller : goal.loop-at-smaller
-loop-at-smaller c = let a = rw c.in-Got.is at c.read_field-f.ensures.ahead in omega arith
-
 pub loop-at-preserved : goal.loop-at-preserved
 loop-at-preserved c =
     passed c.loop-at.invariant c.loop-at-test.true (sym c.read_field-f.ensures.value ∙ c.in-Got.is)

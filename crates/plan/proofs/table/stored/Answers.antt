@@ -36,9 +36,6 @@ add-requires c =
     store_named c.loop-at.invariant c.loop-at-test.true (sym c.read_field-f.ensures.value ∙ c.in-Got.is)
     (c.source_at.ensures.by_index_2 _) (c.target_at.ensures.by_index_2 _)
 
-pub loop-at-smaller : goal.loop-at-smaller
-loop-at-smaller c = let a = rw c.in-Got.is at c.read_field-f.ensures.ahead in omega arith
-
 pub loop-at-preserved : goal.loop-at-preserved
 loop-at-preserved c =
     store_next c.loop-at.invariant c.loop-at-test.true (sym c.read_field-f.ensures.value ∙ c.in-Got.is)
