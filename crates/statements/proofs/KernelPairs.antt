@@ -5,8 +5,8 @@ use mathlib.Core.List.Memᴰ
 use mathlib.Core.List.{List, [], ◌∷◌}
 use mathlib.Core.Path.{◌≡◌, refl, sym, ◌∙◌, ap}
 use lib.Dec.{eqb}
-use lib.ListN.{length, get_or, take}
-use lib.Seq.{get_or-take, length-take-le}
+use lib.ListN.{length, get_or}
+use lib.Seq.{get_or-take}
 use Rattle.definition.specs.Base.{keep, each, joined, ◌∈◌}
 use Rattle.definition.specs.Group.{Variable, Statement}
 use Rattle.definition.specs.Kinds.{Side, variable_in, type_in, kernel_variables, equalities}
@@ -52,17 +52,16 @@ module _ {s : List ℕ} {m : Map} {source size : ℕ} {row : List ℕ} (j : Keys
       let a = mem_each (λ (p : Pair). p.key) (keep (λ (p : Pair). eqb p.image e) (pairs_in s m)) i in
       rw a.2 (j.given.below a.0.key (j.keys.named a.0 (mem_keep (λ (p : Pair). eqb p.image e) (pairs_in s m) a.1).0))
 
-  pub typed_vars : (e : ℕ) {vars : List ℕ} {count : ℕ} → length vars ≡ field_limit → count ≤ field_limit
-      → take count vars ≡ each (variable_in (side_in s source row)) (fiber (pairs_in s m) e) → TypedVars vars count size
-  typed_vars e {vars} {count} a b q = record { long = a; few = b; below = below }
+  pub typed_vars : (e : ℕ) {vars : List ℕ} → length vars ≤ field_limit
+      → vars ≡ each (variable_in (side_in s source row)) (fiber (pairs_in s m) e) → TypedVars vars size
+  typed_vars e {vars} f q = record { few = f; below = below }
     where
-      below : (i : ℕ) → i < count → get_or vars i 0 < size
+      below : (i : ℕ) → i < length vars → get_or vars i 0 < size
       below i l =
-          let n : length (take count vars) ≡ count = length-take-le count vars (omega arith) in
-          let k : length (take count vars) ≡ length (fiber (pairs_in s m) e) =
+          let k : length vars ≡ length (fiber (pairs_in s m) e) =
           ap length q ∙ length_each (variable_in (side_in s source row)) (fiber (pairs_in s m) e) in
           let v : get_or vars i 0 ≡ variable_in (side_in s source row) (get_or (fiber (pairs_in s m) e) i 0) =
-          sym (get_or-take count vars i 0 l) ∙ rw q (get_d_each (variable_in (side_in s source row)) (fiber (pairs_in s m) e) i 0 0 (omega arith)) in
+          rw q (get_d_each (variable_in (side_in s source row)) (fiber (pairs_in s m) e) i 0 0 (omega arith)) in
           rw v (fiber_below e (get_or (fiber (pairs_in s m) e) i 0) (mem_at (fiber (pairs_in s m) e) i 0 (omega arith)))
 
 -- The Equalities of pairs of keys.

@@ -22,7 +22,6 @@ ghost use Rattle.statements.specs.Equalities.{equality_of, equalities_among, Typ
 use flags::flag;
 use group::statement::Statement;
 use group::write::put_statement;
-use records::fields::{place, short};
 use records::write::past;
 use rows::morphism::Morphism;
 use rule::elements::{Found, element_count, element_number, find_element};
@@ -38,16 +37,14 @@ fn put_equality(out: &mut [u8], from: usize, letter: u8, types: &[u8], v: u16, w
     requires { (from ≤ count_limit) × (v < length types.now) }
     ensures { Put out.old out.new (field_bytes (statement_field letter (equality_of types.now v w))) from result }
 {
-    let symbol = short(types[place(v)]);
-    let vars = [v, w, 0, 0, 0, 0, 0, 0];
     put_statement(
         out,
         from,
         letter,
         Statement {
             kind: EQUALITY,
-            symbol,
-            vars,
+            symbol: u16::from(types[usize::from(v)]),
+            vars: [v, w, 0, 0, 0, 0, 0, 0],
             count: EQUALITY_VARS,
         },
     )
@@ -79,42 +76,26 @@ fn fiber_vars(
 {
     let mut vars = [0u16; FIELDS];
     let mut count: usize = 0;
-    let mut p: usize = 0;
-    while p < m.pairs {
-        let image = pair_image(s, m, p);
-        if image.0 == e.0 {
-            let f = find_element(s, index, source, pair_key(s, m, p));
-            let Found::At(i) = f else {
+    for p in 0..m.pairs {
+        if pair_image(s, m, p) == e {
+            let Found::At(i) = find_element(s, index, source, pair_key(s, m, p)) else {
                 return Fiber { vars, count };
             };
             vars[count] = row[i];
             count += 1;
         }
-        p += 1;
     }
     Fiber { vars, count }
 }
 
-// Equalities of a variable with each behind it.
-fn put_later(
-    out: &mut [u8],
-    from: usize,
-    letter: u8,
-    types: &[u8],
-    vars: &[u16; FIELDS],
-    count: usize,
-    i: usize,
-) -> usize
-    requires from_le_count_limit { (from ≤ count_limit) × (i < count) }
-    requires typed_vars { TypedVars vars.now count (length types.now) }
-    ensures { Put out.old out.new (statement_bytes letter (each (equality_of types.now (get_or vars.now i 0))
-        (drop (i + 1) (take count vars.now)))) from result }
+// Equalities of a variable with each of those behind it.
+fn put_later(out: &mut [u8], from: usize, letter: u8, types: &[u8], v: u16, later: &[u16]) -> usize
+    requires { (from ≤ count_limit) × (v < length types.now) }
+    ensures { Put out.old out.new (statement_bytes letter (each (equality_of types.now v) later.now)) from result }
 {
     let mut at = from;
-    let mut j = i + 1;
-    while j < count {
-        at = put_equality(out, at, letter, types, vars[i], vars[j]);
-        j += 1;
+    for w in later {
+        at = put_equality(out, at, letter, types, v, *w);
     }
     at
 }
@@ -123,28 +104,19 @@ fn put_later(
 const EQUALITY_SHARE: usize = 5;
 
 // Equalities of each two of some variables.
-fn put_among(
-    out: &mut [u8],
-    from: usize,
-    letter: u8,
-    types: &[u8],
-    vars: &[u16; FIELDS],
-    count: usize,
-) -> usize
+fn put_among(out: &mut [u8], from: usize, letter: u8, types: &[u8], vars: &[u16]) -> usize
     requires from_le_count_limit { from ≤ count_limit }
-    requires typed_vars { TypedVars vars.now count (length types.now) }
-    ensures { Put out.old out.new
-        (statement_bytes letter (equalities_among types.now (take count vars.now))) from result }
+    requires typed_vars { TypedVars vars.now (length types.now) }
+    ensures { Put out.old out.new (statement_bytes letter (equalities_among types.now vars.now)) from result }
 {
     // Nothing of them fits: their length is enough.
     if out.len() <= from {
-        return past(from, EQUALITY_SHARE * (count * count - count));
+        let n = vars.len();
+        return past(from, EQUALITY_SHARE * (n * n - n));
     }
     let mut at = from;
-    let mut i: usize = 0;
-    while i < count {
-        at = put_later(out, at, letter, types, vars, count, i);
-        i += 1;
+    for (i, v) in vars.iter().enumerate() {
+        at = put_later(out, at, letter, types, *v, &vars[i + 1..]);
     }
     at
 }
@@ -169,8 +141,7 @@ fn put_fiber(
         (each (variable_in (side_in s.now source row.now)) (fiber (pairs_in s.now m) e.0)))) from result }
 {
     let fiber = fiber_vars(s, index, source, row, m, e);
-    let vars = fiber.vars;
-    put_among(out, from, letter, types, &vars, fiber.count)
+    put_among(out, from, letter, types, &fiber.vars[..fiber.count])
 }
 
 // An Equality for each kernel pair, by image in the order of the target's elements; only one that is flagged is the image of several
@@ -195,15 +166,12 @@ pub fn put_equalities(
         from result }
     ensures upper_bound { result ≤ count_limit }
 {
-    let count = element_count(index, m.target);
     let mut at = from;
-    let mut j: usize = 0;
-    while j < count {
+    for j in 0..element_count(index, m.target) {
         if flag(m.merged, j) {
             let e = element_number(s, index, m.target, j);
             at = put_fiber(out, at, letter, s, index, m.source, row, m.map, types, e);
         }
-        j += 1;
     }
     at
 }

@@ -97,20 +97,15 @@ fn elements_length(
     ensures upper_bound { result ≤ count_limit }
 {
     // No flag is set: nothing is said, and the elements need not be gone along.
-    if none_set(members) {
-        if none_set(free) {
-            return from;
-        }
+    if none_set(members) && none_set(free) {
+        return from;
     }
-    let n = element_count(index, k);
     let mut at = from;
-    let mut i: usize = 0;
-    while i < n {
+    for i in 0..element_count(index, k) {
         let e = read_element(s, index, k, i);
         if flag(flags_of(e.parents, members, free), i) {
             at = counted(at, e.parents + 1);
         }
-        i += 1;
     }
     at
 }

@@ -13,7 +13,7 @@ use crate::lengths::rows_length;
 use crate::masks::Chosen;
 use flags::{flag, none_set};
 use group::write::put_statement_head;
-use records::write::{past, put_num, rest_at};
+use records::write::{past, put_num};
 use rule::elements::{Found, find_element};
 use rule::ids::{FIELDS, RULE_INDEX};
 use rule::lists::{Els, el_at, first};
@@ -34,16 +34,12 @@ pub fn vars_of(
     requires named_in { NamedIn (structure_in s.now k) (els_in s.now els) }
     ensures { take els.count result ≡ each (variable_by (structure_in s.now k) row.now) (els_in s.now els) }
 {
-    let count = els.count;
     let mut vars = [0u16; COLUMNS];
-    let mut i: usize = 0;
-    while i < count {
-        let f = find_element(s, index, k, el_at(s, els, i));
-        let Found::At(j) = f else {
+    for i in 0..els.count {
+        let Found::At(j) = find_element(s, index, k, el_at(s, els, i)) else {
             return vars;
         };
         vars[i] = row[j];
-        i += 1;
     }
     vars
 }
@@ -66,16 +62,12 @@ fn write_row(
     ensures { Put out.old out.new
         (field_bytes (statement_field letter (row_said s.now k row.now kind symbol els))) 0 result }
 {
-    let count = els.count;
-    let mut at = put_statement_head(out, letter, kind, symbol, count);
-    let mut i: usize = 0;
-    while i < count {
-        let f = find_element(s, index, k, el_at(s, els, i));
-        let Found::At(j) = f else {
+    let mut at = put_statement_head(out, letter, kind, symbol, els.count);
+    for i in 0..els.count {
+        let Found::At(j) = find_element(s, index, k, el_at(s, els, i)) else {
             return at;
         };
         at = put_num(out, at, row[j]);
-        i += 1;
     }
     at
 }
@@ -99,7 +91,7 @@ fn put_row(
     ensures { Put out.old out.new
         (field_bytes (statement_field letter (row_said s.now k row.now kind symbol els))) from result }
 {
-    let rest = rest_at(from, out.len());
+    let rest = from.min(out.len());
     let len = write_row(
         &mut out[rest..],
         letter,

@@ -7,25 +7,22 @@ use native.Mathlib.Omega.{arith}
 use Rattle.statements.proofs.sections.vars_of.Goals as goal
 
 pub loop-i-init : goal.loop-i-init
-loop-i-init c = (search rules, filling _ (search rules))
+loop-i-init c = filling _ (search rules)
 
 pub returns-in_default : goal.returns-in_default
 returns-in_default c =
-    let f = rw c.in_default.is at c.find_element-f.ensures in
-    named_at c.requires.laid c.requires.els_inside.0 c.loop-i-test.true c.el_at.ensures c.requires.named_in f
+    named_at c.requires.laid c.requires.els_inside.0 c.loop-i-test.true c.el_at.ensures c.requires.named_in c.in_default.ensures
 
 pub offset_bounds-row-j : goal.offset_bounds-row-j
-offset_bounds-row-j c = let f = found_few c.requires.laid.elements.elements (rw c.in-At.is at c.find_element-f.ensures) in omega arith
+offset_bounds-row-j c = let f = found_few c.requires.laid.elements.elements c.in-At.ensures in omega arith
 
 pub bounds-row-j : goal.bounds-row-j
-bounds-row-j c = found_few c.requires.laid.elements.elements (rw c.in-At.is at c.find_element-f.ensures)
+bounds-row-j c = found_few c.requires.laid.elements.elements c.in-At.ensures
 
 pub loop-i-preserved : goal.loop-i-preserved
 loop-i-preserved c =
-    let f = rw c.in-At.is at c.find_element-f.ensures in
-    let l = c.loop-i-test.true in
-    let v = els_said_at c.requires.els_inside.0 _ _ l c.el_at.ensures (variable_found c.requires.laid _ f) in
-    (search rules, fill_next (els_said c.requires.els_inside.0 _) c.loop-i.invariant.1 c.requires.els_inside.1 l v)
+    let v = els_said_at c.requires.els_inside.0 _ _ c.loop-i-test.true c.el_at.ensures (variable_found c.requires.laid _ c.in-At.ensures) in
+    fill_next (els_said c.requires.els_inside.0 _) c.loop-i.invariant c.requires.els_inside.1 c.loop-i-test.true v
 
 pub returns : goal.returns
-returns c = filled (els_said c.requires.els_inside.0 _) c.loop-i.invariant.1 c.loop-i.invariant.0 c.loop-i-test.false
+returns c = filled (els_said c.requires.els_inside.0 _) c.loop-i.invariant c.loop-i.auto.i-end c.loop-i-test.false

@@ -9,31 +9,25 @@ use native.Mathlib.Omega.{arith}
 use Rattle.statements.proofs.sections.write_row.Goals as goal
 
 pub loop-i-init : goal.loop-i-init
-loop-i-init c = (search rules, begin _ _ (search rules))
+loop-i-init c = begin _ _ (search rules)
 
 pub returns-in_default : goal.returns-in_default
 returns-in_default c =
-    let f = rw c.in_default.is at c.find_element-f.ensures in
-    named_at c.requires.laid c.requires.els_inside.0 c.loop-i-test.true c.el_at.ensures c.requires.named_in f
+    named_at c.requires.laid c.requires.els_inside.0 c.loop-i-test.true c.el_at.ensures c.requires.named_in c.in_default.ensures
 
 pub offset_bounds-row-j : goal.offset_bounds-row-j
-offset_bounds-row-j c =
-    let f = rw c.in-At.is at c.find_element-f.ensures in
-    let few = found_few c.requires.laid.elements.elements f in omega arith
+offset_bounds-row-j c = let f = found_few c.requires.laid.elements.elements c.in-At.ensures in omega arith
 
 pub bounds-row-j : goal.bounds-row-j
-bounds-row-j c = found_few c.requires.laid.elements.elements (rw c.in-At.is at c.find_element-f.ensures)
+bounds-row-j c = found_few c.requires.laid.elements.elements c.in-At.ensures
 
 pub loop-i-preserved : goal.loop-i-preserved
-loop-i-preserved c = (
-  search rules,
-  let v = variable_found c.requires.laid _ (rw c.in-At.is at c.find_element-f.ensures) in
-      let on = els_said_on c.requires.els_inside.0 _ _ c.loop-i-test.true c.el_at.ensures v in
-      wrote c.loop-i.invariant.1 on c.put_num-at.ensures,
-)
+loop-i-preserved c =
+    let v = variable_found c.requires.laid _ c.in-At.ensures in
+    wrote c.loop-i.invariant (els_said_on c.requires.els_inside.0 _ _ c.loop-i-test.true c.el_at.ensures v) c.put_num-at.ensures
 
 pub returns : goal.returns
 returns c =
     let w = c.requires.els_inside.0 in
-    let rest = finish c.loop-i.invariant.1 (els_said_end w _ _ c.loop-i-test.false) in
+    let rest = finish c.loop-i.invariant (els_said_end w _ _ c.loop-i-test.false) in
     statement_put _ _ (els_said w _) c.put_statement_head-at.ensures rest
