@@ -12,8 +12,8 @@ use Rattle.statements.proofs.equalities.fiber_vars.Goals as goal
 pub loop-p-init : goal.loop-p-init
 loop-p-init c = fiber_start _ _ _ _ _ (search rules)
 
-pub returns-in_default : goal.returns-in_default
-returns-in_default c =
+pub returns-in_default-clause-vars_value : goal.returns-in_default-clause-vars_value
+returns-in_default-clause-vars_value c =
     absurd (key_found c.requires.map_in c.requires.keys_in _ c.loop-p-test.true c.pair_key.ensures c.in_default.ensures)
 
 pub offset_bounds-row-i : goal.offset_bounds-row-i
@@ -30,7 +30,5 @@ loop-p-preserved c =
       | else-eq x ↦ rw (x.vars-is, x.count-is) (fiber_pass w i l (rw c.pair_image.ensures at x.if-eq.ensures))
     ]
 
-pub returns : goal.returns
-returns c =
-    let w = c.requires.map_in in let i = c.loop-p.invariant in
-    record { vars_len = (i.long, omega (arith, w.few, i.few)); vars_value = fiber_end w i c.loop-p-test.false }
+pub returns-clause-vars_value : goal.returns-clause-vars_value
+returns-clause-vars_value c = fiber_end c.requires.map_in c.loop-p.invariant c.loop-p-test.false

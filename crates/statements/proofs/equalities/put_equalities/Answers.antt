@@ -1,7 +1,6 @@
 -- Of the Equalities by image, those of the target's elements from the j-th on are left (`Writing`, `over_bytes`). For a flagged element its
 -- fiber's are put (`els_on`); one without a flag is the image of one key at most (`unflagged`), so it has none (`els_pass`). All of them
 -- together are the Equalities of the kernel pairs (`equalities_are`).
-use native.Mathlib.Omega.{arith}
 use mathlib.Core.Path.{sym}
 use Rattle.records.proofs.Tail.{begin, wrote, passed, finish}
 use Rattle.rows.proofs.Several.{unflagged}
@@ -23,9 +22,7 @@ loop-j-preserved c =
           (els_pass _ _ l _ _ n h (unflagged c.requires.between.merged _ (place_in_numbers l n h) (sym w.if-flag.ensures))))
     ]
 
-pub returns : goal.returns
-returns c =
-    let r = finish c.loop-j.invariant (els_end _ _ c.requires.between.target_at.laid _ _ c.element_count-j-end.ensures c.loop-j-test.false) in record {
-      put = λ sig table target t q. rw (equalities_are (keys_given c.requires.between.joins c.requires.given_out) t _ sig target q, ← (over_all _ _ _ _ _)) r;
-      upper_bound = omega (arith, r.size);
-    }
+pub returns-clause-put : goal.returns-clause-put
+returns-clause-put c =
+    let r = finish c.loop-j.invariant (els_end _ _ c.requires.between.target_at.laid _ _ c.element_count-j-end.ensures c.loop-j-test.false) in
+    λ sig table target t q. rw (equalities_are (keys_given c.requires.between.joins c.requires.given_out) t _ sig target q, ← (over_all _ _ _ _ _)) r

@@ -1,13 +1,9 @@
 -- The loop has the variables of the first i elements (Filling); each element is one of the structure's, so it is found.
 use Rattle.rule.proofs.ElementLaws.{found_few}
-use Rattle.group.proofs.Values.{filling, fill_next, filled}
+use Rattle.group.proofs.Values.{fill_next, filled}
 use Rattle.statements.proofs.Variables.{named_at, variable_found, els_said, els_said_at}
-use borrow.Author.Rules.{rules}
 use native.Mathlib.Omega.{arith}
 use Rattle.statements.proofs.sections.vars_of.Goals as goal
-
-pub loop-i-init : goal.loop-i-init
-loop-i-init c = filling _ (search rules)
 
 pub returns-in_default : goal.returns-in_default
 returns-in_default c =
