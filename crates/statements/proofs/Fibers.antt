@@ -7,21 +7,18 @@ use mathlib.Core.Path.{◌≡◌, refl, ◌∙◌, ap}
 use lib.Dec.{eqb}
 use lib.ListN.{length, get_or, set, take, drop, drop_of_length-le, length-set, length-drop}
 use lib.Seq.{take_all}
-use Rattle.definition.specs.Base.{keep, each, joined}
+use Rattle.definition.specs.Base.{keep, each, joined, ◌∈◌}
 use Rattle.definition.specs.Limits.{field_limit}
-use Rattle.definition.specs.Kinds.{Side, variable_in}
-use Rattle.definition.specs.Names.{numbers_of, variable_at, fiber}
+use Rattle.definition.specs.Names.{numbers_of, fiber}
 use Rattle.definition.specs.Rule.{Pair}
 use Rattle.definition.specs.Writer.{statement_field, field_bytes, record_bytes}
 use Rattle.laws.proofs.ByteForm.{statements_append}
-use Rattle.laws.proofs.Lists.{each_append, length_each}
+use Rattle.laws.proofs.Lists.{each_append, length_each, mem_at}
 use Rattle.records.proofs.Link.{one_more}
 use Rattle.records.proofs.Lists.{keep_append}
-use Rattle.rule.specs.Elements.{count_at, element_at, element_numbers, Finds}
-use Rattle.rule.specs.declared.elements.Found.TheVariants.{At}
+use Rattle.rule.specs.Elements.{count_at, element_at, element_numbers}
 use Rattle.rule.proofs.Finding.{numbers_length, numbers_get}
-use Rattle.rows.specs.Kernel.{SideAt}
-use Rattle.rule.specs.MapFields.{pair_at, pairs_in, MapIn}
+use Rattle.rule.specs.MapFields.{pair_at, pairs_in, MapIn, KeysIn}
 use Rattle.rule.specs.declared.maps.Map.{Map}
 use Rattle.rule.proofs.MapLaws.{pairs_many}
 use Rattle.records.proofs.Parts.{take_more, store_more}
@@ -43,46 +40,48 @@ module _ (ps : List Pair) (q : Pair) (e : ℕ) where
   more_other h = rw (keep_append (λ (p : Pair). eqb p.image e) ps (q ∷ []), each_append, ← h, append-nil)
 
 -- The loop along the pairs: the variables of the keys of an image among the first of them.
-pub record FiberTo (s : List ℕ) (m : Map) (els row : List ℕ) (e : ℕ) (vars : List ℕ) (count p : ℕ) : Type 0 where
+pub record FiberTo (variable : ℕ → ℕ) (s : List ℕ) (m : Map) (e : ℕ) (vars : List ℕ) (count p : ℕ) : Type 0 where
   pub long : length vars ≡ field_limit
   pub few : count ≤ p
-  pub same : (side : Side) → SideAt els row side → take count vars ≡ each (variable_in side) (fiber (take p (pairs_in s m)) e)
+  pub same : take count vars ≡ each variable (fiber (take p (pairs_in s m)) e)
 
-pub fiber_start : (s : List ℕ) (m : Map) (els row : List ℕ) (e : ℕ) {vars : List ℕ} → length vars ≡ field_limit → FiberTo s m els row e vars 0 0
+pub fiber_start : (variable : ℕ → ℕ) (s : List ℕ) (m : Map) (e : ℕ) {vars : List ℕ} → length vars ≡ field_limit → FiberTo variable s m e vars 0 0
 unfolding fiber keep each
-fiber_start s m els row e l = record { long = l; few = omega arith; same = λ side t. refl }
+fiber_start variable s m e l = record { long = l; few = omega arith; same = refl }
 
-module _ {s : List ℕ} {m : Map} (h : MapIn s m) {els row : List ℕ} {e : ℕ} {vars : List ℕ} {count p : ℕ} (w : FiberTo s m els row e vars count p) where
-  pub fiber_end : m.pairs ≤ p → (side : Side) → SideAt els row side → take count vars ≡ each (variable_in side) (fiber (pairs_in s m) e)
-  fiber_end l side t = let n = pairs_many h in let a : take p (pairs_in s m) ≡ pairs_in s m = take_all p (pairs_in s m) (omega arith) in
-      rw a at (w.same side t)
+module _ {s : List ℕ} {m : Map} (h : MapIn s m) where
+  -- A pair's key is one of the keys.
+  pub key_in : {els : List ℕ} → KeysIn els (pairs_in s m) → {p e : ℕ} → p < m.pairs → e ≡ (pair_at s m p).key → e ∈ els
+  unfolding pair_at
+  key_in k {p} l q = let n = pairs_many h in rw q (k.named _ (mem_at (pairs_in s m) p no_pair (omega arith)))
 
-  module _ (l : p < m.pairs) where
-    room : count < field_limit
-    room = omega (arith, h.few, w.few)
+  module _ {variable : ℕ → ℕ} {e : ℕ} {vars : List ℕ} {count p : ℕ} (w : FiberTo variable s m e vars count p) where
+    pub fiber_end : m.pairs ≤ p → take count vars ≡ each variable (fiber (pairs_in s m) e)
+    fiber_end l = let n = pairs_many h in let a : take p (pairs_in s m) ≡ pairs_in s m = take_all p (pairs_in s m) (omega arith) in
+        rw a at w.same
 
-    on : take (p + 1) (pairs_in s m) ≡ take p (pairs_in s m) ++ (pair_at s m p ∷ [])
-    unfolding pair_at
-    on = let n = pairs_many h in take_more (pairs_in s m) p no_pair (omega arith)
+    module _ (l : p < m.pairs) where
+      on : take (p + 1) (pairs_in s m) ≡ take p (pairs_in s m) ++ (pair_at s m p ∷ [])
+      unfolding pair_at
+      on = let n = pairs_many h in take_more (pairs_in s m) p no_pair (omega arith)
 
-    pub fiber_pass : false ≡ eqb (pair_at s m p).image e → FiberTo s m els row e vars count (p + 1)
-    fiber_pass d = record {
-      long = w.long;
-      few = omega (arith, w.few);
-      same = λ side t. w.same side t ∙ rw (on, more_other (take p (pairs_in s m)) (pair_at s m p) e d);
-    }
+      pub fiber_pass : false ≡ eqb (pair_at s m p).image e → FiberTo variable s m e vars count (p + 1)
+      fiber_pass d = record {
+        long = w.long;
+        few = omega (arith, w.few);
+        same = w.same ∙ rw (on, more_other (take p (pairs_in s m)) (pair_at s m p) e d);
+      }
 
-    pub fiber_next : true ≡ eqb (pair_at s m p).image e → {k i : ℕ} → k ≡ (pair_at s m p).key → Finds (At i) k els
-        → FiberTo s m els row e (set vars count (get_or row i 0)) (count + 1) (p + 1)
-    unfolding each variable_at
-    fiber_next a {k} {i} q f = record {
-      long = length-set vars count (get_or row i 0) ∙ w.long;
-      few = omega (arith, w.few);
-      same = λ side t.
-          let v : get_or row i 0 ≡ variable_in side (pair_at s m p).key = t.variables i f.is.1 ∙ rw (← q, t.numbers, ← f.is.0) in
-          let r = room in let n = w.long in
-          rw (store_more vars count (get_or row i 0) (omega arith), w.same side t, on, more_same (take p (pairs_in s m)) (pair_at s m p) e a, each_append, v);
-    }
+      pub fiber_next : true ≡ eqb (pair_at s m p).image e → {k v : ℕ} → k ≡ (pair_at s m p).key → v ≡ variable k
+          → FiberTo variable s m e (set vars count v) (count + 1) (p + 1)
+      unfolding each
+      fiber_next a {k} {v} q i =
+          let room : count < length vars = omega (arith, h.few, w.few, w.long) in
+          record {
+            long = length-set vars count v ∙ w.long;
+            few = omega (arith, w.few);
+            same = rw (store_more vars count v room, w.same, on, more_same (take p (pairs_in s m)) (pair_at s m p) e a, each_append, i, q);
+          }
 
 -- Of one variable alone there is no Equality.
 equal_few : (types vs : List ℕ) → length vs ≤ 1 → equalities_among types vs ≡ []

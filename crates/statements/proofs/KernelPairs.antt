@@ -20,7 +20,7 @@ use Rattle.laws.proofs.Lists.{mem_keep, mem_each, each_append, get_d_each, lengt
 use Rattle.rule.specs.Elements.{element_numbers}
 use Rattle.rule.proofs.Finding.{numbers_length}
 use Rattle.rows.specs.Kernel.{TypesOf, SideAt}
-use Rattle.rule.specs.MapFields.{pairs_in, KeysIn, Joins}
+use Rattle.rule.specs.MapFields.{pairs_in, Joins}
 use Rattle.rule.specs.declared.maps.Map.{Map}
 use Rattle.rule.specs.Structures.{structure_in, Laid}
 use Rattle.naming.specs.Variables.{GivenOut}
@@ -36,9 +36,6 @@ side_at {s} {index} {k} l row = record {
       let n : i < length (structure_in s k).elements = omega (arith, numbers_length s index k, elements_are l) in
       sym (get_or-take (length (structure_in s k).elements) row i 0 n);
 }
-
-pub keys_in : {s index : List ℕ} {k : ℕ} {ps : List Pair} → Laid s index k → KeysIn (numbers_of (structure_in s k)) ps → KeysIn (element_numbers s index k) ps
-keys_in l w = rw (numbers_are l) at w
 
 pub keys_given : {s : List ℕ} {source target size : ℕ} {m : Map} {row : List ℕ} → Joins s source target m → GivenOut (structure_in s source) row size
     → KeysGiven s source m row size

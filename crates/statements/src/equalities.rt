@@ -1,30 +1,30 @@
 // Equalities: one for each kernel pair of a map, of the variables of its two keys.
-ghost use Rattle.std.specs.Prelude.{List, ◌≡◌, ◌+◌, ◌≤◌, ◌<◌, length, get_or, take, drop};
+ghost use Rattle.std.specs.Prelude.{List, ◌≡◌, ◌≤◌, ◌<◌, length, take};
 ghost use Rattle.definition.specs.Base.{each};
 ghost use Rattle.definition.specs.Group.{Variable};
 ghost use Rattle.definition.specs.Kinds as definition;
 ghost use Rattle.definition.specs.Kinds.{Side, variable_in};
-ghost use Rattle.definition.specs.Limits.{structure_limit, field_limit};
-ghost use Rattle.definition.specs.Names.{fiber};
+ghost use Rattle.definition.specs.Limits.{field_limit};
+ghost use Rattle.definition.specs.Names.{numbers_of, fiber};
 ghost use Rattle.definition.specs.Signature.{Signature};
 ghost use Rattle.definition.specs.Writer.{statement_field, field_bytes};
 ghost use Rattle.records.specs.Buffer.{Put, count_limit};
-ghost use Rattle.rule.specs.Elements.{element_numbers, Elements};
-ghost use Rattle.rows.specs.Kernel.{TypesOf, SideAt};
+ghost use Rattle.rows.specs.Kernel.{TypesOf};
 ghost use Rattle.rows.specs.Morphisms.{source_in, target_in, pairs_by, Between};
 ghost use Rattle.rule.specs.MapFields.{pairs_in, MapIn, KeysIn};
-ghost use Rattle.rule.specs.Structures.{Stands};
+ghost use Rattle.rule.specs.Structures.{structure_in, Laid, Stands};
 ghost use Rattle.naming.specs.Variables.{GivenOut};
 ghost use Rattle.laws.specs.Bytes.{statement_bytes};
 ghost use Rattle.statements.specs.Structures.{side_in};
 ghost use Rattle.statements.specs.Equalities.{equality_of, equalities_among, TypedVars, KeysGiven};
 
+use crate::sections::var_of;
 use flags::flag;
 use group::statement::Statement;
 use group::write::put_statement;
 use records::write::past;
 use rows::morphism::Morphism;
-use rule::elements::{Found, element_count, element_number, find_element};
+use rule::elements::{element_count, element_number};
 use rule::ids::{ElId, FIELDS, RULE_INDEX};
 use rule::maps::{Map, pair_image, pair_key};
 use signature::ids::EQUALITY;
@@ -67,21 +67,17 @@ fn fiber_vars(
     e: ElId,
 ) -> Fiber
     requires map_in { MapIn s.now m }
-    requires source_lt_structure_limit { source < structure_limit }
-    requires elements { Elements s.now index.now source }
-    requires keys_in { KeysIn (element_numbers s.now index.now source) (pairs_in s.now m) }
-    ensures vars_len { (length result.vars ≡ field_limit) × (result.count ≤ field_limit) }
-    ensures vars_value { (side : Side) → SideAt (element_numbers s.now index.now source) row.now side
-        → take result.count result.vars ≡ each (variable_in side) (fiber (pairs_in s.now m) e.0) }
+    requires laid { Laid s.now index.now source }
+    requires keys_in { KeysIn (numbers_of (structure_in s.now source)) (pairs_in s.now m) }
+    ensures count_le_field_limit { result.count ≤ field_limit }
+    ensures vars_value { take result.count result.vars
+        ≡ each (variable_in (side_in s.now source row.now)) (fiber (pairs_in s.now m) e.0) }
 {
     let mut vars = [0u16; FIELDS];
     let mut count: usize = 0;
     for p in 0..m.pairs {
         if pair_image(s, m, p) == e {
-            let Found::At(i) = find_element(s, index, source, pair_key(s, m, p)) else {
-                return Fiber { vars, count };
-            };
-            vars[count] = row[i];
+            vars[count] = var_of(s, index, source, row, pair_key(s, m, p));
             count += 1;
         }
     }

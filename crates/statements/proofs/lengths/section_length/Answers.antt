@@ -22,8 +22,8 @@ read_row-r-requires c = row_here c.loop-field.invariant.0 c.loop-field-test.true
 pub flag-requires : goal.flag-requires
 flag-requires c = let few = row_few c.loop-field.invariant.0 c.loop-field-test.true c.read_row-r.ensures in omega arith
 
-pub overflow_sub-els : goal.overflow_sub-els
-overflow_sub-els c = row_wide c.loop-field.invariant.0 c.loop-field-test.true c.read_row-r.ensures
+pub overflow_sub-r : goal.overflow_sub-r
+overflow_sub-r c = row_wide c.loop-field.invariant.0 c.loop-field-test.true c.read_row-r.ensures
 
 pub loop-field-preserved : goal.loop-field-preserved
 loop-field-preserved c =
