@@ -6,11 +6,10 @@ use mathlib.Core.Bool.{Bool, true, false}
 use mathlib.Core.List.{List, [], ◌∷◌, ◌++◌, append-nil}
 use mathlib.Core.Path.{◌≡◌, refl, sym, ◌∙◌, ap}
 use lib.ListN.{length, get_or, set, take, drop, length-append, drop_of_length-le}
-use lib.Seq.{drop-cons, get_or-take, length-take-le}
+use lib.Seq.{drop-cons}
 use Rattle.definition.specs.Base.{cons_if, keep, each, joined, empty, ◌∈◌}
 use Rattle.definition.specs.Group.{Statement}
 use Rattle.definition.specs.Letters.{member, type_set}
-use Rattle.definition.specs.Limits.{field_limit}
 use Rattle.definition.specs.Rows.{member_row, sort_rows, members, row_statement, type_sets}
 use Rattle.definition.specs.Rule.{Structure, Element}
 use Rattle.definition.specs.Writer.{statement_field, field_bytes, record_bytes}
@@ -25,7 +24,6 @@ use Rattle.rule.specs.declared.elements.Element as read
 use Rattle.records.proofs.Parts.{store_more}
 use Rattle.rule.proofs.ElementLaws.{no_element, element_is, parents_many, elements_on}
 use Rattle.rows.proofs.Kept.{members_are}
-use Rattle.rows.proofs.OrderLaws.{below_at}
 use Rattle.flags.specs.declared.Mask.{Mask}
 use Rattle.flags.specs.Flags.{places, flag_at}
 use Rattle.rule.specs.Structures.{structure_in, Laid, Stands}
@@ -192,55 +190,44 @@ members_from letter st row mask n = statement_bytes letter (each (row_statement 
 pub members_all : (letter : ℕ) (st : Structure) (row : List ℕ) (mask : Mask)
     → members_from letter st row mask 0 ≡ statement_bytes letter (each (row_statement (variable_by st row)) (keep (member_flag st mask) (members st)))
 unfolding members_from
-members_all letter st row mask = refl
+members_all letter _ row mask = refl
 
--- The order of the member rows: the places of their elements.
-pub record Ordered (s index : List ℕ) (k : ℕ) (order : List ℕ) (count : ℕ) : Type 0 where
-  pub long : length order ≡ field_limit
-  pub few : count ≤ field_limit
-  pub sorted : each (member_in s index k) (take count order) ≡ sort_rows (member_rows (elements_in s index k))
-  pub below : Below (count_at index k) (take count order)
+-- The places of the member rows' elements, in the rows' order; the n-th of them.
+module _ {s index : List ℕ} {k : ℕ} (w : Stands s index k) {order : List ℕ} (below : Below (count_at index k) order) {n i : ℕ}
+    (h : n < length order) (q : i ≡ get_or order n 0) where
+  pub order_below : i < count_at index k
+  order_below = rw q (below.each_below (get_or order n 0) (mem_at order n 0 h))
 
-module _ {s index : List ℕ} {k : ℕ} (w : Stands s index k) {order : List ℕ} {count : ℕ} (o : Ordered s index k order count) (n : ℕ) (h : n < count) where
-  pub order_below : get_or order n 0 < count_at index k
-  order_below = below_at order n o.below h (omega (arith, o.long, o.few))
-
-  pub order_few : get_or order n 0 < places
+  pub order_few : i < places
   order_few = let f = w.at.laid.elements.elements.few in let b = order_below in omega arith
 
-module _ {s index : List ℕ} {k : ℕ} (w : Stands s index k) (letter : ℕ) (row : List ℕ) (mask : Mask) {order : List ℕ} {count : ℕ}
-    (o : Ordered s index k order count) where
-  in_order : members (structure_in s k) ≡ each (member_in s index k) (take count order)
-  in_order = members_are s index k (structure_in s k) w.at.laid.same ∙ sym o.sorted
+module _ {s index : List ℕ} {k : ℕ} (w : Stands s index k) (letter : ℕ) (row : List ℕ) (mask : Mask) (order : List ℕ)
+    (sorted : each (member_in s index k) order ≡ sort_rows (member_rows (elements_in s index k))) where
+  in_order : members (structure_in s k) ≡ each (member_in s index k) order
+  in_order = members_are s index k (structure_in s k) w.at.laid.same ∙ sym sorted
 
-  took : length (take count order) ≡ count
-  took = length-take-le count order (omega (arith, o.long, o.few))
+  many : length (members (structure_in s k)) ≡ length order
+  many = ap length in_order ∙ length_each (member_in s index k) order
 
-  many : length (members (structure_in s k)) ≡ count
-  many = ap length in_order ∙ length_each (member_in s index k) (take count order) ∙ took
+  pub members_end : {n : ℕ} → length order ≤ n → members_from letter (structure_in s k) row mask n ≡ []
+  unfolding members_from keep each statement_bytes record_bytes joined
+  members_end {n} h = let z = many in rw (drop_of_length-le (members (structure_in s k)) {i = n} (omega arith))
 
-  module _ (n : ℕ) where
-    pub members_end : count ≤ n → members_from letter (structure_in s k) row mask n ≡ []
-    unfolding members_from keep each statement_bytes record_bytes joined
-    members_end h = let z = many in rw (drop_of_length-le (members (structure_in s k)) {i = n} (omega arith))
+  module _ (below : Below (count_at index k) order) {n : ℕ} (h : n < length order) {i : ℕ} (q : i ≡ get_or order n 0) where
+    left : drop n (members (structure_in s k)) ≡ member_in s index k i ∷ drop (n + 1) (members (structure_in s k))
+    left =
+        let g : get_or (members (structure_in s k)) n (member_in s index k 0) ≡ member_in s index k i
+        = rw (in_order, q) (get_d_each (member_in s index k) order n 0 (member_in s index k 0) h) in
+        let m = many in
+        rw (add-one, ← g) (drop-cons (members (structure_in s k)) n (member_in s index k 0) (omega arith))
 
-    module _ (h : n < count) where
-      left : drop n (members (structure_in s k)) ≡ member_in s index k (get_or order n 0) ∷ drop (n + 1) (members (structure_in s k))
-      left =
-          let z = took in
-          let g : get_or (members (structure_in s k)) n (member_in s index k 0) ≡ member_in s index k (get_or order n 0)
-          = rw in_order (get_d_each (member_in s index k) (take count order) n 0 (member_in s index k 0) (omega arith)
-          ∙ ap (member_in s index k) (get_or-take count order n 0 h)) in
-          let m = many in
-          rw (add-one, ← g) (drop-cons (members (structure_in s k)) n (member_in s index k 0) (omega arith))
+    pub members_on : flag_at mask i ≡ true → members_from letter (structure_in s k) row mask n
+        ≡ field_bytes (statement_field letter (element_statement (variable_by (structure_in s k) row) member (element_in s index k i)))
+        ++ members_from letter (structure_in s k) row mask (n + 1)
+    unfolding members_from keep each row_statement member_in member_row element_statement
+    members_on f = rw (left, own_flag w (order_below w below h q) mask, f) (statements_cons letter _ _)
 
-      pub members_on : flag_at mask (get_or order n 0) ≡ true → members_from letter (structure_in s k) row mask n
-          ≡ field_bytes (statement_field letter (element_statement (variable_by (structure_in s k) row) member (element_in s index k (get_or order n 0)))) ++
-          members_from letter (structure_in s k) row mask (n + 1)
-      unfolding members_from keep each row_statement member_in member_row element_statement
-      members_on f = rw (left, own_flag w (order_below w o n h) mask, f) (statements_cons letter _ _)
-
-      pub members_pass : flag_at mask (get_or order n 0) ≡ false
-          → members_from letter (structure_in s k) row mask n ≡ members_from letter (structure_in s k) row mask (n + 1)
-      unfolding members_from keep
-      members_pass f = rw (left, own_flag w (order_below w o n h) mask, f)
+    pub members_pass : flag_at mask i ≡ false
+        → members_from letter (structure_in s k) row mask n ≡ members_from letter (structure_in s k) row mask (n + 1)
+    unfolding members_from keep
+    members_pass f = rw (left, own_flag w (order_below w below h q) mask, f)

@@ -36,11 +36,11 @@ fn section_length(
     let mut field = section.from;
     let mut at = from;
     let mut i: usize = 0;
+    // A while: the cursor moves by what each row says.
     while field < end {
         let r = read_row(s, field);
-        let els = r.els;
         if flag(chosen.mask, i) {
-            at = counted(at, els.count - chosen.omitted);
+            at = counted(at, r.els.count - chosen.omitted);
         }
         i += 1;
         field = r.next;
@@ -73,10 +73,7 @@ pub fn rows_length(
 fn flags_of(parents: usize, members: Mask, free: Mask) -> Mask
     ensures { result ≡ pick (eqb parents 0) free members }
 {
-    if parents == 0 {
-        return free;
-    }
-    members
+    if parents == 0 { free } else { members }
 }
 
 // Where the flagged member rows and the TypeSets of the flagged elements end. No order changes how long they are together, so the
@@ -97,20 +94,15 @@ fn elements_length(
     ensures upper_bound { result ≤ count_limit }
 {
     // No flag is set: nothing is said, and the elements need not be gone along.
-    if none_set(members) {
-        if none_set(free) {
-            return from;
-        }
+    if none_set(members) && none_set(free) {
+        return from;
     }
-    let n = element_count(index, k);
     let mut at = from;
-    let mut i: usize = 0;
-    while i < n {
+    for i in 0..element_count(index, k) {
         let e = read_element(s, index, k, i);
         if flag(flags_of(e.parents, members, free), i) {
             at = counted(at, e.parents + 1);
         }
-        i += 1;
     }
     at
 }

@@ -1,6 +1,6 @@
 -- The loop stands at a row of the section (Rowing) and has counted the rows before it, for any letter and variables (Counting); a row is
 -- counted by how many of its elements are said.
-use mathlib.Core.Path.{refl, sym, ◌∙◌, ap}
+use mathlib.Core.Path.{refl, sym, ap}
 use lib.ListN.{length}
 use Rattle.statements.proofs.Counting.{count_on, count_pass, count_end}
 use Rattle.statements.proofs.Rows.{rowing, row_here, row_few, row_wide, row_many, row_next, rows_longer, rows_pass, rows_end, rows_all}
@@ -8,10 +8,6 @@ use borrow.Author.Rules.{rules}
 use native.Mathlib.Omega.{arith}
 use Rattle.statements.proofs.lengths.section_length.Goals.{else-flag, then-flag}
 use Rattle.statements.proofs.lengths.section_length.Goals as goal
-
-pub section_of-section-requires : goal.section_of-section-requires
-section_of-section-requires c =
-    (c.requires.stands.at.laid.few, omega (arith, c.requires.from_le_count_limit.1.least), omega (arith, c.requires.from_le_count_limit.1.most))
 
 pub loop-field-init : goal.loop-field-init
 loop-field-init c = (
@@ -26,48 +22,27 @@ read_row-r-requires c = row_here c.loop-field.invariant.0 c.loop-field-test.true
 pub flag-requires : goal.flag-requires
 flag-requires c = let few = row_few c.loop-field.invariant.0 c.loop-field-test.true c.read_row-r.ensures in omega arith
 
-pub overflow_sub-els : goal.overflow_sub-els
-overflow_sub-els c =
-    let r = c.loop-field.invariant.0 in
-    row_wide r c.loop-field-test.true c.read_row-r.ensures
-
-pub counted-at-requires : goal.counted-at-requires
-counted-at-requires c = (search rules, omega (arith, c.read_row-r.ensures.few))
-
-pub overflow_add-i : goal.overflow_add-i
-overflow_add-i c =
-    let r = c.loop-field.invariant.0 in
-    let few = row_few r c.loop-field-test.true c.read_row-r.ensures in omega arith
-
-pub loop-field-smaller : goal.loop-field-smaller
-loop-field-smaller c = let a = c.read_row-r.ensures.ahead in omega arith
+pub overflow_sub-r : goal.overflow_sub-r
+overflow_sub-r c = row_wide c.loop-field.invariant.0 c.loop-field-test.true c.read_row-r.ensures
 
 pub loop-field-preserved : goal.loop-field-preserved
 loop-field-preserved c =
-    let inv = c.loop-field.invariant in
-    let r = inv.0 in
-    let h = c.loop-field-test.true in
-    let q = c.read_row-r.ensures in
-    let n = row_next r h q in
+    let inv = c.loop-field.invariant in let r = inv.0 in let h = c.loop-field-test.true in let q = c.read_row-r.ensures in let n = row_next r h q in
     elim c.if-flag.branch [
       | then-flag w ↦ (
         n,
         rw w.at-is w.counted-at.ensures.upper_bound,
         rw w.at-is (λ letter variable. count_on (inv.2 letter variable) _
-            (rows_longer r h q letter variable _ (sym c.flag.ensures ∙ w.if-flag.true)) (w.counted-at.ensures.by_index letter _ (row_many r h q variable))),
+            (rows_longer r h q letter variable _ (sym w.if-flag.ensures)) (w.counted-at.ensures.by_index letter _ (row_many r h q variable))),
       )
       | else-flag w ↦ (
         n,
         rw w.at-is inv.1,
-        rw w.at-is (λ letter variable. count_pass (inv.2 letter variable)
-            (ap length (rows_pass r h q _ _ _ (sym c.flag.ensures ∙ w.if-flag.false)))),
+        rw w.at-is (λ letter variable. count_pass (inv.2 letter variable) (ap length (rows_pass r h q _ _ _ (sym w.if-flag.ensures)))),
       )
     ]
 
-pub returns : goal.returns
-returns c =
+pub returns-clause-by_index : goal.returns-clause-by_index
+returns-clause-by_index c =
     let inv = c.loop-field.invariant in
-    let none = rows_end inv.0 c.loop-field-test.false in record {
-      by_index = λ letter row. rw (← (rows_all _ _ _ _)) (count_end (inv.2 letter _) (ap length (none _ _ _)) inv.1);
-      upper_bound = inv.1;
-    }
+    λ letter row. rw (← (rows_all _ _ _ _)) (count_end (inv.2 letter _) (ap length (rows_end inv.0 c.loop-field-test.false _ _ _)) inv.1)
