@@ -9,14 +9,7 @@ use crate::ids::{RULE_INDEX, SECTION_K, SECTION_M};
 use crate::reader::bound;
 use records::fields::{Field, read_field, two};
 
-// The map between two structures, by the content of its field.
-#[derive(Clone, Copy)]
-pub enum MapFound {
-    At { start: usize, len: usize },
-    Nothing,
-}
-
-#[derive(Clone, Copy)]
+#[derive(Clone, Copy, Debug, PartialEq, Eq)]
 pub enum MorphismKind {
     If,
     SurjThen,
@@ -54,8 +47,7 @@ pub fn kind_at(s: &[u8], start: usize, len: usize) -> MorphismKind
     requires { (start + len ≤ length s.now) × (5 ≤ len) }
     ensures { (letter : ℕ) → kind_is result ≡ (kind_of (field_of s.now letter start len)).kind }
 {
-    let b = s[start + 4];
-    match b {
+    match s[start + 4] {
         1 => MorphismKind::SurjThen,
         2 => MorphismKind::NonSurjThen,
         3 => MorphismKind::Noop,
@@ -78,30 +70,21 @@ pub fn structure_at(s: &[u8], start: usize, len: usize) -> usize
     two(s, start + 1)
 }
 
-// The map from one structure to another: the M fields are few, and stand in no order of their targets.
-pub fn find_map(s: &[u8], index: &[u16; RULE_INDEX], source: usize, target: usize) -> MapFound
+// The M field of the map from one structure to another: the M fields are few, and stand in no order of their targets.
+pub fn find_map(s: &[u8], index: &[u16; RULE_INDEX], source: usize, target: usize) -> Option<Field>
     requires { Ready s.now index.now }
     ensures { FindsMap result s.now (pairs_between (rule_at s.now).maps source target) }
 {
     let to = bound(index, SECTION_K);
     let mut at = bound(index, SECTION_M);
     while at < to {
-        let f = read_field(s, at);
-        let Field::Got {
-            letter: _,
-            start,
-            len,
-            next,
-        } = f
-        else {
-            return MapFound::Nothing;
-        };
-        if joins(s, start, len, source, target) {
-            return MapFound::At { start, len };
+        let f = read_field(s, at)?;
+        if joins(s, f.start, f.len, source, target) {
+            return Some(f);
         }
-        at = next;
+        at = f.next;
     }
-    MapFound::Nothing
+    None
 }
 
 // Is this the map from the one structure to the other?
@@ -110,8 +93,5 @@ fn joins(s: &[u8], start: usize, len: usize, source: usize, target: usize) -> bo
     ensures { (letter : ℕ) → result ≡ (eqb (map_of (field_of s.now letter start len)).source source
         && eqb (map_of (field_of s.now letter start len)).target target) }
 {
-    if source_at(s, start, len) != source {
-        return false;
-    }
-    target_at(s, start, len) == target
+    source_at(s, start, len) == source && target_at(s, start, len) == target
 }

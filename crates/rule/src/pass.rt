@@ -95,10 +95,8 @@ fn fill(index: &mut [u16; RULE_INDEX], section: usize, to: usize, at: usize)
     ensures by_index { (t : ℕ) → bound_at index.new to at t ≡ bound_at index.old section at t }
     ensures index_len_2 { length index.new ≡ rule_index }
 {
-    let mut i = section;
-    while i < to {
-        i += 1;
-        index[i] = at as u16;
+    for i in section..to {
+        index[i + 1] = at as u16;
     }
 }
 
@@ -134,8 +132,7 @@ pub fn pass(s: &[u8], index: &mut [u16; RULE_INDEX]) -> Passed
     let mut structures: usize = 0;
     let mut section: usize = 0;
     while at < s.len() {
-        let f = read_field(s, at);
-        let Field::Got { letter, next, .. } = f else {
+        let Some(Field { letter, next, .. }) = read_field(s, at) else {
             return ended(index, section, at, false, structures);
         };
         // A letter that may be repeated, so not N and not S, stays in its section.
