@@ -30,9 +30,10 @@ use Rattle.signature.specs.declared.ids.Relation.{Relation}
 use Rattle.signature.proofs.ByKind.{counted}
 use Rattle.laws.proofs.Numbers.{drop_numbers, take_numbers}
 use Rattle.rule.specs.Faults.{name_key, pair_named, last_field, LastIn, AboveLast, Fits, row_symbols, row_columns, row_check, last_named, check_of}
-use Rattle.rule.specs.declared.order.Last.{Last}
-use Rattle.rule.specs.declared.order.Last.TheVariants.{Content, Nothing}
-use Rattle.signature.specs.declared.faults.Fault.TheVariants.{Sound, Draws}
+use Rattle.std.proofs.Common as std
+use Rattle.std.proofs.Common.{Some, None, Ok, Err}
+use Rattle.records.specs.declared.fields.Field as read
+use Rattle.records.specs.declared.refusal.Refusal.{Refusal}
 use Rattle.rule.specs.Elements.{element_numbers, numbers_in}
 use Rattle.rule.proofs.Letters.{get_d_span, length_span}
 
@@ -317,17 +318,17 @@ less_one x y e = go (ltb x y) refl e
     go true p q = ltb-true x y p
     go false p q = never q (flat (ltb y x))
 
-above_last : (s : List ℕ) (start len : ℕ) (last : Last) → start + len ≤ length s → LastIn last (length s) → 4 ≤ len
+above_last : (s : List ℕ) (start len : ℕ) (last : std.Option read.Field) → start + len ≤ length s → LastIn last (length s) → 4 ≤ len
     → not_above (λ (g : Field). take 1 (numbers g.content)) (last_field s 0 last) (field_of s 0 start len) ≡ false → AboveLast last s (two_at s start)
-above_last s start len Nothing h w l e = tt
-above_last s start len (Content a m) h w l e = λ k.
-    less_one (two_at s a) (two_at s start)
-    (rw (one_number s a m w.is k, one_number s start len h (omega arith)) at
-    (not-false (less (take 1 (numbers (stretch s a m))) (take 1 (numbers (stretch s start len)))) e))
+above_last s start len None h w l e = tt
+above_last s start len (Some f) h w l e = λ k.
+    less_one (two_at s f.start) (two_at s start)
+    (rw (one_number s f.start f.len w.is k, one_number s start len h (omega arith)) at
+    (not-false (less (take 1 (numbers (stretch s f.start f.len))) (take 1 (numbers (stretch s start len)))) e))
 
-pub fits_sound : (s : List ℕ) (start len before : ℕ) (last : Last) → start + len ≤ length s → LastIn last (length s) → 4 ≤ len → before < field_limit
-    → not_above (λ (g : Field). take 1 (numbers g.content)) (last_field s 0 last) (field_of s 0 start len) ≡ false → Fits Sound s start len before last
+pub fits_sound : (s : List ℕ) (start len before : ℕ) (last : std.Option read.Field) → start + len ≤ length s → LastIn last (length s) → 4 ≤ len → before < field_limit
+    → not_above (λ (g : Field). take 1 (numbers g.content)) (last_field s 0 last) (field_of s 0 start len) ≡ false → {u : Unit} → Fits (Ok u) s start len before last
 fits_sound s start len before last h w l b e = record { is = (l, b, above_last s start len last h w l e) }
 
-pub fits_not : {n : ℕ} {s : List ℕ} {start len before : ℕ} {last : Last} → Fits (Draws n) s start len before last
+pub fits_not : {f : Refusal} {s : List ℕ} {start len before : ℕ} {last : std.Option read.Field} → Fits (Err f) s start len before last
 fits_not = record { is = tt }

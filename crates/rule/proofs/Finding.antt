@@ -17,14 +17,13 @@ use Rattle.definition.specs.Rule.{named_elements}
 use Rattle.laws.proofs.Lists.{length_each, get_d_each}
 use Rattle.records.specs.Places.{two_at, stretch, field_at, field_of, Run, got}
 use Rattle.records.specs.Held.{field_in}
-use Rattle.std.proofs.Common.{None}
+use Rattle.std.proofs.Common.{Some, None}
 use Rattle.records.proofs.Link.{got_is}
 use Rattle.records.proofs.Numbers.{length_stretch, number_in}
 use Rattle.records.proofs.Index.{length_held, held_get}
 use Rattle.records.proofs.Runs.{run_got, run_bad, run_end}
 use Rattle.rule.specs.Layout.{elements_from}
 use Rattle.rule.specs.Elements.{count_at, position_at, element_at, element_fields, element_numbers, Elements, Finds}
-use Rattle.rule.specs.declared.elements.Found.TheVariants.{At, Nothing}
 
 abbrev no_field : Field
 no_field = record { letter = start; content = [] }
@@ -79,7 +78,7 @@ module _ {s index : List ℕ} {k : ℕ} (w : Elements s index k) (e : ℕ) where
   pub search_start : {n : ℕ} → n ≡ count_at index k → Searching s index k e 0 n
   search_start q = record { within = omega arith; below = λ i h l. absurd (omega arith); above = λ i h l. absurd (omega arith) }
 
-  pub search_found : (i : ℕ) → i < count_at index k → element_at s index k i ≡ e → Finds (At i) e (element_numbers s index k)
+  pub search_found : (i : ℕ) → i < count_at index k → element_at s index k i ≡ e → Finds (Some i) e (element_numbers s index k)
   search_found i h q =
       let l : i < length (element_numbers s index k) = rw (numbers_length s index k) h in
       let g : get_or (element_numbers s index k) i 0 ≡ e = numbers_get w i h ∙ q in
@@ -112,7 +111,7 @@ module _ {s index : List ℕ} {k : ℕ} (w : Elements s index k) (e : ℕ) where
         go i h n (yes x) (no y) = rw x (omega arith)
         go i h n (no x) (no y) = let a = w.ascend mid i (omega arith) n in omega arith
 
-  pub search_none : {low high : ℕ} → Searching s index k e low high → high ≤ low → Finds Nothing e (element_numbers s index k)
+  pub search_none : {low high : ℕ} → Searching s index k e low high → high ≤ low → Finds None e (element_numbers s index k)
   search_none {low} {high} v h = record { is = has_none (element_numbers s index k) e (λ i l q. go i (rw (numbers_length s index k) at l) q (dec_lt i low)) }
     where
       go : (i : ℕ) → i < count_at index k → get_or (element_numbers s index k) i 0 ≡ e → Dec (i < low) → ⊥
@@ -176,10 +175,10 @@ module _ {s : List ℕ} {to e at : ℕ} {body : List Field} (w : Scanning s to e
       scan_skip h = let b = run_got w.run lt g in record { rest = b.rest; run = b.run; left = w.left ∙ skipped b.rest b.same h }
 
 -- What is found is there.
-pub finds_at : {i e : ℕ} {xs : List ℕ} → Finds (At i) e xs → has e xs ≡ true
+pub finds_at : {i e : ℕ} {xs : List ℕ} → Finds (Some i) e xs → has e xs ≡ true
 finds_at w = w.is.2
 
-pub finds_none : {e : ℕ} {xs : List ℕ} → Finds Nothing e xs → has e xs ≡ false
+pub finds_none : {e : ℕ} {xs : List ℕ} → Finds None e xs → has e xs ≡ false
 finds_none w = w.is
 
 -- Elements stand in ascending order.
