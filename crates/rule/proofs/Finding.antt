@@ -155,18 +155,18 @@ module _ {s : List ℕ} {to e at : ℕ} {body : List Field} (w : Scanning s to e
       unfolding names_of keep each
       names_short rest h = rw (size, lt-leb 2 len h)
 
-      pub scan_hit : 2 ≤ len → {x : ℕ} → x ≡ two_at s start → x ≡ e → has e (named_elements body) ≡ true
+      pub scan_hit : 2 ≤ len → eqb (two_at s start) e ≡ true → has e (named_elements body) ≡ true
       unfolding has any
-      scan_hit h p q = let b = run_got w.run lt g in w.left ∙ rw (b.same, names_long b.rest h, eq-eqb (two_at s start) e (sym p ∙ q))
+      scan_hit h q = let b = run_got w.run lt g in w.left ∙ rw (b.same, names_long b.rest h, q)
 
-      missed : (rest : List Field) → w.rest ≡ field_of s letter start len ∷ rest → 2 ≤ len → (two_at s start ≡ e → ⊥)
+      missed : (rest : List Field) → w.rest ≡ field_of s letter start len ∷ rest → 2 ≤ len → eqb (two_at s start) e ≡ false
           → has e (names_of w.rest) ≡ has e (names_of rest)
       unfolding has any
-      missed rest r h q = rw (r, names_long rest h, ne_eqb (two_at s start) e q)
+      missed rest r h q = rw (r, names_long rest h, q)
 
-      pub scan_miss : 2 ≤ len → {x : ℕ} → x ≡ two_at s start → (x ≡ e → ⊥) → Scanning s to e body next
-      scan_miss h p q = let b = run_got w.run lt g in
-          record { rest = b.rest; run = b.run; left = w.left ∙ missed b.rest b.same h (λ z. q (p ∙ z)) }
+      pub scan_miss : 2 ≤ len → eqb (two_at s start) e ≡ false → Scanning s to e body next
+      scan_miss h q = let b = run_got w.run lt g in
+          record { rest = b.rest; run = b.run; left = w.left ∙ missed b.rest b.same h q }
 
       skipped : (rest : List Field) → w.rest ≡ field_of s letter start len ∷ rest → len < 2 → has e (names_of w.rest) ≡ has e (names_of rest)
       skipped rest r h = rw (r, names_short rest h)

@@ -48,6 +48,7 @@ fn not_numbers(len: usize, least: usize) -> bool
 }
 
 // An N field: the unnamed index, and the name.
+#[tactic(auto, using(crate::proofs::Drawn::head_tests))]
 pub fn head_fault(s: &[u8], start: usize, len: usize) -> Result<(), Refusal>
     requires { start + len ≤ length s.now }
     ensures { (letter before : ℕ) (last : Option definition.Field)
@@ -63,6 +64,7 @@ pub fn head_fault(s: &[u8], start: usize, len: usize) -> Result<(), Refusal>
 }
 
 // An S field.
+#[tactic(auto, using(crate::proofs::Drawn::structure_tests))]
 pub fn structure_fault(len: usize, before: usize) -> Result<(), Refusal>
     ensures result_value { (f : definition.Field) → length f.content ≡ len → fault_of result ≡ structure_fault before f }
     ensures below { Below result before }
@@ -167,6 +169,7 @@ pub fn row_fault(
 }
 
 // Is a V (one number) not above the last by its name, or an I (two) by its term number?
+#[tactic(auto, using(crate::proofs::Drawn::key_name, crate::proofs::Drawn::key_term))]
 fn not_above(s: &[u8], last: Option<Field>, count: usize, start: usize, len: usize) -> bool
     requires len_in_bounds { start + len ≤ length s.now }
     requires le_count { (1 ≤ count) × (count ≤ 2) }
@@ -181,6 +184,7 @@ fn not_above(s: &[u8], last: Option<Field>, count: usize, start: usize, len: usi
 }
 
 // A V field (one number, the element) or an I field (two, the second the element), and a name.
+#[tactic(auto, using(crate::proofs::Drawn::name_short, crate::proofs::Drawn::name_tests))]
 pub fn name_fault(
     s: &[u8],
     index: &[u16; RULE_INDEX],
@@ -294,6 +298,7 @@ pub fn map_fault(
 }
 
 // A K field: source, target, and a byte for the kind.
+#[tactic(auto, using(crate::proofs::Drawn::kind_short, crate::proofs::Drawn::kind_tests))]
 pub fn kind_fault(s: &[u8], structures: usize, f: Spot) -> Result<(), Refusal>
     requires { Lies s.now f }
     ensures { (letter : ℕ) (named : List (List ℕ)) → length named ≡ structures
@@ -332,6 +337,7 @@ fn class_falls(s: &[u8], last: Option<Field>, start: usize) -> bool
 }
 
 // An X field: a byte for the class, and a structure.
+#[tactic(auto, using(crate::proofs::Drawn::auxiliary_short, crate::proofs::Drawn::auxiliary_tests))]
 pub fn auxiliary_fault(s: &[u8], structures: usize, f: Spot) -> Result<(), Refusal>
     requires { Lies s.now f }
     ensures { (letter : ℕ) (named : List (List ℕ)) → length named ≡ structures

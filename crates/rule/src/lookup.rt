@@ -18,6 +18,7 @@ pub enum MorphismKind {
 }
 
 // An M or K field by its content: source and target.
+#[tactic(auto, using(crate::proofs::Saying::source_is, crate::proofs::Saying::kind_source_is))]
 pub fn source_at(s: &[u8], start: usize, len: usize) -> usize
     requires { (start + len ≤ length s.now) × (4 ≤ len) }
     ensures by_index { (letter : ℕ) → result ≡ (map_of (field_of s.now letter start len)).source }
@@ -26,6 +27,7 @@ pub fn source_at(s: &[u8], start: usize, len: usize) -> usize
     two(s, start)
 }
 
+#[tactic(auto, using(crate::proofs::Saying::target_is, crate::proofs::Saying::kind_target_is))]
 pub fn target_at(s: &[u8], start: usize, len: usize) -> usize
     requires { (start + len ≤ length s.now) × (4 ≤ len) }
     ensures by_index { (letter : ℕ) → result ≡ (map_of (field_of s.now letter start len)).target }
@@ -35,6 +37,7 @@ pub fn target_at(s: &[u8], start: usize, len: usize) -> usize
 }
 
 // How many pairs an M field has.
+#[tactic(auto, using(crate::proofs::Saying::pairs_are))]
 pub fn map_pairs(s: &[u8], start: usize, len: usize) -> usize
     requires { (start + len ≤ length s.now) × (4 ≤ len) }
     ensures { (letter : ℕ) → result ≡ length (map_of (field_of s.now letter start len)).pairs }
@@ -43,6 +46,7 @@ pub fn map_pairs(s: &[u8], start: usize, len: usize) -> usize
 }
 
 // The kind of a K field.
+#[tactic(auto, using(crate::proofs::Saying::kind_is, crate::proofs::Saying::kind_other))]
 pub fn kind_at(s: &[u8], start: usize, len: usize) -> MorphismKind
     requires { (start + len ≤ length s.now) × (5 ≤ len) }
     ensures { (letter : ℕ) → kind_is result ≡ (kind_of (field_of s.now letter start len)).kind }
@@ -56,6 +60,7 @@ pub fn kind_at(s: &[u8], start: usize, len: usize) -> MorphismKind
 }
 
 // An X field by its content: its class and its structure.
+#[tactic(auto, using(crate::proofs::Drawn::class_is))]
 pub fn class_at(s: &[u8], start: usize, len: usize) -> u8
     requires { (start + len ≤ length s.now) × (3 ≤ len) }
     ensures { (letter : ℕ) → result ≡ (auxiliary_of (field_of s.now letter start len)).class }
@@ -63,6 +68,7 @@ pub fn class_at(s: &[u8], start: usize, len: usize) -> u8
     s[start]
 }
 
+#[tactic(auto, using(crate::proofs::Saying::structure_number_is))]
 pub fn structure_at(s: &[u8], start: usize, len: usize) -> usize
     requires { (start + len ≤ length s.now) × (3 ≤ len) }
     ensures { (letter : ℕ) → result ≡ (auxiliary_of (field_of s.now letter start len)).structure }

@@ -18,6 +18,7 @@ pub struct Map {
 }
 
 // The key and the image of a pair.
+#[tactic(auto, using(crate::proofs::MapLaws::key_is))]
 pub fn pair_key(s: &[u8], m: Map, p: usize) -> ElId
     requires map_in { MapIn s.now m }
     requires p_lt_pairs { p < m.pairs }
@@ -26,6 +27,7 @@ pub fn pair_key(s: &[u8], m: Map, p: usize) -> ElId
     ElId(num(s, m.at + 4 * p))
 }
 
+#[tactic(auto, using(crate::proofs::MapLaws::image_is))]
 pub fn pair_image(s: &[u8], m: Map, p: usize) -> ElId
     requires map_in { MapIn s.now m }
     requires p_lt_pairs { p < m.pairs }

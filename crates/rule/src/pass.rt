@@ -20,6 +20,7 @@ pub struct Passed {
 }
 
 // The place of a letter.
+#[tactic(auto, unfolding(crate::specs::Layout::place_of, definition::specs::Base::place_from))]
 fn place(letter: u8) -> usize
     ensures { result ≡ place_of letter }
 {
@@ -41,6 +42,7 @@ fn place(letter: u8) -> usize
 
 // May a letter stand directly behind another? N begins the record; S stands behind N or a structure;
 // any other behind an S or a letter that is no later than itself.
+#[tactic(auto, unfolding(crate::specs::Layout::may_follow))]
 fn may_follow(behind: usize, at: usize) -> bool
     ensures { result ≡ may_follow behind at }
 {
@@ -74,6 +76,7 @@ fn counted(structures: usize, at: usize) -> usize
 }
 
 // The section of a letter in the last of so many structures, or behind them.
+#[tactic(auto, unfolding(crate::specs::Layout::section_at))]
 fn section_of(structures: usize, at: usize) -> usize
     requires structures_le_structure_limit { (structures ≤ structure_limit) × (at ≤ place_x) }
     requires le_structures { place_n < at → 1 ≤ structures }
