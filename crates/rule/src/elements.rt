@@ -13,6 +13,7 @@ ghost use Rattle.rule.specs.Lists.{els_in, ElsInside};
 
 use crate::ids::{COUNTS_FROM, ELEMENTS_FROM, ElId, FIELDS, RULE_INDEX};
 use crate::lists::Els;
+use crate::search::search;
 use records::fields::{num, read_field, two};
 use signature::ids::TypeId;
 
@@ -41,33 +42,15 @@ pub fn element_number(s: &[u8], index: &[u16; RULE_INDEX], k: usize, i: usize) -
     ElId(num(s, element_field(index, k, i) + 3))
 }
 
-// The place of an element in its structure. Elements are often numbered from 0, so the place that is its number comes first;
-// they stand in ascending order, so the search halves what is left.
+// The place of an element in its structure; they stand in ascending order.
 pub fn find_element(s: &[u8], index: &[u16; RULE_INDEX], k: usize, e: ElId) -> Option<usize>
     requires k_lt_structure_limit { k < structure_limit }
     requires elements { Elements s.now index.now k }
     ensures { Finds result e.0 (element_numbers s.now index.now k) }
 {
-    let n = element_count(index, k);
-    let guess = usize::from(e.0);
-    if guess < n && element_number(s, index, k, guess) == e {
-        return Some(guess);
-    }
-    let mut low: usize = 0;
-    let mut high = n;
-    while low < high {
-        let mid = (low + high) >> 1;
-        let x = element_number(s, index, k, mid);
-        if x == e {
-            return Some(mid);
-        }
-        if x < e {
-            low = mid + 1;
-        } else {
-            high = mid;
-        }
-    }
-    None
+    search(element_count(index, k), e.0, |i| {
+        element_number(s, index, k, i).0
+    })
 }
 
 // Is there such an element in a structure?

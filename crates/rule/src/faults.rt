@@ -79,6 +79,7 @@ pub fn structure_fault(len: usize, before: usize) -> Result<(), Refusal>
 }
 
 // An E field of the structure whose E fields stand from one position to another: its number, type and parents.
+#[tactic(auto, using(crate::proofs::Drawn::element_tests, crate::proofs::Drawn::types_length))]
 pub fn element_fault(
     sig: &[u8],
     symbols: &[u16; INDEX],
@@ -128,6 +129,7 @@ fn row_relation(results: usize, number: u16) -> Relation
 }
 
 // An R field (no results) or an A field (one): its symbol and its elements, in structure k.
+#[tactic(auto, using(crate::proofs::Drawn::row_tests, crate::proofs::Drawn::row_count, crate::proofs::Drawn::row_arity))]
 pub fn row_fault(
     sig: &[u8],
     symbols: &[u16; INDEX],
@@ -184,7 +186,7 @@ fn not_above(s: &[u8], last: Option<Field>, count: usize, start: usize, len: usi
 }
 
 // A V field (one number, the element) or an I field (two, the second the element), and a name.
-#[tactic(auto, using(crate::proofs::Drawn::name_short, crate::proofs::Drawn::name_tests))]
+#[tactic(auto, using(crate::proofs::Drawn::name_tests))]
 pub fn name_fault(
     s: &[u8],
     index: &[u16; RULE_INDEX],
@@ -259,6 +261,7 @@ fn keys_ascend(s: &[u8], start: usize, count: usize) -> bool
 }
 
 // An M field: source, target, and pairs of key and image.
+#[tactic(auto, using(crate::proofs::Drawn::map_tests, records::proofs::Numbers::low_bits, records::proofs::Numbers::low_bits_not))]
 pub fn map_fault(
     s: &[u8],
     index: &[u16; RULE_INDEX],
@@ -272,10 +275,7 @@ pub fn map_fault(
 {
     let start = f.start;
     let len = f.len;
-    if len < 4 {
-        return Err(Refusal::BadLength);
-    }
-    if (len & 3) != 0 {
+    if len < 4 || (len & 3) != 0 {
         return Err(Refusal::BadLength);
     }
     if MAPS <= f.before {
@@ -298,7 +298,7 @@ pub fn map_fault(
 }
 
 // A K field: source, target, and a byte for the kind.
-#[tactic(auto, using(crate::proofs::Drawn::kind_short, crate::proofs::Drawn::kind_tests))]
+#[tactic(auto, using(crate::proofs::Drawn::kind_tests))]
 pub fn kind_fault(s: &[u8], structures: usize, f: Spot) -> Result<(), Refusal>
     requires { Lies s.now f }
     ensures { (letter : ℕ) (named : List (List ℕ)) → length named ≡ structures
@@ -337,7 +337,7 @@ fn class_falls(s: &[u8], last: Option<Field>, start: usize) -> bool
 }
 
 // An X field: a byte for the class, and a structure.
-#[tactic(auto, using(crate::proofs::Drawn::auxiliary_short, crate::proofs::Drawn::auxiliary_tests))]
+#[tactic(auto, using(crate::proofs::Drawn::auxiliary_tests))]
 pub fn auxiliary_fault(s: &[u8], structures: usize, f: Spot) -> Result<(), Refusal>
     requires { Lies s.now f }
     ensures { (letter : ℕ) (named : List (List ℕ)) → length named ≡ structures

@@ -8,6 +8,7 @@ ghost use Rattle.rule.specs.MapFields.{pair_at, pairs_in, MapIn, Joins, image_is
 
 use crate::ids::{ElId, RULE_INDEX};
 use crate::lookup::{find_map, map_pairs};
+use crate::search::search;
 use records::fields::num;
 
 // Where the pairs of a map stand in the rule, and how many there are.
@@ -36,31 +37,13 @@ pub fn pair_image(s: &[u8], m: Map, p: usize) -> ElId
     ElId(num(s, m.at + 4 * p + 2))
 }
 
-// The image of a source element. Most maps take element after element, so the pair at the place that is its number comes first;
-// keys stand in ascending order, so the search halves what is left.
+// The image of a source element; keys stand in ascending order.
 pub fn image_of(s: &[u8], m: Map, e: ElId) -> Option<ElId>
     requires { MapIn s.now m }
     ensures { image_is result ≡ image_of (pairs_in s.now m) e.0 }
 {
-    let guess = usize::from(e.0);
-    if guess < m.pairs && pair_key(s, m, guess) == e {
-        return Some(pair_image(s, m, guess));
-    }
-    let mut low: usize = 0;
-    let mut high = m.pairs;
-    while low < high {
-        let mid = (low + high) >> 1;
-        let x = pair_key(s, m, mid);
-        if x == e {
-            return Some(pair_image(s, m, mid));
-        }
-        if x < e {
-            low = mid + 1;
-        } else {
-            high = mid;
-        }
-    }
-    None
+    let p = search(m.pairs, e.0, |p| pair_key(s, m, p).0)?;
+    Some(pair_image(s, m, p))
 }
 
 // Where the pairs of the map from a source to a target stand.

@@ -15,7 +15,7 @@ pub loop-at-preserved : goal.loop-at-preserved
 loop-at-preserved c =
     let got = sym c.read_field.ensures.value ∙ c.in-Some.is in
     elim c.else-f-ge2.branch [
-      else-f-ge2-via-then-f-ge2+else-eq w ↦ λ body r. scan_miss (c.loop-at.invariant body r) c.loop-at-test.true got w.if-f-ge2.true
+      | else-f-ge2-via-then-f-ge2+else-eq w ↦ λ body r. scan_miss (c.loop-at.invariant body r) c.loop-at-test.true got w.if-f-ge2.true
           (rw w.num.ensures at (sym w.eq.ensures ∙ w.if-eq.false))
       | else-f-ge2-via-else-f-ge2 w ↦ λ body r. scan_skip (c.loop-at.invariant body r) c.loop-at-test.true got w.if-f-ge2.false
     ]
