@@ -141,9 +141,6 @@ module _ {s index : List ℕ} {k : ℕ} (w : Stands s index k) {count i : ℕ} (
   pub in_place : i < count_at index k
   in_place = rw (← c) h
 
-  pub few_places : i < places
-  few_places = let f = w.at.laid.elements.elements.few in omega arith
-
   pub elements_left : drop i (structure_in s k).elements ≡ element_in s index k i ∷ drop (i + 1) (structure_in s k).elements
   elements_left = rw w.at.laid.same (elements_on s index k i in_place)
 
@@ -178,19 +175,9 @@ module _ {s index : List ℕ} {k : ℕ} (w : Stands s index k) (letter : ℕ) (r
   unfolding types_from type_sets keep each statement_bytes record_bytes joined
   types_end h = let n = elements_are w.at.laid in rw (flagged_end mask (structure_in s k).elements i (omega arith))
 
-pub types_all : (letter : ℕ) (variable : ℕ → ℕ) (mask : Mask) (els : List Element)
-    → types_from letter variable mask els 0 ≡ statement_bytes letter (type_sets variable (flagged_from mask 0 els))
-unfolding types_from
-types_all letter variable mask els = refl
-
 -- The flagged member rows, from a place of their order on.
 unfoldable pub members_from : ℕ → Structure → List ℕ → Mask → ℕ → List ℕ
 members_from letter st row mask n = statement_bytes letter (each (row_statement (variable_by st row)) (keep (member_flag st mask) (drop n (members st))))
-
-pub members_all : (letter : ℕ) (st : Structure) (row : List ℕ) (mask : Mask)
-    → members_from letter st row mask 0 ≡ statement_bytes letter (each (row_statement (variable_by st row)) (keep (member_flag st mask) (members st)))
-unfolding members_from
-members_all letter _ row mask = refl
 
 -- The places of the member rows' elements, in the rows' order; the n-th of them.
 module _ {s index : List ℕ} {k : ℕ} (w : Stands s index k) {order : List ℕ} (below : Below (count_at index k) order) {n i : ℕ}

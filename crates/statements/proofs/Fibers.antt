@@ -116,10 +116,6 @@ module _ (letter : ℕ) (types : List ℕ) where
     unfolding later_bytes each statement_bytes record_bytes joined
     later_end h = rw (drop_of_length-le vs h)
 
-  pub later_all : (v : ℕ) (vs : List ℕ) → later_bytes letter types v vs ≡ statement_bytes letter (each (equality_of types v) vs)
-  unfolding later_bytes
-  later_all v vs = refl
-
   module _ (vs : List ℕ) (i : ℕ) where
     pub among_on : i < length vs → among_bytes letter types (drop i vs)
         ≡ statement_bytes letter (each (equality_of types (get_or vs i 0)) (take (length vs - (i + 1)) (drop (i + 1) vs)))
@@ -132,10 +128,6 @@ module _ (letter : ℕ) (types : List ℕ) where
     pub among_end : length vs ≤ i → among_bytes letter types (drop i vs) ≡ []
     unfolding among_bytes equalities_among each statement_bytes record_bytes joined
     among_end h = rw (drop_of_length-le vs h)
-
-  pub among_all : (vs : List ℕ) → among_bytes letter types vs ≡ statement_bytes letter (equalities_among types vs)
-  unfolding among_bytes
-  among_all vs = refl
 
   module _ {s index : List ℕ} {target : ℕ} (l : Laid s index target) (variable : ℕ → ℕ) (pairs : List Pair)
       {count j : ℕ} (c : count ≡ count_at index target) where
@@ -166,8 +158,3 @@ module _ (letter : ℕ) (types : List ℕ) where
     els_end h =
         let n : length (numbers_of (structure_in s target)) ≡ count_at index target = ap length (numbers_are l) ∙ numbers_length s index target in
         rw (drop_of_length-le (numbers_of (structure_in s target)) {i = j} (omega arith))
-
-pub over_all : (letter : ℕ) (variable : ℕ → ℕ) (pairs : List Pair) (types els : List ℕ)
-    → over_bytes letter variable pairs types els ≡ statement_bytes letter (equalities_over variable pairs types els)
-unfolding over_bytes
-over_all letter variable pairs types els = refl

@@ -16,39 +16,7 @@ use rule::ids::RULE_INDEX;
 use rule::rows::read_row;
 use rule::sections::section_of;
 
-// Where the chosen rows of a structure end, along their section. Each counts as many variables as it has elements that are not left
-// out; none is looked up.
-fn section_length(
-    from: usize,
-    s: &[u8],
-    index: &[u16; RULE_INDEX],
-    k: usize,
-    chosen: Chosen,
-) -> usize
-    requires from_le_count_limit { (from ≤ count_limit) × Chooses chosen }
-    requires stands { Stands s.now index.now k }
-    ensures by_index { (letter : ℕ) (row : List ℕ)
-        → result ≡ capped (from + length (statement_bytes letter (chosen_statements (structure_in s.now k) row chosen))) }
-    ensures upper_bound { result ≤ count_limit }
-{
-    let section = section_of(index, k, chosen.place);
-    let end = section.to;
-    let mut field = section.from;
-    let mut at = from;
-    let mut i: usize = 0;
-    // A while: the cursor moves by what each row says.
-    while field < end {
-        let r = read_row(s, field);
-        if flag(chosen.mask, i) {
-            at = counted(at, r.els.count - chosen.omitted);
-        }
-        i += 1;
-        field = r.next;
-    }
-    at
-}
-
-// Where the chosen rows of a structure end.
+// Where the chosen rows of a structure end. Each counts as many variables as it has elements that are not left out; none is looked up.
 pub fn rows_length(
     from: usize,
     s: &[u8],
@@ -66,7 +34,21 @@ pub fn rows_length(
     if none_set(chosen.mask) {
         return from;
     }
-    section_length(from, s, index, k, chosen)
+    let section = section_of(index, k, chosen.place);
+    let end = section.to;
+    let mut field = section.from;
+    let mut at = from;
+    let mut i: usize = 0;
+    // A while: the cursor moves by what each row says.
+    while field < end {
+        let r = read_row(s, field);
+        if flag(chosen.mask, i) {
+            at = counted(at, r.els.count - chosen.omitted);
+        }
+        i += 1;
+        field = r.next;
+    }
+    at
 }
 
 // The flags that an element goes by: with parents it has a member row, without any a TypeSet.

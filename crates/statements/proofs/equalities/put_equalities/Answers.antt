@@ -5,7 +5,7 @@ use mathlib.Core.Path.{sym}
 use Rattle.records.proofs.Tail.{begin, wrote, passed, finish}
 use Rattle.rows.proofs.Several.{unflagged}
 use Rattle.statements.proofs.KernelPairs.{keys_given, equalities_are}
-use Rattle.statements.proofs.Fibers.{els_on, els_pass, els_end, over_all, place_in_numbers}
+use Rattle.statements.proofs.Fibers.{els_on, els_pass, els_end, over_bytes, place_in_numbers}
 use Rattle.statements.proofs.equalities.put_equalities.Goals.{else-flag, then-flag}
 use Rattle.statements.proofs.equalities.put_equalities.Goals as goal
 
@@ -23,6 +23,7 @@ loop-j-preserved c =
     ]
 
 pub returns-clause-put : goal.returns-clause-put
+unfolding over_bytes
 returns-clause-put c =
     let r = finish c.loop-j.invariant (els_end _ _ c.requires.between.target_at.laid _ _ c.element_count-j-end.ensures c.loop-j-test.false) in
-    λ sig table target t q. rw (equalities_are (keys_given c.requires.between.joins c.requires.given_out) t _ sig target q, ← (over_all _ _ _ _ _)) r
+    λ sig table target t q. rw (equalities_are (keys_given c.requires.between.joins c.requires.given_out) t _ sig target q) r

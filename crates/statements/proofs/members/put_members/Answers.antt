@@ -2,7 +2,7 @@
 -- (`Writing`, `members_from`). A row with its flag is put (`members_on`), one without is passed (`members_pass`); behind the last nothing is
 -- left (`members_end`). Where no flag is set nothing is to be said (`members_none`).
 use Rattle.statements.proofs.Unsaid.{unsaid, members_none}
-use Rattle.statements.proofs.Elements.{members_on, members_pass, members_end, members_all, order_below, order_few}
+use Rattle.statements.proofs.Elements.{members_on, members_pass, members_end, members_from, order_below, order_few}
 use Rattle.records.proofs.Tail.{begin, wrote, passed, finish}
 use mathlib.Core.Path.{sym}
 use borrow.Author.Rules.{rules}
@@ -33,6 +33,6 @@ loop-place-preserved c =
     ]
 
 pub returns : goal.returns
+unfolding members_from
 returns c =
-    rw (← (members_all _ _ _ _))
-    (finish c.loop-place.invariant (members_end c.requires.stands _ _ _ _ c.sorted_members-members.ensures.order_value c.loop-place-test.false))
+    finish c.loop-place.invariant (members_end c.requires.stands _ _ _ _ c.sorted_members-members.ensures.order_value c.loop-place-test.false)

@@ -1,5 +1,5 @@
 use Rattle.statements.proofs.Unsaid.{unsaid, types_none}
-use Rattle.statements.proofs.Elements.{types_on, types_pass, types_end, types_all}
+use Rattle.statements.proofs.Elements.{types_on, types_pass, types_end, types_from}
 use Rattle.records.proofs.Tail.{begin, wrote, passed, finish}
 use mathlib.Core.Path.{sym}
 use Rattle.statements.proofs.members.put_type_sets.Goals.{else-flag, then-flag}
@@ -20,6 +20,5 @@ loop-i-preserved c =
     ]
 
 pub returns : goal.returns
-returns c =
-    rw (← (types_all _ _ _ _))
-    (finish c.loop-i.invariant (types_end c.requires.stands _ _ _ c.element_count-i-end.ensures c.loop-i-test.false))
+unfolding types_from
+returns c = finish c.loop-i.invariant (types_end c.requires.stands _ _ _ c.element_count-i-end.ensures c.loop-i-test.false)

@@ -1,8 +1,9 @@
 -- The loop stands at a row of the section (Rowing) and has written the rows before it (Writing); a row that is read is written or passed,
 -- and the next stands behind it.
+use Rattle.statements.specs.Parts.{chosen_statements}
 use mathlib.Core.Path.{sym}
 use Rattle.records.proofs.Tail.{begin, wrote, passed, finish}
-use Rattle.statements.proofs.Rows.{rowing, row_here, row_few, row_wide, row_named, row_next, rows_on, rows_pass, rows_end, rows_all}
+use Rattle.statements.proofs.Rows.{rowing, row_here, row_few, row_wide, row_named, row_next, rows_on, rows_pass, rows_end, rows_from}
 use borrow.Author.Rules.{rules}
 use native.Mathlib.Omega.{arith}
 use Rattle.statements.proofs.sections.put_section.Goals.{else-flag, then-flag}
@@ -40,4 +41,5 @@ loop-field-preserved c =
     )
 
 pub returns : goal.returns
-returns c = rw (← (rows_all _ _ _ _)) (finish c.loop-field.invariant.1 (rows_end c.loop-field.invariant.0 c.loop-field-test.false _ _ _))
+unfolding rows_from chosen_statements
+returns c = finish c.loop-field.invariant.1 (rows_end c.loop-field.invariant.0 c.loop-field-test.false _ _ c.args.chosen)

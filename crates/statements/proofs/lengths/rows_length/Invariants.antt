@@ -5,7 +5,7 @@ use Rattle.rule.specs.Structures.{structure_in}
 use Rattle.statements.specs.Parts.{rows_at}
 use Rattle.statements.proofs.Counting.{Counting}
 use Rattle.statements.proofs.Rows.{Rowing, rows_from}
-use Rattle.statements.proofs.lengths.section_length.Given as goal
+use Rattle.statements.proofs.lengths.rows_length.Given as goal
 
 abbrev pub invariant-loop-field : goal.invariant-loop-field
 invariant-loop-field l =
