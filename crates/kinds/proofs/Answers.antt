@@ -19,7 +19,10 @@ use Rattle.definition.specs.Rule.{Structure, Element, Pair, If, SurjThen, Noop}
 use Rattle.definition.specs.Rows.{type_sets, in_image, constrained}
 use Rattle.definition.specs.Signature.{Signature}
 use Rattle.laws.proofs.Lists.{lowest_none, length_each, get_d_each, mem_at}
+use Rattle.std.proofs.Common.{Ok, Err}
 use Rattle.records.specs.Places.{Run}
+use Rattle.records.specs.Refusals.{number}
+use Rattle.records.specs.declared.refusal.Refusal.{Refusal}
 use Rattle.rule.specs.Elements.{count_at, element_numbers}
 use Rattle.rows.specs.Kernel.{KeyVars, Typed}
 use Rattle.rows.specs.Morphisms.{source_in, target_in, pairs_by, Between}
@@ -72,12 +75,16 @@ module _ (sig : Signature) (table : List Variable) {s : List ℕ} {m : Morphism}
   unfolding lowest
   masks_clash e = record { is = rw e }
 
-  pub masks_added : (r : Step) → by sig table s m sourcevars targetvars kernel_clashes ≡ false → AddsRows r s index m marks
-      → MasksFor sig table s m sourcevars targetvars index marks r
+  pub masks_refused : {r : Refusal} → by sig table s m sourcevars targetvars kernel_clashes ≡ false → AddsRows (Err r) s index m marks
+      → MasksFor sig table s m sourcevars targetvars index marks (Refused (number r))
   unfolding lowest source_lacks
-  masks_added (Refused n) e a =
+  masks_refused e a =
       record { is = rw (e, unmapped_parts sig table (from s m sourcevars) (to s m targetvars) (pairs_by s m), a.is.1, a.is.0) }
-  masks_added (Adds masks) e a =
+
+  pub masks_added : {masks : Masks} → by sig table s m sourcevars targetvars kernel_clashes ≡ false → AddsRows (Ok masks) s index m marks
+      → MasksFor sig table s m sourcevars targetvars index marks (Adds masks)
+  unfolding lowest source_lacks
+  masks_added e a =
       record { is = (rw (e, unmapped_parts sig table (from s m sourcevars) (to s m targetvars) (pairs_by s m), a.is.0), a.is.1) }
 
 -- Elements without two properties, by their flags.

@@ -66,7 +66,10 @@ fn new_masks(
     if clashes(s, index, m, sourcevars, types) {
         return Step::Refused(25);
     }
-    added_rows(s, index, m, marks)
+    match added_rows(s, index, m, marks) {
+        Ok(masks) => Step::Adds(masks),
+        Err(refusal) => Step::Refused(refusal.number()),
+    }
 }
 
 // If and Noop: 25, 26, else the new rows but for members whose element is constrained, and the elements that are neither images nor

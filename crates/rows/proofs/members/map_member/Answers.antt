@@ -1,5 +1,4 @@
 -- A member row is the element's parents and itself: the images of the parents first, then its own behind them.
-use native.Mathlib.Omega.{arith}
 use mathlib.Core.Path.{sym, ◌∙◌, ap}
 use borrow.Author.Rules.{rules}
 use Rattle.std.proofs.lemmas.Result.{err_from_is_err_and}
@@ -8,14 +7,6 @@ use Rattle.rule.specs.MapFields.{image_is}
 use Rattle.rows.proofs.MemberLaws.{maps_more, lacks_before, lacks_last}
 use Rattle.rule.proofs.ElementLaws.{parents_many}
 use Rattle.rows.proofs.members.map_member.Goals as goal
-
-pub map_elements-requires : goal.map_elements-requires
-map_elements-requires c =
-    let w = c.requires.within in record {
-      map_in = c.requires.map_in;
-      els_inside = c.parents_of.ensures.by_index_2 _ w;
-      count_bound = (omega (arith, c.parents_of.ensures.count_value, w.few), c.requires.column_limit_bound.1);
-    }
 
 pub returns-in_err-map_elements : goal.returns-in_err-map_elements
 unfolding member_row

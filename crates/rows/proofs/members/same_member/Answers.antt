@@ -1,16 +1,8 @@
-use native.Mathlib.Omega.{arith}
 use borrow.Author.Rules.{rules}
 use borrow.Author.Tests.{ne_eqb}
 use mathlib.Core.Path.{sym, ◌∙◌}
 use Rattle.rows.proofs.MemberLaws.{last_differs, last_same}
 use Rattle.rows.proofs.members.same_member.Goals as goal
-
-pub same_elements-requires : goal.same_elements-requires
-same_elements-requires c =
-    let w = c.requires.within in record {
-      els_inside = c.parents_of.ensures.by_index_2 _ w;
-      count_bound = (omega (arith, c.parents_of.ensures.count_value, w.few), c.requires.column_limit_bound.1);
-    }
 
 pub returns-then-els-at : goal.returns-then-els-at
 returns-then-els-at c =

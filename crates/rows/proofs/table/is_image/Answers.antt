@@ -1,9 +1,6 @@
-use Rattle.rows.proofs.TableLaws.{search_start, search_other, search_differs, search_hit, search_end}
+use Rattle.rows.proofs.TableLaws.{search_other, search_differs, search_hit, search_end}
 use Rattle.rows.proofs.table.is_image.Goals.{else-symbols-i-via-else-symbols-i, else-symbols-i-via-then-symbols-i+else-same_elements}
 use Rattle.rows.proofs.table.is_image.Goals as goal
-
-pub loop-i-init : goal.loop-i-init
-loop-i-init c = λ kind columns qs h n a e. search_start h n a
 
 pub returns-then-same_elements : goal.returns-then-same_elements
 returns-then-same_elements c =

@@ -16,46 +16,8 @@ loop-at-init c = (c.requires.symbols_len.0, c.requires.symbols_len.1, λ fs r. p
 pub read_row-row-requires : goal.read_row-row-requires
 read_row-row-requires c = let w = c.requires.rows_from in row_stands w (c.loop-at.invariant.2 _ w.run) c.loop-at-test.true
 
-pub offset_bounds-symbols-i : goal.offset_bounds-symbols-i
-offset_bounds-symbols-i c =
-    let w = c.requires.rows_from in
-    let l : c.loop-at.i < field_limit = row_fits w (c.loop-at.invariant.2 _ w.run) c.loop-at-test.true c.read_row-row.ensures in omega arith
-
 pub bounds-symbols-i : goal.bounds-symbols-i
 bounds-symbols-i c = let w = c.requires.rows_from in row_fits w (c.loop-at.invariant.2 _ w.run) c.loop-at-test.true c.read_row-row.ensures
-
-pub overflow_mul-i : goal.overflow_mul-i
-overflow_mul-i c =
-    let w = c.requires.rows_from in
-    let l : c.loop-at.i < field_limit = row_fits w (c.loop-at.invariant.2 _ w.run) c.loop-at-test.true c.read_row-row.ensures in omega arith
-
-pub map_elements-requires : goal.map_elements-requires
-map_elements-requires c =
-    let w = c.requires.rows_from in
-    let q = c.read_row-row.ensures in
-    let l : c.loop-at.i < field_limit = row_fits w (c.loop-at.invariant.2 _ w.run) c.loop-at-test.true q in record {
-      map_in = c.requires.map_in;
-      els_inside = q.inside;
-      count_bound = (omega (arith, q.few), c.loop-at.invariant.1);
-    }
-
-pub returns-in_err-map_elements : goal.returns-in_err-map_elements
-returns-in_err-map_elements c =
-    let v = c.loop-at.invariant in
-    let m = c.in_err-map_elements.ensures in
-    let p = err_from_is_err_and c.from_residual.result c.from_residual.ensures.1 in record {
-      by_index = λ kind fs r. rw (p.1, p.2)
-          (record { is = (m.is.0, rows_stop (next_row (v.2 fs r) c.loop-at-test.true c.read_row-row.ensures) kind _ m.is.1) });
-      symbols_len_2 = (rw length-set v.0, m.long ∙ v.1);
-    }
-
-pub overflow_add-i : goal.overflow_add-i
-overflow_add-i c =
-    let w = c.requires.rows_from in
-    let l : c.loop-at.i < field_limit = row_fits w (c.loop-at.invariant.2 _ w.run) c.loop-at-test.true c.read_row-row.ensures in omega arith
-
-pub loop-at-smaller : goal.loop-at-smaller
-loop-at-smaller c = omega (arith, c.read_row-row.ensures.ahead)
 
 pub loop-at-preserved : goal.loop-at-preserved
 loop-at-preserved c =
@@ -70,9 +32,19 @@ loop-at-preserved c =
       λ kind fs r. rows_next (next_row (v.2 fs r) h q) kind q (row_fits w (v.2 _ w.run) h q) (v.3 kind fs r) v.0 v.1 m,
     )
 
-pub returns : goal.returns
-returns c =
-    let v = c.loop-at.invariant in record {
-      by_index = λ kind fs r. rows_end (v.2 fs r) c.loop-at-test.false kind (v.3 kind fs r);
-      symbols_len_2 = (v.0, v.1);
-    }
+pub map_elements-requires-clause-count_bound : goal.map_elements-requires-clause-count_bound
+map_elements-requires-clause-count_bound c =
+    let w = c.requires.rows_from in
+    let q = c.read_row-row.ensures in
+    let l : c.loop-at.i < field_limit = row_fits w (c.loop-at.invariant.2 _ w.run) c.loop-at-test.true q in
+    (omega (arith, q.few), c.loop-at.invariant.1)
+
+pub returns-in_err-map_elements-clause-by_index : goal.returns-in_err-map_elements-clause-by_index
+returns-in_err-map_elements-clause-by_index c =
+    let m = c.in_err-map_elements.ensures in
+    let p = err_from_is_err_and c.from_residual.result c.from_residual.ensures.1 in
+    λ kind fs r. rw (p.1, p.2)
+    (record { is = (m.is.0, rows_stop (next_row (c.loop-at.invariant.2 fs r) c.loop-at-test.true c.read_row-row.ensures) kind _ m.is.1) })
+
+pub returns-clause-by_index : goal.returns-clause-by_index
+returns-clause-by_index c = let v = c.loop-at.invariant in λ kind fs r. rows_end (v.2 fs r) c.loop-at-test.false kind (v.3 kind fs r)

@@ -1,12 +1,9 @@
-use mathlib.Core.Path.{refl, sym, ◌∙◌}
+use mathlib.Core.Path.{sym, ◌∙◌}
 use borrow.Author.Rules.{rules}
 use Rattle.records.proofs.Numbers.{length_stretch, stretch_at}
 use Rattle.records.proofs.Parts.{same_on, same_no, same_end}
 use Rattle.rule.proofs.ListLaws.{els_many}
 use Rattle.rows.proofs.table.same_elements.Goals as goal
-
-pub loop-j-init : goal.loop-j-init
-loop-j-init c = refl
 
 pub returns-then-el_at-els : goal.returns-then-el_at-els
 returns-then-el_at-els c =
