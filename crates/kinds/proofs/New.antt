@@ -8,7 +8,7 @@ use lib.ListN.{length, get_or, take}
 use Rattle.std.proofs.Common.{Result, Ok, Err}
 use Rattle.definition.specs.Base.{keep, each, any}
 use Rattle.definition.specs.Letters.{predicate, function, member}
-use Rattle.definition.specs.Limits.{structure_limit, field_limit}
+use Rattle.definition.specs.Limits.{field_limit}
 use Rattle.definition.specs.Records.{Field}
 use Rattle.definition.specs.Rule.{Row, Pair, row_of}
 use Rattle.definition.specs.Rows.{member_row}
@@ -25,7 +25,7 @@ use Rattle.rows.specs.declared.morphism.Morphism.{Morphism}
 use Rattle.rows.proofs.Kept.{flag_at_lem}
 use Rattle.rows.proofs.MemberLaws.{no_member_rows, no_new_member}
 use Rattle.flags.specs.declared.Mask.{Mask}
-use Rattle.flags.specs.Flags.{places, no_flags, Packed, PackedLess}
+use Rattle.flags.specs.Flags.{no_flags, Packed, PackedLess}
 use Rattle.flags.proofs.Words.{no_flag}
 use Rattle.rule.specs.Structures.{SoundAt}
 use Rattle.records.proofs.Parts.{keep_few}
@@ -61,9 +61,6 @@ module _ {sig : Signature} {s index : List ℕ} {k : ℕ} (w : SoundAt sig s ind
   pub pred_run : SectionRun s index k place_r w.pred_fields
   pred_run = w.preds_run
 
-  pub pred_rows_lem : SectionRows s index k place_r
-  pred_rows_lem = w.preds_known.rows
-
   pub func_run : SectionRun s index k place_a w.func_fields
   func_run = w.funcs_run
 
@@ -72,15 +69,6 @@ module _ {sig : Signature} {s index : List ℕ} {k : ℕ} (w : SoundAt sig s ind
 
 -- What a map between two structures gives.
 module _ {s index : List ℕ} {m : Morphism} (w : Between s index m) where
-  pub source_few : m.source < structure_limit
-  source_few = w.source_at.laid.few
-
-  pub target_few : m.target < structure_limit
-  target_few = w.target_at.laid.few
-
-  pub members_few : count_at index m.target ≤ places
-  members_few = let few = w.target_at.laid.elements.elements.few in omega arith
-
   -- Members.
   abbrev olds : List Row
   olds = member_rows (source_in s m).elements
