@@ -19,7 +19,7 @@ use Rattle.records.proofs.Runs.{run_end}
 use Rattle.rule.specs.Elements.{Finds}
 use Rattle.rule.specs.Lists.{els_in, ElsInside}
 use Rattle.rule.specs.Rows.{RowStands, row_from, RowRead}
-use Rattle.rule.specs.declared.elements.Found.TheVariants.{At, Nothing}
+use Rattle.std.proofs.Common.{Some, None}
 use Rattle.rule.specs.declared.lists.Els.{Els}
 use Rattle.rule.specs.declared.rows.Row.{Row}
 use Rattle.rule.proofs.Letters.{place_get}
@@ -80,20 +80,20 @@ module _ {s : List ℕ} {from end e at place : ℕ} (w : Sought s from end e at 
 
 -- The flag of an element that was found.
 module _ (p : ℕ → Bool) (flags : List Bool) (els : List ℕ) {n : ℕ} (c : length els ≡ n) (f : take n flags ≡ each p els) where
-  flag_of : {i e : ℕ} → Finds (At i) e els → get_or flags i false ≡ p e
+  flag_of : {i e : ℕ} → Finds (Some i) e els → get_or flags i false ≡ p e
   flag_of {i} {e} w =
       let a = w.is.0 in let b = w.is.1 in
       let g : get_or els i 0 ≡ e = ap (λ (k : ℕ). get_or els k 0) (a ∙ omega arith) ∙ place_get 0 e els 0 (omega arith) in
       flag_at_lem p els flags (rw c f) i 0 b ∙ ap p g
 
   module _ {s : List ℕ} {l : Els} (inside : ElsInside s l) {j e : ℕ} (h : j < l.count) (is : e ≡ get_or (els_in s l) j 0) where
-    pub all_more : {i : ℕ} → Finds (At i) e els → get_or flags i false ≡ true → all_from p (els_in s l) j ≡ all_from p (els_in s l) (j + 1)
+    pub all_more : {i : ℕ} → Finds (Some i) e els → get_or flags i false ≡ true → all_from p (els_in s l) j ≡ all_from p (els_in s l) (j + 1)
     all_more w q = all_on p (els_in s l) (els_many inside) h (sym is) (sym (flag_of w) ∙ q)
 
-    pub all_stop : {i : ℕ} → Finds (At i) e els → get_or flags i false ≡ false → all_from p (els_in s l) j ≡ false
+    pub all_stop : {i : ℕ} → Finds (Some i) e els → get_or flags i false ≡ false → all_from p (els_in s l) j ≡ false
     all_stop w q = all_no p (els_in s l) (els_many inside) h (sym is) (sym (flag_of w) ∙ q)
 
-    pub all_named : {A : Type 0} → ((d : ℕ) → d ∈ els_in s l → d ∈ els) → Finds Nothing e els → A
+    pub all_named : {A : Type 0} → ((d : ℕ) → d ∈ els_in s l → d ∈ els) → Finds None e els → A
     all_named named w = never (mem_has e els (named e (el_mem inside j h is))) w.is
 
 pub all_done : (p : ℕ → Bool) {s : List ℕ} {l : Els} {j : ℕ} → ElsInside s l → l.count ≤ j → all_from p (els_in s l) j ≡ true

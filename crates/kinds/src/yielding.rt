@@ -10,7 +10,7 @@ ghost use Rattle.rule.specs.Lists.{els_in, ElsInside};
 ghost use Rattle.kinds.specs.Yielding.{ResultRows, Yields, RowBounds};
 
 use rows::table::ROWS;
-use rule::elements::{Found, find_element};
+use rule::elements::find_element;
 use rule::ids::{ElId, RULE_INDEX};
 use rule::lists::{Els, el_at, first};
 use rule::rows::{Row, read_row, row_result};
@@ -82,7 +82,7 @@ pub fn all_flagged(
     let mut j: usize = 0;
     while j < count {
         let f = find_element(s, index, k, el_at(s, l, j));
-        let Found::At(i) = f else {
+        let Some(i) = f else {
             return false;
         };
         if !flags[i] {

@@ -6,7 +6,7 @@ ghost use Rattle.plan.specs.Sources.{source_is};
 
 use records::fields::{Field, read_field};
 use rule::ids::{PLACE_K, PLACE_M, PLACE_X, RULE_INDEX};
-use rule::lookup::{MapFound, find_map, source_at, structure_at, target_at};
+use rule::lookup::{find_map, source_at, structure_at, target_at};
 use rule::sections::section_behind;
 
 // The lowest source of a structure. Maps stand by their sources, so that of the first map into it.
@@ -17,13 +17,9 @@ pub fn incoming_source(s: &[u8], index: &[u16; RULE_INDEX], target: usize) -> Op
     let maps = section_behind(s, index, PLACE_M);
     let mut at = maps.from;
     while at < maps.to {
-        let f = read_field(s, at);
-        let Field::Got {
-            letter: _,
-            start,
-            len,
-            next,
-        } = f
+        let Some(Field {
+            start, len, next, ..
+        }) = read_field(s, at)
         else {
             return None;
         };
@@ -43,13 +39,9 @@ pub fn unmapped_auxiliary(s: &[u8], index: &[u16; RULE_INDEX]) -> bool
     let auxiliaries = section_behind(s, index, PLACE_X);
     let mut at = auxiliaries.from;
     while at < auxiliaries.to {
-        let f = read_field(s, at);
-        let Field::Got {
-            letter: _,
-            start,
-            len,
-            next,
-        } = f
+        let Some(Field {
+            start, len, next, ..
+        }) = read_field(s, at)
         else {
             return true;
         };
@@ -69,20 +61,15 @@ pub fn unmapped_kind(s: &[u8], index: &[u16; RULE_INDEX]) -> bool
     let kinds = section_behind(s, index, PLACE_K);
     let mut at = kinds.from;
     while at < kinds.to {
-        let f = read_field(s, at);
-        let Field::Got {
-            letter: _,
-            start,
-            len,
-            next,
-        } = f
+        let Some(Field {
+            start, len, next, ..
+        }) = read_field(s, at)
         else {
             return true;
         };
-        let map = find_map(s, index, source_at(s, start, len), target_at(s, start, len));
-        let MapFound::At { start: _, len: _ } = map else {
+        if find_map(s, index, source_at(s, start, len), target_at(s, start, len)).is_none() {
             return true;
-        };
+        }
         at = next;
     }
     false

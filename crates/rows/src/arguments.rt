@@ -20,7 +20,7 @@ ghost use Rattle.rows.specs.Arguments.{symbols_of, parents_of, Declared, Marks};
 ghost use Rattle.rule.specs.Layout.{place_r, place_a, section_from, section_to};
 
 use flags::PLACES;
-use rule::elements::{Found, find_element};
+use rule::elements::find_element;
 use rule::ids::{PLACE_A, PLACE_R, RULE_INDEX};
 use rule::lists::{Els, behind, el_at};
 use rule::rows::read_row;
@@ -69,7 +69,7 @@ fn mark(s: &[u8], index: &[u16; RULE_INDEX], k: usize, l: Els, flags: &mut [bool
     ensures flags_len { length flags.new ≡ places }
 {
     for j in 0..l.count {
-        if let Found::At(i) = find_element(s, index, k, el_at(s, l, j)) {
+        if let Some(i) = find_element(s, index, k, el_at(s, l, j)) {
             flags[i] = true;
         }
     }

@@ -12,7 +12,7 @@ ghost use Rattle.rule.specs.MapFields.{pair_at, pairs_in, MapIn, KeysIn, ImagesI
 ghost use Rattle.rows.specs.Kernel.{clash, images_ascend, KeyVars, KeyTypes, TypesOf, SideAt, Typed, Merged};
 
 use flags::{Mask, NO_FLAGS, PLACES, packed_less};
-use rule::elements::{Found, element_count, find_element};
+use rule::elements::{element_count, find_element};
 use rule::ids::{FIELDS, RULE_INDEX};
 use rule::maps::{Map, pair_image, pair_key};
 
@@ -33,7 +33,7 @@ pub fn key_vars(
 {
     let mut vars = [0u16; FIELDS];
     for p in 0..m.pairs {
-        let Found::At(i) = find_element(s, index, k, pair_key(s, m, p)) else {
+        let Some(i) = find_element(s, index, k, pair_key(s, m, p)) else {
             return vars;
         };
         vars[p] = row[i];
@@ -76,7 +76,7 @@ pub fn merged_els(s: &[u8], index: &[u16; RULE_INDEX], target: usize, m: Map) ->
     let mut seen = [false; PLACES];
     let mut merged = [false; PLACES];
     for p in 0..m.pairs {
-        let Found::At(j) = find_element(s, index, target, pair_image(s, m, p)) else {
+        let Some(j) = find_element(s, index, target, pair_image(s, m, p)) else {
             return NO_FLAGS;
         };
         merged[j] = seen[j];

@@ -18,7 +18,7 @@ use flags::PLACES;
 use records::refusal::Refusal;
 use rule::elements::{Element, element_count, parents_of, read_element};
 use rule::ids::RULE_INDEX;
-use rule::maps::{Image, Map, image_of};
+use rule::maps::{Map, image_of};
 use signature::ids::COLUMNS;
 
 // Has a structure any member row?
@@ -49,9 +49,7 @@ fn map_member(
     ensures { Maps result (pairs_in s.now m) (member_row (element_from s.now e)).elements els.old els.new at }
 {
     map_elements(s, parents_of(e), m, els, at)?;
-    let Image::Of(own) = image_of(s, m, e.number) else {
-        return Err(Refusal::UnmappedElement);
-    };
+    let own = image_of(s, m, e.number).ok_or(Refusal::UnmappedElement)?;
     els[at + e.parents] = own.0;
     Ok(())
 }

@@ -17,7 +17,7 @@ use flags::{Mask, NO_FLAGS, with_flag};
 use records::refusal::Refusal;
 use rule::ids::FIELDS;
 use rule::lists::{Els, el_at};
-use rule::maps::{Image, Map, image_of};
+use rule::maps::{Map, image_of};
 use rule::rows::{Row, read_row};
 use signature::ids::COLUMNS;
 
@@ -40,9 +40,7 @@ pub fn map_elements(
     ensures { Maps result (pairs_in s.now m) (els_in s.now l) els.old els.new at }
 {
     for j in 0..l.count {
-        let Image::Of(e) = image_of(s, m, el_at(s, l, j)) else {
-            return Err(Refusal::UnmappedElement);
-        };
+        let e = image_of(s, m, el_at(s, l, j)).ok_or(Refusal::UnmappedElement)?;
         els[at + j] = e.0;
     }
     Ok(())

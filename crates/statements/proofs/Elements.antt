@@ -16,7 +16,7 @@ use Rattle.definition.specs.Writer.{statement_field, field_bytes, record_bytes}
 use Rattle.laws.proofs.ByteForm.{statements_append}
 use Rattle.laws.proofs.Lists.{each_append, length_each, get_d_each, mem_at}
 use Rattle.rule.specs.Elements.{count_at, element_at, element_numbers, Finds}
-use Rattle.rule.specs.declared.elements.Found.TheVariants.{At}
+use Rattle.std.proofs.Common.{Some, None}
 use Rattle.rule.proofs.Finding.{search_found}
 use Rattle.rule.specs.ElementFields.{element_in, elements_in, element_from, Within}
 use Rattle.rows.specs.Members.{member_in, Below}
@@ -70,7 +70,7 @@ module _ {s index : List ℕ} {k : ℕ} (w : Stands s index k) {i : ℕ} (h : i 
   element_mem : element_in s index k i ∈ st.elements
   element_mem = rw (← (element_get l i h)) (mem_at st.elements i no_element (rw (elements_are l) h))
 
-  found_own : Finds (At i) (element_in s index k i).number (element_numbers s index k)
+  found_own : Finds (Some i) (element_in s index k i).number (element_numbers s index k)
   found_own = let e : element_at s index k i ≡ (element_in s index k i).number = ap (λ (x : Element). x.number) (element_is l.elements i h) in
       search_found l.elements.elements _ i h e
 

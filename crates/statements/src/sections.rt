@@ -16,7 +16,7 @@ use flags::{flag, none_set};
 use group::write::put_statement_head;
 use naming::variables::NO_VAR;
 use records::write::{past, put_num};
-use rule::elements::{Found, find_element};
+use rule::elements::find_element;
 use rule::ids::{ElId, FIELDS, RULE_INDEX};
 use rule::lists::{Els, el_at, first};
 use rule::rows::read_row;
@@ -29,7 +29,7 @@ pub fn var_of(s: &[u8], index: &[u16; RULE_INDEX], k: usize, row: &[u16; FIELDS]
     requires named { e.0 ∈ numbers_of (structure_in s.now k) }
     ensures { result ≡ variable_by (structure_in s.now k) row.now e.0 }
 {
-    let Found::At(i) = find_element(s, index, k, e) else {
+    let Some(i) = find_element(s, index, k, e) else {
         return NO_VAR;
     };
     row[i]

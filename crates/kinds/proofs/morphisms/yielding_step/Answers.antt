@@ -45,7 +45,7 @@ image_els-images-requires c = rw c.element_count.ensures c.requires.reaches.betw
 
 pub arguments-requires : goal.arguments-requires
 arguments-requires c =
-    let b : RowBounds (yielding.At c.in-At.place c.in-At.row) c.args.s.now = rw c.in-At.is at c.yielding_row-y.ensures.row_bounds in record {
+    let b : RowBounds (yielding.At c.in-Some.place c.in-Some.row) c.args.s.now = rw c.in-Some.is at c.yielding_row-y.ensures.row_bounds in record {
       els_inside = b.1;
       le_count = b.2;
     }
@@ -64,18 +64,18 @@ returns-then-not-all_flagged c =
     number_is w c.requires.i_bound c.element_number-e.ensures in
     let yields : Yields c.yielding_row-y.result a.s.now function c.element_number-e.result.0 (structure_in a.s.now a.m.target).func_rows =
     yields_rows w c.section_of-rows.ensures.0 c.section_of-rows.ensures.1 c.yielding_row-y.ensures.by_index in
-    let b : RowBounds (yielding.At c.in-At.place c.in-At.row) c.args.s.now = rw c.in-At.is at c.yielding_row-y.ensures.row_bounds in
-    let few : c.in-At.place < places = omega arith in
+    let b : RowBounds (yielding.At c.in-Some.place c.in-Some.row) c.args.s.now = rw c.in-Some.is at c.yielding_row-y.ensures.row_bounds in
+    let few : c.in-Some.place < places = omega arith in
     let els = c.arguments.ensures.result_value in
-    let named = arguments_named els w yields c.in-At.is in
+    let named = arguments_named els w yields c.in-Some.is in
     let images = images_flagged w _ _ _ _ c.element_count.ensures c.image_els-images.ensures c.requires.reaches.images in
     let told = c.all_flagged.ensures _ images named in
     λ sig table sourcevars one.
-    outside sig table _ _ sourcevars _ (rw (← number) at one) yields c.in-At.is few els told c.if-not-all_flagged.true
+    outside sig table _ _ sourcevars _ (rw (← number) at one) yields c.in-Some.is few els told c.if-not-all_flagged.true
 
 pub one_flag-requires : goal.one_flag-requires
 one_flag-requires c =
-    let b : RowBounds (yielding.At c.in-At.place c.in-At.row) c.args.s.now = rw c.in-At.is at c.yielding_row-y.ensures.row_bounds in
+    let b : RowBounds (yielding.At c.in-Some.place c.in-Some.row) c.args.s.now = rw c.in-Some.is at c.yielding_row-y.ensures.row_bounds in
     omega arith
 
 pub returns : goal.returns
@@ -85,11 +85,11 @@ returns c =
     number_is w c.requires.i_bound c.element_number-e.ensures in
     let yields : Yields c.yielding_row-y.result a.s.now function c.element_number-e.result.0 (structure_in a.s.now a.m.target).func_rows =
     yields_rows w c.section_of-rows.ensures.0 c.section_of-rows.ensures.1 c.yielding_row-y.ensures.by_index in
-    let b : RowBounds (yielding.At c.in-At.place c.in-At.row) c.args.s.now = rw c.in-At.is at c.yielding_row-y.ensures.row_bounds in
-    let few : c.in-At.place < places = omega arith in
+    let b : RowBounds (yielding.At c.in-Some.place c.in-Some.row) c.args.s.now = rw c.in-Some.is at c.yielding_row-y.ensures.row_bounds in
+    let few : c.in-Some.place < places = omega arith in
     let els = c.arguments.ensures.result_value in
-    let named = arguments_named els w yields c.in-At.is in
+    let named = arguments_named els w yields c.in-Some.is in
     let images = images_flagged w _ _ _ _ c.element_count.ensures c.image_els-images.ensures c.requires.reaches.images in
     let told = c.all_flagged.ensures _ images named in
     λ sig table sourcevars one. let new = rw (← number) at one in
-    rw c.one_flag.ensures (yielded sig table _ _ sourcevars _ new yields c.in-At.is few els told c.if-not-all_flagged.false)
+    rw c.one_flag.ensures (yielded sig table _ _ sourcevars _ new yields c.in-Some.is few els told c.if-not-all_flagged.false)

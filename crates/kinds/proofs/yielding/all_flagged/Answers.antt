@@ -33,13 +33,13 @@ returns-in_default c =
     all_named p _ _ (numbers_length _ _ _) f c.requires.k_lt_structure_limit.1 c.loop-j-test.true c.el_at.ensures n found
 
 pub bounds-flags-i : goal.bounds-flags-i
-bounds-flags-i c = found_few c.requires.elements (rw c.in-At.is at c.find_element-f.ensures)
+bounds-flags-i c = found_few c.requires.elements (rw c.in-Some.is at c.find_element-f.ensures)
 
 pub returns-then-not-flags-i : goal.returns-then-not-flags-i
 returns-then-not-flags-i c =
     λ p f n.
     let before = c.loop-j.invariant.1 p f n in let h = c.loop-j-test.true in let is = c.el_at.ensures in
-    let found = rw c.in-At.is at c.find_element-f.ensures in
+    let found = rw c.in-Some.is at c.find_element-f.ensures in
     sym (before ∙ all_stop p _ _ (numbers_length _ _ _) f c.requires.k_lt_structure_limit.1 h is found (c.if-not-flags-i.true))
 
 pub loop-j-preserved : goal.loop-j-preserved
@@ -47,7 +47,7 @@ loop-j-preserved c = (
   omega arith,
   λ p f n.
       let before = c.loop-j.invariant.1 p f n in let h = c.loop-j-test.true in let is = c.el_at.ensures in
-      let found = rw c.in-At.is at c.find_element-f.ensures in
+      let found = rw c.in-Some.is at c.find_element-f.ensures in
       before ∙ all_more p _ _ (numbers_length _ _ _) f c.requires.k_lt_structure_limit.1 h is found (c.if-not-flags-i.false),
 )
 

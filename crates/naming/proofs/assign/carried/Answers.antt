@@ -20,21 +20,21 @@ returns-in_default-to c =
     (rw c.pair_image.ensures at c.in_default-to.ensures)
 
 pub offset_bounds-vars-i : goal.offset_bounds-vars-i
-offset_bounds-vars-i c = let f = found_few c.requires.laid.0 c.in-At.ensures in omega arith
+offset_bounds-vars-i c = let f = found_few c.requires.laid.0 c.in-Some.ensures in omega arith
 
 pub bounds-vars-i : goal.bounds-vars-i
-bounds-vars-i c = found_few c.requires.laid.0 c.in-At.ensures
+bounds-vars-i c = found_few c.requires.laid.0 c.in-Some.ensures
 
 pub offset_bounds-row-j : goal.offset_bounds-row-j
-offset_bounds-row-j c = let f = found_few c.requires.laid.1 c.in-At-to.ensures in omega arith
+offset_bounds-row-j c = let f = found_few c.requires.laid.1 c.in-Some-to.ensures in omega arith
 
 pub bounds-row-j : goal.bounds-row-j
-bounds-row-j c = found_few c.requires.laid.1 c.in-At-to.ensures
+bounds-row-j c = found_few c.requires.laid.1 c.in-Some-to.ensures
 
 pub loop-p-preserved : goal.loop-p-preserved
 loop-p-preserved c =
     carry c.requires.laid.0 c.requires.laid.1 c.requires.map_in.0 _ c.loop-p.invariant c.loop-p-test.true
-    (rw c.pair_key.ensures at c.in-At.ensures) (rw c.pair_image.ensures at c.in-At-to.ensures)
+    (rw c.pair_key.ensures at c.in-Some.ensures) (rw c.pair_image.ensures at c.in-Some-to.ensures)
 
 pub returns : goal.returns
 returns c =

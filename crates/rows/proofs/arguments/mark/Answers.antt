@@ -12,7 +12,7 @@ pub loop-j-init : goal.loop-j-init
 loop-j-init c = (c.requires.k_lt_structure_limit.1, λ seen m. rw append-nil m)
 
 pub bounds-flags-i : goal.bounds-flags-i
-bounds-flags-i c = found_place c.requires.elements (rw c.in-At.is at c.find_element.ensures)
+bounds-flags-i c = found_place c.requires.elements (rw c.in-Some.is at c.find_element.ensures)
 
 pub loop-j-preserved : goal.loop-j-preserved
 loop-j-preserved c =
@@ -22,7 +22,7 @@ loop-j-preserved c =
       | in-At w ↦ rw w.flags-is (
         rw length-set v.0,
         λ seen m.
-            let f = rw w.in-At.is at c.find_element.ensures in
+            let f = rw w.in-Some.is at c.find_element.ensures in
             rw (more seen) (mark_at (v.1 seen m) (numbers_ascend c.requires.elements) f (rw v.0 (found_place c.requires.elements f))),
       )
       | in_default w ↦ rw w.flags-is (

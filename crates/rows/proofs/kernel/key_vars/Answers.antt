@@ -17,17 +17,17 @@ returns-in_default c =
     c.pair_key.ensures (rw c.in_default.is at c.find_element.ensures))
 
 pub offset_bounds-row-i : goal.offset_bounds-row-i
-offset_bounds-row-i c = let h = found_few c.requires.elements (rw c.in-At.is at c.find_element.ensures) in omega arith
+offset_bounds-row-i c = let h = found_few c.requires.elements (rw c.in-Some.is at c.find_element.ensures) in omega arith
 
 pub bounds-row-i : goal.bounds-row-i
-bounds-row-i c = found_few c.requires.elements (rw c.in-At.is at c.find_element.ensures)
+bounds-row-i c = found_few c.requires.elements (rw c.in-Some.is at c.find_element.ensures)
 
 pub loop-p-preserved : goal.loop-p-preserved
 loop-p-preserved c =
     let inv = c.loop-p.invariant in (
       rw length-set inv.0,
       λ source t. keys_next c.requires.map_in (inv.1 source t) t c.loop-p-test.true (omega (arith, c.requires.map_in.few, inv.0))
-          c.pair_key.ensures (rw c.in-At.is at c.find_element.ensures),
+          c.pair_key.ensures (rw c.in-Some.is at c.find_element.ensures),
     )
 
 pub returns : goal.returns

@@ -22,17 +22,17 @@ returns-in_default c =
     c.pair_image.ensures structure same named (rw c.in_default.is at c.find_element.ensures))
 
 pub bounds-seen-j : goal.bounds-seen-j
-bounds-seen-j c = found_place c.requires.elements (rw c.in-At.is at c.find_element.ensures)
+bounds-seen-j c = found_place c.requires.elements (rw c.in-Some.is at c.find_element.ensures)
 
 pub bounds-merged-j : goal.bounds-merged-j
-bounds-merged-j c = found_place c.requires.elements (rw c.in-At.is at c.find_element.ensures)
+bounds-merged-j c = found_place c.requires.elements (rw c.in-Some.is at c.find_element.ensures)
 
 pub bounds-seen-j-in-loop-p : goal.bounds-seen-j-in-loop-p
-bounds-seen-j-in-loop-p c = found_place c.requires.elements (rw c.in-At.is at c.find_element.ensures)
+bounds-seen-j-in-loop-p c = found_place c.requires.elements (rw c.in-Some.is at c.find_element.ensures)
 
 pub loop-p-preserved : goal.loop-p-preserved
 loop-p-preserved c =
-    let found = rw c.in-At.is at c.find_element.ensures in
+    let found = rw c.in-Some.is at c.find_element.ensures in
     let few = found_place c.requires.elements found in
     let inv = c.loop-p.invariant in (
       rw length-set inv.0,

@@ -23,5 +23,5 @@ pub returns : goal.returns
 unfolding member_row
 returns c =
     let m = c.in_ok-map_elements.ensures in
-    maps_more _ (rw (c.parents_of.ensures.by_index _) at m) (sym c.image_of.ensures ∙ ap image_is c.in-Of.is)
+    maps_more _ (rw (c.parents_of.ensures.by_index _) at m) (sym c.image_of.ensures ∙ ap image_is c.in-Some.is)
     (parents_many c.requires.within) (rw m.long (search rules))

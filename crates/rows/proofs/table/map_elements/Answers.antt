@@ -18,7 +18,7 @@ returns-in_default c =
 pub loop-j-preserved : goal.loop-j-preserved
 loop-j-preserved c =
     let m = c.loop-j.invariant in
-    let i = sym c.image_of.ensures ∙ ap image_is c.in-Of.is in
+    let i = sym c.image_of.ensures ∙ ap image_is c.in-Some.is in
     mapping_next m (rw (els_many c.requires.els_inside) c.loop-j-test.true) (rw m.long (search rules)) (sym c.el_at.ensures) i
 
 pub returns : goal.returns
