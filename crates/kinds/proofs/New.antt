@@ -35,7 +35,8 @@ use Rattle.rule.specs.ElementFields.{element_in, elements_in}
 use Rattle.kinds.specs.Added.{SectionRun, SectionRows, NewRows, NewMembers, source_lacks, AddsRows}
 use Rattle.kinds.specs.declared.added.Flagged.{Flagged}
 use Rattle.kinds.specs.declared.added.Flagged.TheVariants as flagged_as
-use Rattle.kinds.specs.declared.step.Step.TheVariants.{Adds, Refused}
+use Rattle.records.specs.declared.refusal.Refusal.TheVariants.{UnmappedElement}
+use Rattle.std.specs.Prelude.{Ok, Err}
 use Rattle.kinds.proofs.Masks.{packed_keep, none_flagged}
 use Rattle.rule.specs.Layout.{place_r, place_a}
 
@@ -169,21 +170,21 @@ module _ {s index : List ℕ} {m : Morphism} (w : Between s index m) where
 
   -- The three together.
   module _ {p : Flagged} (np : NewRows p (pairs_by s m) (source_in s m).pred_rows (target_in s m).pred_rows) (marks : List Bool) where
-    pub adds_preds : p ≡ flagged_as.Unmapped → AddsRows (Refused 26) s index m marks
+    pub adds_preds : p ≡ flagged_as.Unmapped → AddsRows (Err UnmappedElement) s index m marks
     unfolding source_lacks
     adds_preds e = let v = rw e at np in record { is = (refl, rw v.is) }
 
     module _ {f : Flagged} (nf : NewRows f (pairs_by s m) (source_in s m).func_rows (target_in s m).func_rows) {a : Mask} (e : p ≡ flagged_as.Of a) where
-      pub adds_funcs : f ≡ flagged_as.Unmapped → AddsRows (Refused 26) s index m marks
+      pub adds_funcs : f ≡ flagged_as.Unmapped → AddsRows (Err UnmappedElement) s index m marks
       unfolding source_lacks
       adds_funcs d = let v = rw e at np in let u = rw d at nf in record { is = (refl, rw (v.is.0, u.is)) }
 
       module _ {g : Flagged} (ng : NewMembers g s index m marks) {b : Mask} (d : f ≡ flagged_as.Of b) where
-        pub adds_members : g ≡ flagged_as.Unmapped → AddsRows (Refused 26) s index m marks
+        pub adds_members : g ≡ flagged_as.Unmapped → AddsRows (Err UnmappedElement) s index m marks
         unfolding source_lacks
         adds_members q = let v = rw e at np in let u = rw d at nf in let t = rw q at ng in record { is = (refl, rw (v.is.0, u.is.0, t.is)) }
 
-        pub adds_all : {c : Mask} → g ≡ flagged_as.Of c → AddsRows (Adds (record { preds = a; funcs = b; members = c; free = no_flags })) s index m marks
+        pub adds_all : {c : Mask} → g ≡ flagged_as.Of c → AddsRows (Ok (record { preds = a; funcs = b; members = c; free = no_flags })) s index m marks
         unfolding source_lacks
         adds_all q =
             let v = rw e at np in let u = rw d at nf in let t = rw q at ng in

@@ -1,9 +1,11 @@
 -- What a map's target has beside the images of the source's rows.
-use Rattle.std.specs.Prelude.{ℕ, ◌<◌, Bool, true, false, not, ◌&&◌, ◌||◌, List, ◌≡◌, get_or}
+use Rattle.std.specs.Prelude.{ℕ, ◌<◌, Bool, true, false, not, ◌&&◌, ◌||◌, List, ◌≡◌, Result, Ok, Err, get_or}
 use Rattle.definition.specs.Base.{keep, any}
 use Rattle.definition.specs.Records.{Field}
 use Rattle.definition.specs.Rule.{Row, Pair}
 use Rattle.records.specs.Places.{Run}
+use Rattle.records.specs.declared.refusal.Refusal.{Refusal}
+use Rattle.records.specs.declared.refusal.Refusal.TheVariants.{UnmappedElement}
 use Rattle.rule.specs.Elements.{count_at}
 use Rattle.rows.specs.Members.{new_member}
 use Rattle.rows.specs.Table.{row_lacks, is_new}
@@ -16,8 +18,6 @@ use Rattle.rows.specs.declared.morphism.Morphism.{Morphism}
 use Rattle.rule.specs.ElementFields.{element_in}
 use Rattle.kinds.specs.declared.added.Flagged.{Flagged}
 use Rattle.kinds.specs.declared.added.Flagged.TheVariants as flagged_as
-use Rattle.kinds.specs.declared.step.Step.{Step}
-use Rattle.kinds.specs.declared.step.Step.TheVariants.{Adds, Refused}
 use Rattle.statements.specs.declared.masks.Masks.{Masks}
 use Rattle.rule.specs.Layout.{section_from, section_to}
 
@@ -62,9 +62,9 @@ pub record RowMasks (masks : Masks) (s index : List ℕ) (m : Morphism) (marks :
   pub members : Unmarked masks.members s index m.target (pairs_by s m) (member_rows (source_in s m).elements) marks
   pub free : masks.free ≡ no_flags
 
-abbrev AddsRowsAs : Step → List ℕ → List ℕ → Morphism → List Bool → Type 0
-AddsRowsAs (Refused n) s index m marks = (n ≡ 26) × (source_lacks s m ≡ true)
-AddsRowsAs (Adds masks) s index m marks = (source_lacks s m ≡ false) × RowMasks masks s index m marks
+abbrev AddsRowsAs : Result Masks Refusal → List ℕ → List ℕ → Morphism → List Bool → Type 0
+AddsRowsAs (Err r) s index m marks = (r ≡ UnmappedElement) × (source_lacks s m ≡ true)
+AddsRowsAs (Ok masks) s index m marks = (source_lacks s m ≡ false) × RowMasks masks s index m marks
 
-pub record AddsRows (r : Step) (s index : List ℕ) (m : Morphism) (marks : List Bool) : Type 0 where
+pub record AddsRows (r : Result Masks Refusal) (s index : List ℕ) (m : Morphism) (marks : List Bool) : Type 0 where
   pub is : AddsRowsAs r s index m marks

@@ -11,8 +11,8 @@ ghost use Rattle.rows.specs.Morphisms.{pairs_by, Between};
 ghost use Rattle.kinds.specs.Added.{SectionRun, SectionRows, NewRows, NewMembers, AddsRows};
 ghost use Rattle.rule.specs.Layout.{place_e, place_i};
 
-use crate::step::Step;
 use flags::{Mask, NO_FLAGS, PLACES, packed_less};
+use records::refusal::Refusal;
 use rows::members::{has_members, mapped_members, new_members};
 use rows::morphism::Morphism;
 use rows::table::{Images, ROWS, TABLE, mapped_rel_apps, new_rows};
@@ -88,23 +88,28 @@ fn new_unmarked(s: &[u8], index: &[u16; RULE_INDEX], m: Morphism, marks: [bool; 
 }
 
 // 26, else the flags of the new rows, with the members that have no mark.
-pub fn added_rows(s: &[u8], index: &[u16; RULE_INDEX], m: Morphism, marks: [bool; PLACES]) -> Step
+pub fn added_rows(
+    s: &[u8],
+    index: &[u16; RULE_INDEX],
+    m: Morphism,
+    marks: [bool; PLACES],
+) -> Result<Masks, Refusal>
     requires { Between s.now index.now m }
     ensures { AddsRows result s.now index.now m marks }
 {
     let p = new_section(s, index, m, PLACE_R);
     let Flagged::Of(preds) = p else {
-        return Step::Refused(26);
+        return Err(Refusal::UnmappedElement);
     };
     let f = new_section(s, index, m, PLACE_A);
     let Flagged::Of(funcs) = f else {
-        return Step::Refused(26);
+        return Err(Refusal::UnmappedElement);
     };
     let e = new_unmarked(s, index, m, marks);
     let Flagged::Of(members) = e else {
-        return Step::Refused(26);
+        return Err(Refusal::UnmappedElement);
     };
-    Step::Adds(Masks {
+    Ok(Masks {
         preds,
         funcs,
         members,
