@@ -4,7 +4,7 @@ use native.Mathlib.Omega.{arith}
 use mathlib.Core.Bool.{Bool, true, false}
 use mathlib.Core.List.{List}
 use mathlib.Core.Path.{◌≡◌, refl, sym, ◌∙◌, ap}
-use borrow.Author.Tests.{eq-eqb, ne_eqb}
+use lib.Dec.{eqb}
 use lib.ListN.{length, get_or, take, drop}
 use Rattle.definition.specs.Base.{each, first_of, ◌∈◌}
 use Rattle.definition.specs.Letters.{function}
@@ -28,7 +28,7 @@ use Rattle.rule.proofs.RowFields.{Passed, passed_start}
 use Rattle.rule.proofs.RowReading.{NextRow, row_stands, next_row, rows_on, row_at}
 use Rattle.rows.proofs.Kept.{flag_at_lem}
 use Rattle.kinds.specs.Yielding.{ResultRows, yields_of, no_row, Yields}
-use Rattle.kinds.specs.declared.yielding.Yielding.TheVariants as yielding
+use Rattle.std.specs.Prelude.{Some, None}
 
 -- A search along a section: so many rows lie before a position, none of which yields e, so the first that does is among those left.
 pub record Sought (s : List ℕ) (from end e at place : ℕ) : Type 0 where
@@ -40,7 +40,7 @@ pub seek_start : {s : List ℕ} {from end e : ℕ} → Sought s from end e from 
 seek_start = record { passed = λ fs run. passed_start run; left = λ kind fs run. refl }
 
 module _ {s : List ℕ} {from end e at place : ℕ} (w : Sought s from end e at place) where
-  pub seek_end : end ≤ at → (kind : ℕ) (fs : List Field) → Run s from end fs → Yields yielding.Nothing s kind e (each (row_of kind) fs)
+  pub seek_end : end ≤ at → (kind : ℕ) (fs : List Field) → Run s from end fs → Yields None s kind e (each (row_of kind) fs)
   unfolding each first_of
   seek_end h kind fs run = record { is = w.left kind fs run ∙ rw (run_end (w.passed fs run).run h) }
 
@@ -65,17 +65,17 @@ module _ {s : List ℕ} {from end e at place : ℕ} (w : Sought s from end e at 
 
       -- Its result is another element, or e.
       module _ {result : ℕ} (is : (kind : ℕ) → result ≡ last_element (row_from s kind r)) where
-        pub seek_miss : (result ≡ e → ⊥) → Sought s from end e r.next (place + 1)
+        pub seek_miss : eqb result e ≡ false → Sought s from end e r.next (place + 1)
         unfolding first_of
         seek_miss d = record {
           passed = λ fs run. (next fs run).passed;
-          left = λ kind fs run. w.left kind fs run ∙ rw (rows_on (next fs run) kind, ← is kind, ne_eqb _ _ d);
+          left = λ kind fs run. w.left kind fs run ∙ rw (rows_on (next fs run) kind, ← is kind, d);
         }
 
-        pub seek_found : result ≡ e → (kind : ℕ) (fs : List Field) → Run s from end fs → Yields (yielding.At place r) s kind e (each (row_of kind) fs)
+        pub seek_found : eqb result e ≡ true → (kind : ℕ) (fs : List Field) → Run s from end fs → Yields (Some (record { place = place; row = r })) s kind e (each (row_of kind) fs)
         unfolding first_of
         seek_found d kind fs run = let n = next fs run in record {
-          is = (rw length_each n.inside, row_at n kind no_row, w.left kind fs run ∙ rw (rows_on n kind, ← is kind, eq-eqb _ _ d));
+          is = (rw length_each n.inside, row_at n kind no_row, w.left kind fs run ∙ rw (rows_on n kind, ← is kind, d));
         }
 
 -- The flag of an element that was found.
