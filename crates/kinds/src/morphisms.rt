@@ -75,10 +75,7 @@ fn new_masks(
     if clashes(s, index, m, sourcevars, types) {
         return Err(Refusal::KernelTypesDiffer);
     }
-    match added_rows(s, index, m, marks) {
-        Ok(masks) => Step::Adds(masks),
-        Err(refusal) => Step::Refused(refusal.number()),
-    }
+    added_rows(s, index, m, marks)
 }
 
 // If and Noop: refused as `new_masks` is, else the new rows but for members whose element is constrained, and the elements that are neither
