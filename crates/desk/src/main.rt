@@ -10,7 +10,6 @@ ghost use Rattle.definition.specs.Desk.{desk_of};
 use answers::desk::desk;
 use flatten::entry::ANSWER;
 use std::io::{Read, Write};
-use streams::Input;
 
 // Enough of any input: the length, the longest signature it can tell of, and a rule of one byte too many. A longer input's answer
 // is that of its first so many bytes: the signature's refusal, else 1 (`enough` in crates/answers/proofs/Enough.antt).
@@ -33,8 +32,8 @@ fn answer<E: Write, R: Read, W: Write>(errors: &mut E, input: &mut R, output: &m
 {
     let mut buf = [0u8; INPUT];
     match streams::read_full(errors, input, &mut buf, b"desk: standard input") {
-        Input::Read(n) => print_answer(errors, output, &buf[..n]),
-        Input::Failed => {
+        Some(n) => print_answer(errors, output, &buf[..n]),
+        None => {
             print_answer(errors, output, &[]);
             false
         }

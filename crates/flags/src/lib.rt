@@ -80,14 +80,10 @@ pub fn packed_less(row: [bool; PLACES], others: [bool; PLACES], count: usize) ->
     ensures { PackedLess result row others count }
 {
     let mut mask = NO_FLAGS;
-    let mut i: usize = 0;
-    while i < count {
-        if row[i] {
-            if !others[i] {
-                mask = with_flag(mask, i);
-            }
+    for i in 0..count {
+        if row[i] && !others[i] {
+            mask = with_flag(mask, i);
         }
-        i += 1;
     }
     mask
 }

@@ -22,28 +22,29 @@ use Rattle.signature.specs.declared.ids.Counts.{Counts}
 use Rattle.rule.specs.Lookup.{rule_at}
 use Rattle.reading.specs.Answers.{rule_answer, RuleUsable}
 use Rattle.reading.specs.Verdicts.{rule_read}
-use Rattle.reading.specs.declared.RuleReading.{RuleReading}
 use Rattle.reading.specs.declared.RuleReading.TheVariants as reading
 use Rattle.plan.specs.Table.{Tabled}
 use Rattle.walk.specs.Tables.{Tables}
 use Rattle.walk.specs.Ended.{Readable, Ground, Finished, Ended}
-use Rattle.walk.specs.Went.{whole_walk, Went, stop_in}
-use Rattle.walk.specs.declared.walk.Walked.{Walked}
-use Rattle.walk.specs.declared.walk.Walked.TheVariants as walked
-use Rattle.flatten.specs.Answers.{answer_of, Demanded, Writes, Untyped, walk_outcome, rule_outcome, number_in}
+use Rattle.std.proofs.Common.{Result, Ok, Err}
+use Rattle.records.specs.Refusals.{number}
+use Rattle.records.specs.declared.refusal.Refusal.{Refusal}
+use Rattle.records.specs.declared.refusal.Refusal.TheVariants.{NoRoom}
+use Rattle.flags.specs.Flags.{Held}
+use Rattle.theorems.proofs.ReadingRefusals.{Low, signature_refusal, rule_refusal}
+use Rattle.walk.specs.Went.{whole_walk, Went}
+use Rattle.flatten.specs.Answers.{outcome_in, answer_of, Demanded, Writes, Untyped, walk_outcome, rule_outcome}
 use Rattle.walk.proofs.Grounds.{AllMapped}
-use Rattle.flatten.specs.declared.entry.Flattened.{Flattened}
-use Rattle.flatten.specs.declared.entry.Flattened.TheVariants.{Written, Refused}
 
 -- What is answered, by how long the group was measured to be.
 module _ (p out : List ℕ) {none o : List ℕ} {room m : ℕ} (u : room ≡ min (length out) 65535) (a : Put none o p 0 m) where
-  pub no_room : room < m → Writes (Refused 31) out out (fitted (length out) p)
+  pub no_room : room < m → Writes (Err NoRoom) out out (fitted (length out) p)
   unfolding fitted
   no_room h =
       let r : min (length out) 65535 < length p = omega (arith, a.size) in
       rw (lt-ltb _ _ r) (record { answer = refl; buffer = refl })
 
-  pub wrote_all : {fin : List ℕ} {k : ℕ} → m ≤ room → Put out fin p 0 k → Writes (Written k) out fin (fitted (length out) p)
+  pub wrote_all : {fin : List ℕ} {k : ℕ} → m ≤ room → Put out fin p 0 k → Writes (Ok k) out fin (fitted (length out) p)
   unfolding fitted
   wrote_all {fin} {k} h w =
       let l : length p ≤ room = omega (arith, a.size) in
@@ -53,7 +54,7 @@ module _ (p out : List ℕ) {none o : List ℕ} {room m : ℕ} (u : room ≡ min
       rw (le-ltb _ _ q) (record { answer = rw x; buffer = f })
 
 -- A refusal before anything is written.
-pub refused_at_once : (out : List ℕ) {k : ℕ} {x : Outcome (List ℕ)} → x ≡ refused k → Writes (Refused k) out out x
+pub refused_at_once : (out : List ℕ) {r : Refusal} {x : Outcome (List ℕ)} → x ≡ refused (number r) → Writes (Err r) out out x
 refused_at_once out e = record { answer = rw e; buffer = rw e }
 
 -- The walk's end.
@@ -78,16 +79,14 @@ module _ (sig : Signature) (s : List ℕ) (room : ℕ) where
   unfolding rule_outcome walk_outcome walk_of
   walked_on a = rw (a.0, a.1)
 
-  -- A refused walk, by the number of what `walk_map` answered.
-  pub walk_stopped : {tb : Tables} {types : List ℕ} {next target source k n : ℕ} (end : Walked) → Went end sig s tb types next target source → end
-      ≡ walked.Refused n → k ≡ stop_in end
-      → walk_outcome sig s room ≡ refused k
+  -- A refused walk.
+  pub walk_stopped : {r : Refusal} {sources types : List ℕ} {masks : List (List Held)} {vars : List (List ℕ)} {target source : ℕ}
+      → Went (Err r) sig s sources masks vars types target source → walk_outcome sig s room ≡ refused (number r)
   unfolding walk_outcome
-  walk_stopped walked.On w e f = let z : ◌≡◌ {A = ℕ} 0 1 = cc in absurd (omega arith)
-  walk_stopped (walked.Refused m) w e f = rw (f, w.is)
+  walk_stopped w = rw w.is
 
   -- The group is written for the state that the walk ended in.
-  pub ended_writes : {index types : List ℕ} {kinds : List (List ℕ)} {tb : Tables} {q : Flattened} {out₀ out : List ℕ} → (x : End sig s tb types)
+  pub ended_writes : {index types : List ℕ} {kinds : List (List ℕ)} {tb : Tables} {q : Result ℕ Refusal} {out₀ out : List ℕ} → (x : End sig s tb types)
       → (g : Ground sig s index) (td : Tabled kinds (completed (rule_at s).maps (rule_at s).kinds (rule_at s).auxiliaries))
       → ((e : Ended s index types kinds tb) → Writes q out₀ out (fitted room (group_bytes_of (group_left (rule_at s) e.state))))
       → Writes q out₀ out (walk_outcome sig s room)
@@ -99,27 +98,31 @@ pub untyped : (size : ℕ) {n : ℕ} → field_limit * n ≤ size → Untyped (r
 untyped size h = record { size = size; zeros = refl; enough = rw length-replicate h }
 
 -- The reading.
-pub unread : (sig s : List ℕ) {k n : ℕ} (room : ℕ) (r : RuleReading) → rule_answer s r ≡ rule_read sig s → r ≡ reading.Refused n → k ≡ number_in r
-    → flatten_of sig s room ≡ refused k
-unfolding flatten_of
-unread sig s room (reading.Sound c m) a e f = let z : ◌≡◌ {A = ℕ} 0 1 = cc in absurd (omega arith)
-unread sig s room (reading.Refused m) a e f = rw f (go (read_signature sig) a)
-  where
-    go : (x : Outcome Signature) → refused m ≡ on_accepted x (λ (g : Signature). read_rule g s)
-        → on_accepted x (λ (g : Signature). on_accepted (read_rule g s) λ (r : Rule). on_accepted (walk_of g r) λ (state : State). fitted room
-        (group_bytes_of (group_left r state))) ≡ refused m
-    go (refused i) q = let x : i ≡ m = cc in rw x
-    go (accepted g) q = rw (sym q)
+module _ (sig s : List ℕ) {n : ℕ} (a : rule_answer s (reading.Refused n) ≡ rule_read sig s) where
+  pub unread : (room : ℕ) → flatten_of sig s room ≡ refused n
+  unfolding flatten_of
+  unread room = go (read_signature sig) a
+    where
+      go : (x : Outcome Signature) → refused n ≡ on_accepted x (λ (g : Signature). read_rule g s)
+          → on_accepted x (λ (g : Signature). on_accepted (read_rule g s) λ (r : Rule). on_accepted (walk_of g r) λ (state : State). fitted room
+          (group_bytes_of (group_left r state))) ≡ refused n
+      go (refused i) q = let x : i ≡ n = cc in rw x
+      go (accepted g) q = rw (sym q)
+
+  pub low : Low n
+  low = go (read_signature sig) (λ k e. signature_refusal sig e) a
+    where
+      go : (x : Outcome Signature) → ((k : ℕ) → x ≡ refused k → Low k) → refused n ≡ on_accepted x (λ (g : Signature). read_rule g s) → Low n
+      go (refused i) h q = let x : i ≡ n = cc in rw (← x) (h i refl)
+      go (accepted g) h q = rule_refusal g s (sym q)
 
 module _ (sig s symbols index : List ℕ) where
-  pub readable : {counts : Counts} {n : ℕ} (r : RuleReading) → rule_answer s r ≡ rule_read sig s → RuleUsable sig symbols s index r
-      → r ≡ reading.Sound counts n → Readable sig symbols counts s index n
+  pub readable : {counts : Counts} {n : ℕ} → rule_answer s (reading.Sound counts n) ≡ rule_read sig s → RuleUsable sig symbols s index (reading.Sound counts n)
+      → Readable sig symbols counts s index n
   unfolding rule_at
-  readable (reading.Refused k) a u e = let z : ◌≡◌ {A = ℕ} 0 1 = cc in absurd (omega arith)
-  readable {counts} {n} (reading.Sound c m) a u e =
-      let x : c ≡ counts = cc in let y : m ≡ n = cc in
-      let q : accepted (rule_of (rule_part s).fields) ≡ read_rule (signature_at sig symbols c) s = rw u.0.read at a in
-      rw (← x, ← y) (record { signature_read = u.0.read; signature_indexed = u.0.indexed; rule_read = sym q; rule_indexed = u.1 })
+  readable {counts} a u =
+      let q : accepted (rule_of (rule_part s).fields) ≡ read_rule (signature_at sig symbols counts) s = rw u.0.read at a in
+      record { signature_read = u.0.read; signature_indexed = u.0.indexed; rule_read = sym q; rule_indexed = u.1 }
 
   pub flatten_read : {counts : Counts} {n : ℕ} (room : ℕ) → Readable sig symbols counts s index n
       → flatten_of sig s room ≡ rule_outcome (signature_at sig symbols counts) s room
@@ -131,26 +134,22 @@ pub record Front (n : ℕ) (out : List ℕ) (o : Outcome (List ℕ)) : Type 0 wh
   pub is : o ≡ accepted (take n out)
   pub fits : n ≤ length out
 
-front : {n : ℕ} (out₀ : List ℕ) {out : List ℕ} (o : Outcome (List ℕ)) → Written n ≡ answer_of o → out ≡ laid_over o out₀ → Front n out o
+front : {n : ℕ} (out₀ : List ℕ) {out : List ℕ} (o : Outcome (List ℕ)) → accepted n ≡ answer_of o → out ≡ laid_over o out₀ → Front n out o
 front out₀ (refused k) a b = let z : ◌≡◌ {A = ℕ} 0 1 = cc in absurd (omega arith)
 front {n} out₀ (accepted p) a b = let x : length p ≡ n = cc in
     let t : take n (p ++ drop (length p) out₀) ≡ p = take_at p (drop (length p) out₀) n x in
     rw b (record { is = rw t; fits = rw length-append (omega arith) })
 
-pub written_front : (sig s : List ℕ) (room : ℕ) (out₀ : List ℕ) {n : ℕ} {out : List ℕ} → Written n ≡ answer_of (flatten_of sig s room)
-    → out ≡ laid_over (flatten_of sig s room) out₀ → Front n out (flatten_of sig s room)
-written_front sig s room out₀ a b = front out₀ (flatten_of sig s room) a b
-
 -- All that the entry says: of a refusal before the walk, and of what it makes of an accepted rule.
-pub none_written : (sig s : List ℕ) (room : ℕ) (out : List ℕ) {k : ℕ} → flatten_of sig s room ≡ refused k
-    → (Refused k ≡ answer_of (flatten_of sig s room)) × ((out ≡ laid_over (flatten_of sig s room) out) × Demanded (Refused k) sig s out)
-none_written sig s room out e = (ap answer_of (sym e), (ap (λ (o : Outcome (List ℕ)). laid_over o out) (sym e), tt))
+pub none_written : (sig s : List ℕ) (room : ℕ) (out : List ℕ) (r : Refusal) → flatten_of sig s room ≡ refused (number r)
+    → (outcome_in (Err r) ≡ answer_of (flatten_of sig s room)) × ((out ≡ laid_over (flatten_of sig s room) out) × Demanded (Err r) sig s out)
+none_written sig s room out r e = (ap answer_of (sym e), (ap (λ (o : Outcome (List ℕ)). laid_over o out) (sym e), tt))
 
-pub all_said : (sig s : List ℕ) (room : ℕ) {r : Flattened} {out₀ out : List ℕ} {o : Outcome (List ℕ)} → Writes r out₀ out o → flatten_of sig s room ≡ o
-    → (r ≡ answer_of (flatten_of sig s room)) × ((out ≡ laid_over (flatten_of sig s room) out₀) × Demanded r sig s out)
-all_said sig s room {r} {out₀} {out} w e = let a : r ≡ answer_of (flatten_of sig s room) = w.answer ∙ rw e in
+pub all_said : (sig s : List ℕ) (room : ℕ) {r : Result ℕ Refusal} {out₀ out : List ℕ} {o : Outcome (List ℕ)} → Writes r out₀ out o → flatten_of sig s room ≡ o
+    → (outcome_in r ≡ answer_of (flatten_of sig s room)) × ((out ≡ laid_over (flatten_of sig s room) out₀) × Demanded r sig s out)
+all_said sig s room {r} {out₀} {out} w e = let a : outcome_in r ≡ answer_of (flatten_of sig s room) = w.answer ∙ rw e in
     let b : out ≡ laid_over (flatten_of sig s room) out₀ = w.buffer ∙ rw e in (a, (b, demanded r a))
   where
-    demanded : (r : Flattened) → r ≡ answer_of (flatten_of sig s room) → Demanded r sig s out
-    demanded (Refused n) a = tt
-    demanded (Written n) a = demand_3 sig s room (front out₀ _ a (w.buffer ∙ rw e)).is
+    demanded : (r : Result ℕ Refusal) → outcome_in r ≡ answer_of (flatten_of sig s room) → Demanded r sig s out
+    demanded (Err n) a = tt
+    demanded (Ok n) a = demand_3 sig s room (front out₀ _ a (w.buffer ∙ rw e)).is

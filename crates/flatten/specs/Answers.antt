@@ -1,5 +1,5 @@
 -- What flatten answers.
-use Rattle.std.specs.Prelude.{List, ◌≡◌, ℕ, ◌*◌, ◌≤◌, length, take, replicate}
+use Rattle.std.specs.Prelude.{List, ◌≡◌, ℕ, ◌*◌, ◌≤◌, Result, Ok, Err, length, take, replicate}
 use Rattle.definition.specs.Base.{Outcome, refused, accepted, on_accepted}
 use Rattle.definition.specs.Limits.{field_limit}
 use Rattle.definition.specs.Signature.{Signature}
@@ -7,26 +7,28 @@ use Rattle.definition.specs.Walk.{State, walk_of}
 use Rattle.definition.specs.Writer.{group_bytes_of}
 use Rattle.definition.specs.Flatten.{group_left, fitted, laid_over}
 use Rattle.definition.specs.Demands.{Demand3}
+use Rattle.records.specs.Refusals.{outcome_by}
+use Rattle.records.specs.declared.refusal.Refusal.{Refusal}
 use Rattle.rule.specs.Lookup.{rule_at}
 use Rattle.walk.specs.Went.{whole_walk}
-use Rattle.reading.specs.declared.RuleReading.{RuleReading}
-use Rattle.reading.specs.declared.RuleReading.TheVariants as reading
-use Rattle.flatten.specs.declared.entry.Flattened.{Flattened}
-use Rattle.flatten.specs.declared.entry.Flattened.TheVariants.{Written, Refused}
 
--- How many bytes were written, or the number.
-abbrev pub answer_of : Outcome (List ℕ) → Flattened
-answer_of (accepted bytes) = Written (length bytes)
-answer_of (refused n) = Refused n
+-- How many bytes were written, or the refusal's number.
+abbrev pub outcome_in : Result ℕ Refusal → Outcome ℕ
+outcome_in = outcome_by (λ (n : ℕ). n)
+
+-- How many bytes are to be written, or the number.
+abbrev pub answer_of : Outcome (List ℕ) → Outcome ℕ
+answer_of (accepted bytes) = accepted (length bytes)
+answer_of (refused n) = refused n
 
 -- Demand 3, of the group that was written.
-abbrev pub Demanded : Flattened → List ℕ → List ℕ → List ℕ → Type 0
-Demanded (Written n) sig rule out = Demand3 sig rule (take n out)
-Demanded (Refused n) sig rule out = Unit
+abbrev pub Demanded : Result ℕ Refusal → List ℕ → List ℕ → List ℕ → Type 0
+Demanded (Ok n) sig rule out = Demand3 sig rule (take n out)
+Demanded (Err r) sig rule out = Unit
 
 -- An outcome as the answer and in the buffer.
-pub record Writes (r : Flattened) (out₀ out : List ℕ) (o : Outcome (List ℕ)) : Type 0 where
-  pub answer : r ≡ answer_of o
+pub record Writes (r : Result ℕ Refusal) (out₀ out : List ℕ) (o : Outcome (List ℕ)) : Type 0 where
+  pub answer : outcome_in r ≡ answer_of o
   pub buffer : out ≡ laid_over o out₀
 
 -- A table of types before any variable is given out, with a place for each element of so many structures.
@@ -41,8 +43,3 @@ walk_outcome sig s room = on_accepted (whole_walk sig s) (λ (state : State). fi
 
 unfoldable pub rule_outcome : Signature → List ℕ → ℕ → Outcome (List ℕ)
 rule_outcome sig s room = on_accepted (walk_of sig (rule_at s)) (λ (state : State). fitted room (group_bytes_of (group_left (rule_at s) state)))
-
--- The number of a refused reading.
-abbrev pub number_in : RuleReading → ℕ
-number_in (reading.Sound counts n) = 0
-number_in (reading.Refused n) = n

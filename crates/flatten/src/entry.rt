@@ -1,26 +1,27 @@
 // The entry: a signature and a rule as bytes, flattened into a lent buffer.
-ghost use Rattle.std.specs.Prelude.{◌≡◌, min, length};
+ghost use Rattle.std.specs.Prelude.{◌≡◌, ◌≤◌, length};
 ghost use Rattle.definition.specs.Flatten.{group_left, fitted, flatten_of, laid_over};
-ghost use Rattle.definition.specs.Limits.{answer_bytes};
 ghost use Rattle.definition.specs.Walk.{completed};
 ghost use Rattle.definition.specs.Writer.{group_bytes_of};
+ghost use Rattle.records.specs.Refusals.{number};
 ghost use Rattle.rule.specs.Lookup.{rule_at};
 ghost use Rattle.signature.specs.Index.{signature_at, Indexed};
 ghost use Rattle.plan.specs.Table.{Tabled};
 ghost use Rattle.walk.specs.Tables.{tables, no_rows};
 ghost use Rattle.walk.specs.Ended.{Ended, Ground, Readable};
-ghost use Rattle.flatten.specs.Answers.{Untyped, Writes, answer_of, Demanded, walk_outcome, rule_outcome, number_in};
+ghost use Rattle.flatten.specs.Answers.{Untyped, Writes, outcome_in, answer_of, Demanded, walk_outcome, rule_outcome};
 
 use flags::{Held, NO_HELD};
 use naming::variables::VARIABLES;
 use plan::sources::{unmapped_auxiliary, unmapped_kind};
 use plan::table::{NO_KIND, kind_table};
 use reading::{RuleReading, read_rule_into};
+use records::refusal::Refusal;
 use rule::elements::element_count;
 use rule::ids::{FIELDS, RULE_INDEX, STRUCTURES};
 use signature::ids::{Counts, INDEX};
 use walk::tables::{SORTS, UNREACHED, initial_matching_stmts, no_el_vars};
-use walk::walk::{Walked, first_row, meet_map, stopped, walk_map};
+use walk::walk::{first_row, meet_map, walk_map};
 use writer::output::put_group;
 
 // At most so many bytes of a buffer are used.
@@ -30,23 +31,6 @@ pub const ANSWER: usize = 65535;
 const FEW_STRUCTURES: usize = 4;
 
 const FEW_VARIABLES: usize = FIELDS * FEW_STRUCTURES;
-
-// So many bytes were written, or document 01's number.
-#[derive(Clone, Copy)]
-pub enum Flattened {
-    Written(usize),
-    Refused(u8),
-}
-
-// How many bytes of a buffer are used.
-fn usable(len: usize) -> usize
-    ensures { result ≡ min len answer_bytes }
-{
-    if ANSWER < len {
-        return ANSWER;
-    }
-    len
-}
 
 // The group, measured first, then written where it fits.
 fn write_group(
@@ -59,32 +43,19 @@ fn write_group(
     masks: &[[Held; SORTS]; STRUCTURES],
     vars: &[[u16; FIELDS]; STRUCTURES],
     types: &[u8],
-) -> Flattened
+) -> Result<usize, Refusal>
     requires n_value { n ≡ length (rule_at s.now).structures }
     requires ended { Ended s.now index.now types.now kinds.now (tables sources.now masks.now vars.now) }
     ensures { (e : Ended s.now index.now types.now kinds.now (tables sources.now masks.now vars.now))
         → Writes result out.old out.new
         (fitted (length out.old) (group_bytes_of (group_left (rule_at s.now) e.state))) }
 {
-    let room = usable(out.len());
+    let room = out.len().min(ANSWER);
     // A refusal leaves the buffer as it was, so it comes before the first byte: lent an empty slice, `put_group` only counts.
-    let mut nothing = [0u8; 0];
-    if room
-        < put_group(
-            &mut nothing,
-            s,
-            index,
-            n,
-            kinds,
-            sources,
-            masks,
-            vars,
-            types,
-        )
-    {
-        return Flattened::Refused(31);
+    if room < put_group(&mut [], s, index, n, kinds, sources, masks, vars, types) {
+        return Err(Refusal::NoRoom);
     }
-    Flattened::Written(put_group(out, s, index, n, kinds, sources, masks, vars, types))
+    Ok(put_group(out, s, index, n, kinds, sources, masks, vars, types))
 }
 
 // The walk over all pairs that have a kind, by target, then source; then the group of what it leaves. The variables come by value, none
@@ -100,7 +71,7 @@ fn flatten_morphisms(
     mut vars: [[u16; FIELDS]; STRUCTURES],
     types: &mut [u8],
     out: &mut [u8],
-) -> Flattened
+) -> Result<usize, Refusal>
     requires untyped { Untyped types.old n × (vars ≡ no_rows) }
     requires indexed { Indexed sig.now symbols.now counts × Ground (signature_at sig.now symbols.now counts) s.now index.now }
     requires n_value { (n ≡ length (rule_at s.now).structures) × Tabled kinds.now (completed (rule_at s.now).maps (rule_at s.now).kinds (rule_at
@@ -113,38 +84,26 @@ fn flatten_morphisms(
     masks[0] = initial_matching_stmts();
     vars[0] = first_row(types, s, index);
     let mut next = element_count(index, 0) as u16;
-    let mut target: usize = 0;
-    let mut source: usize = 0;
-    loop {
-        let kind = kinds[source][target];
-        if kind < NO_KIND {
-            let v = meet_map(s, index, source, target, kind, next);
-            let r = walk_map(
-                sig,
-                symbols,
-                counts,
-                s,
-                index,
-                v,
-                vars[source],
-                &mut sources,
-                &mut masks,
-                types,
-            );
-            let end = r.end;
-            let Walked::On = end else {
-                return Flattened::Refused(stopped(end));
-            };
-            let row = r.vars;
-            vars[target] = row;
-            next = r.next;
-        }
-        source += 1;
-        if source == n {
-            source = 0;
-            target += 1;
-            if target == n {
-                break;
+    for target in 0..n {
+        for source in 0..n {
+            let kind = kinds[source][target];
+            if kind < NO_KIND {
+                let v = meet_map(s, index, source, target, kind, next);
+                let m = walk_map(
+                    sig,
+                    symbols,
+                    counts,
+                    s,
+                    index,
+                    v,
+                    vars[source],
+                    &mut sources,
+                    &mut masks,
+                    types,
+                )?;
+                let row = m.vars;
+                vars[target] = row;
+                next = m.next;
             }
         }
     }
@@ -161,17 +120,17 @@ fn flatten_rule(
     n: usize,
     types: &mut [u8],
     out: &mut [u8],
-) -> Flattened
+) -> Result<usize, Refusal>
     requires untyped { Untyped types.old n }
     requires readable { Readable sig.now symbols.now counts s.now index.now n }
     ensures { Writes result out.old out.new
         (rule_outcome (signature_at sig.now symbols.now counts) s.now (length out.old)) }
 {
     if unmapped_auxiliary(s, index) {
-        return Flattened::Refused(21);
+        return Err(Refusal::UnmappedAuxiliary);
     }
     if unmapped_kind(s, index) {
-        return Flattened::Refused(22);
+        return Err(Refusal::UnmappedKind);
     }
     let mut kinds = [[NO_KIND; STRUCTURES]; STRUCTURES];
     kind_table(s, index, &mut kinds);
@@ -189,27 +148,34 @@ fn flatten_rule(
     )
 }
 
-// The number of a refused reading.
-fn number(r: RuleReading) -> u8
-    ensures { result ≡ number_in r }
+// The refusal of a record, by its number.
+fn refusal(n: u8) -> Refusal
+    requires { (1 ≤ n) × (n ≤ 8) }
+    ensures { number result ≡ n }
 {
-    match r {
-        RuleReading::Sound { .. } => 0,
-        RuleReading::Refused(n) => n,
+    match n {
+        1 => Refusal::TooLong,
+        2 => Refusal::BadFields,
+        3 => Refusal::BadLength,
+        4 => Refusal::TooMany,
+        5 => Refusal::Undeclared,
+        6 => Refusal::NotAscending,
+        7 => Refusal::BadArity,
+        _ => Refusal::BadName,
     }
 }
 
-// Flatten: the group at the front of the buffer, whose rest is as it was; or a number, and the buffer as it was.
-pub fn flatten(sig: &[u8], rule: &[u8], out: &mut [u8]) -> Flattened
-    ensures value { result ≡ answer_of (flatten_of sig.now rule.now (length out.old)) }
+// Flatten: the group at the front of the buffer, whose rest is as it was, and its length; or a refusal, and the buffer as it was.
+pub fn flatten(sig: &[u8], rule: &[u8], out: &mut [u8]) -> Result<usize, Refusal>
+    ensures value { outcome_in result ≡ answer_of (flatten_of sig.now rule.now (length out.old)) }
     ensures out_after { out.new ≡ laid_over (flatten_of sig.now rule.now (length out.old)) out.old }
     ensures demanded { Demanded result sig.now rule.now out.new }
 {
     let mut symbols = [0u16; INDEX];
     let mut index = [0u16; RULE_INDEX];
-    let r = read_rule_into(sig, rule, &mut symbols, &mut index);
-    let RuleReading::Sound { counts, structures } = r else {
-        return Flattened::Refused(number(r));
+    let (counts, structures) = match read_rule_into(sig, rule, &mut symbols, &mut index) {
+        RuleReading::Sound { counts, structures } => (counts, structures),
+        RuleReading::Refused(n) => return Err(refusal(n)),
     };
     if structures <= FEW_STRUCTURES {
         let mut types = [0u8; FEW_VARIABLES];

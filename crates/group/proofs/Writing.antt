@@ -3,8 +3,7 @@ use Prim.Native.Nat.{ℕ, suc, ◌+◌, ◌*◌, ◌≤◌, ◌<◌}
 use native.Mathlib.Omega.{arith}
 use mathlib.Core.List.{List, [], ◌∷◌, ◌++◌}
 use mathlib.Core.Path.{◌≡◌}
-use lib.ListN.{length, get_or, take, drop, drop_of_length-le}
-use lib.Seq.{get_or-take, length-take-le}
+use lib.ListN.{length, get_or, drop, drop_of_length-le}
 use Rattle.definition.specs.Group.{Variable, Statement}
 use Rattle.definition.specs.Writer.{two_bytes, number_bytes, variable_field, statement_field, field_bytes}
 use Rattle.laws.proofs.Numbers.{length_numbers_written}
@@ -35,14 +34,6 @@ module _ (vs : List ℕ) (i : ℕ) where
   pub vars_end : length vs ≤ i → vars_from vs i ≡ []
   unfolding vars_from number_bytes
   vars_end h = rw (drop_of_length-le vs h)
-
--- Those of the first `count` variables of a list.
-module _ (vars : List ℕ) {count : ℕ} (h : count ≤ length vars) (i : ℕ) where
-  pub first_on : i < count → vars_from (take count vars) i ≡ two_bytes (get_or vars i 0) ++ vars_from (take count vars) (i + 1)
-  first_on b = let n = length-take-le count vars h in rw (← (get_or-take count vars i 0 b)) (vars_on (take count vars) i (omega arith))
-
-  pub first_end : count ≤ i → vars_from (take count vars) i ≡ []
-  first_end b = let n = length-take-le count vars h in vars_end (take count vars) i (omega arith)
 
 -- A statement: what stands before its variables, then these.
 statement_parts : (letter : ℕ) (x : Statement) {count : ℕ} → length x.variables ≡ count

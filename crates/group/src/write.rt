@@ -1,40 +1,22 @@
-// The fields of a group as bytes: the heads of G, W and U fields, behind which a name follows, and statements whole.
+// The fields of a group as bytes: the head of a W field and its type, behind which the name follows, and statements whole.
 ghost use Rattle.std.specs.Prelude.{◌≡◌, ℕ, ◌+◌, ◌≤◌, ◌<◌, length};
 ghost use Rattle.definition.specs.Group as definition;
-ghost use Rattle.definition.specs.Letters.{letter_g, letter_u};
 ghost use Rattle.definition.specs.Limits.{column_limit};
 ghost use Rattle.definition.specs.Writer.{statement_field, field_bytes};
-ghost use Rattle.records.specs.Buffer.{Put, capped, count_limit, head_bytes};
+ghost use Rattle.records.specs.Buffer.{Put, capped, count_limit};
 ghost use Rattle.group.specs.Written.{said, variable_head, statement_head};
 
-use crate::ids::{BEFORE_VARS, LETTER_G, LETTER_U, LETTER_W, NAME_AT, VARS_AT};
+use crate::ids::{BEFORE_VARS, LETTER_W, NAME_AT, VARS_AT};
 use crate::statement::Statement;
-use records::fields::place;
-use records::write::{past, put_byte, put_field_head, put_num, rest_at};
+use records::write::{past, put_byte, put_field_head, put_num};
 use signature::ids::TypeId;
-
-// The head of a G field: a name of so many bytes follows.
-pub fn put_group_head(out: &mut [u8], from: usize, name: u16) -> usize
-    requires { from ≤ count_limit }
-    ensures { Put out.old out.new (head_bytes letter_g name) from result }
-{
-    put_field_head(out, from, LETTER_G, name)
-}
-
-// The head of a U field, behind which a name follows too.
-pub fn put_rule_head(out: &mut [u8], from: usize, name: u16) -> usize
-    requires { from ≤ count_limit }
-    ensures { Put out.old out.new (head_bytes letter_u name) from result }
-{
-    put_field_head(out, from, LETTER_U, name)
-}
 
 // The head of a W field and the variable's type; a name of so many bytes follows.
 pub fn put_variable_head(out: &mut [u8], from: usize, ty: TypeId, name: u16) -> usize
     requires { (from ≤ count_limit) × (name < 256) }
     ensures { Put out.old out.new (variable_head ty.0 name) from result }
 {
-    let head = put_field_head(out, from, LETTER_W, (NAME_AT + place(name)) as u16);
+    let head = put_field_head(out, from, LETTER_W, NAME_AT as u16 + name);
     put_num(out, head, ty.0)
 }
 
@@ -53,12 +35,9 @@ fn write_statement(out: &mut [u8], letter: u8, x: Statement) -> usize
     requires { x.count ≤ column_limit }
     ensures { Put out.old out.new (field_bytes (statement_field letter (said x))) 0 result }
 {
-    let vars = x.vars;
     let mut at = put_statement_head(out, letter, x.kind, x.symbol, x.count);
-    let mut i: usize = 0;
-    while i < x.count {
-        at = put_num(out, at, vars[i]);
-        i += 1;
+    for v in &x.vars[..x.count] {
+        at = put_num(out, at, *v);
     }
     at
 }
@@ -68,7 +47,7 @@ pub fn put_statement(out: &mut [u8], from: usize, letter: u8, x: Statement) -> u
     requires { (from ≤ count_limit) × (x.count ≤ column_limit) }
     ensures { Put out.old out.new (field_bytes (statement_field letter (said x))) from result }
 {
-    let rest = rest_at(from, out.len());
+    let rest = from.min(out.len());
     let len = write_statement(&mut out[rest..], letter, x);
     past(from, len)
 }

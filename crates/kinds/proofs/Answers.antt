@@ -1,9 +1,10 @@
 -- What the steps answer.
-use Prim.Native.Nat.{ℕ, ◌≤◌, ◌<◌}
+use Prim.Native.Nat.{ℕ, ◌<◌}
 use native.Mathlib.Omega.{arith}
 use mathlib.Core.Bool.{Bool, true, false, not, ◌&&◌}
 use mathlib.Core.List.{List, [], ◌∷◌, ◌++◌, append-nil, append_assoc}
 use mathlib.Core.Option.{some}
+use mathlib.Core.Logic.{◌⊎◌, inl, inr}
 use mathlib.Core.Path.{◌≡◌, sym, ◌∙◌}
 use lib.ListN.{length, get_or, take}
 use lib.Seq.{get_or-take}
@@ -11,7 +12,6 @@ use Rattle.definition.specs.Base.{keep, each, lowest, empty, given}
 use Rattle.definition.specs.Group.{Variable}
 use Rattle.definition.specs.Kinds.{Side, variable_in, kernel_clashes, row_unmapped, new_elements, free_elements, equalities, if_statements, surj_conclusion}
 use Rattle.definition.specs.Letters.{predicate, function}
-use Rattle.definition.specs.Limits.{field_limit}
 use Rattle.definition.specs.Names.{numbers_of}
 use Rattle.definition.specs.Records.{Field}
 use Rattle.definition.specs.Rule as Rule
@@ -41,8 +41,9 @@ use Rattle.rule.specs.Lookup.{no_pair}
 use Rattle.kinds.specs.Added.{RowMasks, source_lacks, AddsRows}
 use Rattle.kinds.specs.Elements.{FreeOf, News}
 use Rattle.kinds.specs.Steps.{from, to, by, Reaches, MasksFor, IfDoes, SurjDoes}
-use Rattle.kinds.specs.declared.step.Step.{Step}
-use Rattle.kinds.specs.declared.step.Step.TheVariants.{Adds, Refused}
+use Rattle.std.specs.Prelude.{Result, Ok, Err}
+use Rattle.records.specs.declared.refusal.Refusal.{Refusal}
+use Rattle.records.specs.declared.refusal.Refusal.TheVariants.{KernelTypesDiffer, NewElement}
 use Rattle.kinds.specs.declared.elements.New.{New}
 use Rattle.kinds.specs.declared.elements.New.TheVariants as new
 use Rattle.kinds.proofs.Masks.{flagged_keep, none_flagged}
@@ -68,16 +69,16 @@ keys_typed {s} {index} {vars} {sourcevars} {size} {m} w g v = record { below = b
 
 -- 25 and 26.
 module _ (sig : Signature) (table : List Variable) {s : List ℕ} {m : Morphism} (sourcevars targetvars : List ℕ) {index : List ℕ} {marks : List Bool} where
-  pub masks_clash : by sig table s m sourcevars targetvars kernel_clashes ≡ true → MasksFor sig table s m sourcevars targetvars index marks (Refused 25)
+  pub masks_clash : by sig table s m sourcevars targetvars kernel_clashes ≡ true → MasksFor sig table s m sourcevars targetvars index marks (Err KernelTypesDiffer)
   unfolding lowest
   masks_clash e = record { is = rw e }
 
-  pub masks_added : (r : Step) → by sig table s m sourcevars targetvars kernel_clashes ≡ false → AddsRows r s index m marks
+  pub masks_added : (r : Result Masks Refusal) → by sig table s m sourcevars targetvars kernel_clashes ≡ false → AddsRows r s index m marks
       → MasksFor sig table s m sourcevars targetvars index marks r
   unfolding lowest source_lacks
-  masks_added (Refused n) e a =
+  masks_added (Err n) e a =
       record { is = rw (e, unmapped_parts sig table (from s m sourcevars) (to s m targetvars) (pairs_by s m), a.is.1, a.is.0) }
-  masks_added (Adds masks) e a =
+  masks_added (Ok masks) e a =
       record { is = (rw (e, unmapped_parts sig table (from s m sourcevars) (to s m targetvars) (pairs_by s m), a.is.0), a.is.1) }
 
 -- Elements without two properties, by their flags.
@@ -106,16 +107,13 @@ module _ {sig : Signature} {s index : List ℕ} {k : ℕ} (w : SoundAt sig s ind
 
 -- A map from a reached structure.
 module _ {s index : List ℕ} {m : Morphism} {targetvars : List ℕ} {first : ℕ} (w : Reaches s index m targetvars first) where
-  pub news_below : {p : ℕ → Bool} {n : New} {i : ℕ} → News n p (numbers_of (target_in s m)) → n ≡ new.One i → i < count_at index m.target
-  news_below f e =
-      let v = rw e at f in let l = v.is.0 in
+  pub news_below : {p : ℕ → Bool} {i : ℕ} → News (new.One i) p (numbers_of (target_in s m)) → i < count_at index m.target
+  news_below f =
+      let l = f.is.0 in
       let a = elements_are w.between.target_at.laid in let b = length_numbers_of (target_in s m) in omega arith
 
   pub count_is : {count : ℕ} → count ≡ count_at index m.target → count ≡ length (numbers_of (target_in s m))
   count_is e = let a = elements_are w.between.target_at.laid in let b = length_numbers_of (target_in s m) in omega arith
-
-  pub count_few : {count : ℕ} → count ≡ count_at index m.target → count ≤ field_limit
-  count_few e = let a = w.between.target_at.laid.elements.elements.few in omega arith
 
   pub below_limit : {i : ℕ} → i < count_at index m.target → i < places
   below_limit l = let a = w.between.target_at.laid.elements.elements.few in omega arith
@@ -123,6 +121,14 @@ module _ {s index : List ℕ} {m : Morphism} {targetvars : List ℕ} {first : �
   pub images_are : {count : ℕ} → count ≡ count_at index m.target → each given (kept_in first count targetvars)
       ≡ each (in_image (pairs_by s m)) (numbers_of (target_in s m))
   images_are e = rw e w.images
+
+  -- What the search for new elements told, of the target's own.
+  abbrev NewsOf : New → Type 0
+  NewsOf n = News n (in_image (pairs_by s m)) (numbers_of (target_in s m))
+
+  pub news_are : {n : New} {count : ℕ} → count ≡ count_at index m.target
+      → ((p : ℕ → Bool) (els : List ℕ) → count ≡ length els → each given (kept_in first count targetvars) ≡ each p els → News n p els) → NewsOf n
+  news_are e h = h _ _ (count_is e) (images_are e)
 
   module _ (sig : Signature) (table : List Variable) (sourcevars : List ℕ) where
     abbrev source_side : Side
@@ -141,38 +147,31 @@ module _ {s index : List ℕ} {m : Morphism} {targetvars : List ℕ} {first : �
     later false true d e = e
     later false false d e = let z : ◌≡◌ {A = ℕ} 0 1 = cc in absurd (omega arith)
 
-    pub surj_refused : {marks : List Bool} {r : Step} {n : ℕ} → MasksFor sig table s m sourcevars targetvars index marks r → r ≡ Refused n
-        → SurjDoes sig table s m sourcevars targetvars r
+    pub surj_refused : {marks : List Bool} {r : Refusal} → MasksFor sig table s m sourcevars targetvars index marks (Err r)
+        → SurjDoes sig table s m sourcevars targetvars (Err r)
     unfolding step_fault
-    surj_refused a e = let v = rw e at a in rw e (record { is = later _ _ _ v.is })
+    surj_refused a = record { is = later _ _ _ a.is }
 
-    module _ {marks : List Bool} {r : Step} {masks : Masks} (a : MasksFor sig table s m sourcevars targetvars index marks r) (e : r ≡ Adds masks) where
+    module _ {marks : List Bool} {masks : Masks} (a : MasksFor sig table s m sourcevars targetvars index marks (Ok masks)) where
       adds : RowMasks masks s index m marks
-      adds = let v = rw e at a in v.is.1
+      adds = a.is.1
 
       asked : (kernel_clashes table source_side target_side (pairs_by s m) ≡ false) × (row_unmapped source_side (pairs_by s m) ≡ false)
-      asked = let v = rw e at a in let x = lowest_none 25 _ _ v.is.0 in (x.0, (lowest_none 26 _ _ x.1).0)
+      asked = let x = lowest_none 25 _ _ a.is.0 in (x.0, (lowest_none 26 _ _ x.1).0)
 
-      surj_new : not (empty fresh) ≡ true → SurjDoes sig table s m sourcevars targetvars (Refused 27)
+      surj_new : not (empty fresh) ≡ true → SurjDoes sig table s m sourcevars targetvars (Err NewElement)
       unfolding step_fault lowest
       surj_new q = record { is = rw (asked.0, asked.1, q) }
 
-      pub surj_one : {i : ℕ} {n : New} → News n (in_image (pairs_by s m)) (numbers_of (target_in s m)) → n ≡ new.One i
-          → SurjDoes sig table s m sourcevars targetvars (Refused 27)
+      pub surj_news : {n : New} → NewsOf n → ((i : ℕ) × (n ≡ new.One i)) ⊎ (n ≡ new.More) → SurjDoes sig table s m sourcevars targetvars (Err NewElement)
       unfolding new_elements
-      surj_one f q = let v = rw q at f in surj_new (rw v.is.1)
+      surj_news f (inl (i, e)) = let v = rw e at f in surj_new (rw v.is.1)
+      surj_news f (inr e) = let v = rw e at f in surj_new (rw v.is.same)
 
-      pub surj_more : {n : New} → News n (in_image (pairs_by s m)) (numbers_of (target_in s m)) → n ≡ new.More
-          → SurjDoes sig table s m sourcevars targetvars (Refused 27)
-      unfolding new_elements
-      surj_more f q = let v = rw q at f in surj_new (rw v.is.same)
-
-      pub surj_adds : {n : New} → News n (in_image (pairs_by s m)) (numbers_of (target_in s m)) → n ≡ new.Nothing → ((i : ℕ)
-          → i < count_at index m.target → get_or marks i false ≡ false)
-          → SurjDoes sig table s m sourcevars targetvars (Adds masks)
+      pub surj_adds : NewsOf new.Nothing → ((i : ℕ) → i < count_at index m.target → get_or marks i false ≡ false)
+          → SurjDoes sig table s m sourcevars targetvars (Ok masks)
       unfolding step_fault lowest new_elements surj_conclusion said_by type_sets keep each
-      surj_adds f q bare =
-          let v = rw q at f in
+      surj_adds v bare =
           let x = adds in
           let parts = added_parts sig table source_side target_side (pairs_by s m)
           (kinds_sound w.between.source_at.sound) (kinds_sound w.between.target_at.sound) in
@@ -185,12 +184,12 @@ module _ {s index : List ℕ} {m : Morphism} {targetvars : List ℕ} {first : �
           }
 
     -- If and Noop.
-    pub if_refused : {marks : List Bool} {r : Step} {n : ℕ} → MasksFor sig table s m sourcevars targetvars index marks r → r ≡ Refused n
-        → IfDoes sig table s m sourcevars targetvars If r × IfDoes sig table s m sourcevars targetvars Noop r
+    pub if_refused : {marks : List Bool} {r : Refusal} → MasksFor sig table s m sourcevars targetvars index marks (Err r)
+        → IfDoes sig table s m sourcevars targetvars If (Err r) × IfDoes sig table s m sourcevars targetvars Noop (Err r)
     unfolding step_fault
-    if_refused a e = let v = rw e at a in rw e (record { is = v.is }, record { is = v.is })
+    if_refused a = (record { is = a.is }, record { is = a.is })
 
-    module _ {marks : List Bool} {r : Step} {masks : Masks} (a : MasksFor sig table s m sourcevars targetvars index marks r) (e : r ≡ Adds masks) {free : Mask}
+    module _ {marks : List Bool} {masks : Masks} (a : MasksFor sig table s m sourcevars targetvars index marks (Ok masks)) {free : Mask}
         (c : take (count_at index m.target) marks ≡ each (constrained sig (target_in s m)) (numbers_of (target_in s m)))
         (f : FreeOf free (in_image (pairs_by s m)) (constrained sig (target_in s m)) (numbers_of (target_in s m))) where
       abbrev all_masks : Masks
@@ -200,13 +199,13 @@ module _ {s index : List ℕ} {m : Morphism} {targetvars : List ℕ} {first : �
           ≡ equalities table source_side target_side (pairs_by s m) ++ said_by (target_in s m) (variables_in (target_in s m) targetvars) all_masks
       unfolding if_statements said_by free_elements
       if_said =
-          let x = adds a e in
+          let x = adds a in
           let parts = free_parts sig table source_side target_side (pairs_by s m)
           (kinds_sound w.between.source_at.sound) (kinds_sound w.between.target_at.sound) in
           let mem = members_free w.between.target_at.laid masks.members (pairs_by s m) (member_rows (source_in s m).elements) marks x.members sig c in
           let els = free_flagged (target_in s m) free (in_image (pairs_by s m)) (constrained sig (target_in s m)) f in
           rw (parts, x.preds, x.funcs, mem, els, append_assoc)
 
-      pub if_adds : IfDoes sig table s m sourcevars targetvars If (Adds all_masks) × IfDoes sig table s m sourcevars targetvars Noop (Adds all_masks)
+      pub if_adds : IfDoes sig table s m sourcevars targetvars If (Ok all_masks) × IfDoes sig table s m sourcevars targetvars Noop (Ok all_masks)
       unfolding step_fault
-      if_adds = let v = rw e at a in (record { is = (v.is.0, if_said) }, record { is = (v.is.0, if_said) })
+      if_adds = (record { is = (a.is.0, if_said) }, record { is = (a.is.0, if_said) })

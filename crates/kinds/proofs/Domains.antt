@@ -30,15 +30,14 @@ use Rattle.rule.specs.Structures.{structure_in, SoundAt}
 use Rattle.rule.specs.Rows.{row_from}
 use Rattle.laws.specs.Steps.{row_fault, new_fault, step_fault, row_for, own, conclusions}
 use Rattle.rule.specs.Lists.{els_in}
-use Rattle.rule.specs.declared.rows.Row.{Row}
 use Rattle.kinds.specs.Elements.{Two, News}
 use Rattle.kinds.specs.Steps.{to, NonSurjDoes}
 use Rattle.kinds.specs.Yielding.{ResultRows, no_row, Yields}
-use Rattle.kinds.specs.declared.step.Step.TheVariants.{Adds, Refused}
+use Rattle.std.specs.Prelude.{Option, Some, None, Ok, Err}
+use Rattle.records.specs.declared.refusal.Refusal.TheVariants.{NewElements, NotYielded, UnmappedArgument}
 use Rattle.kinds.specs.declared.elements.New.{New}
 use Rattle.kinds.specs.declared.elements.New.TheVariants as new
 use Rattle.kinds.specs.declared.yielding.Yielding.{Yielding}
-use Rattle.kinds.specs.declared.yielding.Yielding.TheVariants as yielding
 use Rattle.kinds.proofs.Masks.{none_flagged, one_flagged}
 use Rattle.kinds.proofs.New.{func_run, func_rows_lem}
 use Rattle.rule.specs.Layout.{place_a, section_from, section_to}
@@ -54,7 +53,7 @@ module _ {sig : Signature} {s index : List ℕ} {k : ℕ} (w : SoundAt sig s ind
   pub result_rows : {a b : ℕ} → a ≡ section_from index k place_a → b ≡ section_to index k place_a → ResultRows s a b
   result_rows x y = rw (x, y) (record { rows = func_rows_lem w; some = some_result })
 
-  pub yields_rows : {a b e : ℕ} {y : Yielding} → a ≡ section_from index k place_a → b ≡ section_to index k place_a
+  pub yields_rows : {a b e : ℕ} {y : Option Yielding} → a ≡ section_from index k place_a → b ≡ section_to index k place_a
       → ((kind : ℕ) (fs : List Field) → Run s a b fs → Yields y s kind e (each (row_of kind) fs)) → Yields y s function e (structure_in s k).func_rows
   yields_rows x y h = rw w.funcs_are (h function w.func_fields (rw (x, y) (func_run w)))
 
@@ -69,13 +68,12 @@ module _ {sig : Signature} {s index : List ℕ} {k : ℕ} (w : SoundAt sig s ind
   images_flagged p images row first e f h = (rw e at f) ∙ h ∙ rw (numbers_are w.laid)
 
 -- The arguments of the row that was found are elements.
-pub arguments_named : {s : List ℕ} {row : Row} {arguments : List ℕ} {sig : Signature} {index : List ℕ} {k place e : ℕ} {y : Yielding}
-    → arguments ≡ but_last (els_in s row.els) → SoundAt sig s index k → Yields y s function e (structure_in s k).func_rows → y ≡ yielding.At place row
+pub arguments_named : {s : List ℕ} {arguments : List ℕ} {sig : Signature} {index : List ℕ} {k e : ℕ} {y : Yielding}
+    → arguments ≡ but_last (els_in s y.row.els) → SoundAt sig s index k → Yields (Some y) s function e (structure_in s k).func_rows
     → (d : ℕ) → d ∈ arguments → d ∈ element_numbers s index k
-arguments_named {s} {row} {k = k} {place} a w q e d m =
-    let v = rw e at q in
-    let r : row_from s function row ∈ (structure_in s k).func_rows = rw v.is.1 at (mem_at (structure_in s k).func_rows place no_row v.is.0) in
-    let n = (w.sound.funcs_sound _ r).2.elements_in d (but_last_mem (els_in s row.els) (rw a at m)) in
+arguments_named {s} {k = k} {y = y} a w q d m =
+    let r : row_from s function y.row ∈ (structure_in s k).func_rows = rw q.is.1 at (mem_at (structure_in s k).func_rows y.place no_row q.is.0) in
+    let n = (w.sound.funcs_sound _ r).2.elements_in d (but_last_mem (els_in s y.row.els) (rw a at m)) in
     rw (numbers_are w.laid) at n
 
 -- No member has a flag in nothing.
@@ -94,72 +92,73 @@ module _ (sig : Signature) (table : List Variable) (s : List ℕ) (m : Morphism)
       (λ r. no_flag (place_from 0 (last_element r) (numbers_of (target_in s m))))
 
   -- By what the search for new elements told.
-  module _ {n : New} (w : News n (in_image (pairs_by s m)) (numbers_of (target_in s m))) where
-    none_new : n ≡ new.Nothing → fresh ≡ []
-    unfolding new_elements
-    none_new e = let v = rw e at w in v.is
+  abbrev NewsOf : New → Type 0
+  NewsOf n = News n (in_image (pairs_by s m)) (numbers_of (target_in s m))
 
-    pub one_new : {i : ℕ} → n ≡ new.One i → fresh ≡ get_or (numbers_of (target_in s m)) i 0 ∷ []
-    unfolding new_elements
-    one_new e = let v = rw e at w in v.is.1
+  none_new : NewsOf new.Nothing → fresh ≡ []
+  unfolding new_elements
+  none_new w = w.is
 
-    two_new : n ≡ new.More → Two fresh
-    unfolding new_elements
-    two_new e = let v = rw e at w in v.is
+  pub one_new : {i : ℕ} → NewsOf (new.One i) → fresh ≡ get_or (numbers_of (target_in s m)) i 0 ∷ []
+  unfolding new_elements
+  one_new w = w.is.1
 
-    pub nothing_new : n ≡ new.Nothing
-        → NonSurjDoes sig table s m sourcevars targetvars (Adds (record { preds = no_flags; funcs = no_flags; members = no_flags; free = no_flags }))
-    unfolding step_fault new_fault own conclusions row_for said_by type_sets keep each
-    nothing_new q =
-        let e = none_new q in
-        record {
-          is = (
-            rw e,
-            (
-              rw (
-                e,
-                none_flagged (target_in s m).pred_rows,
-                none_flagged (target_in s m).func_rows,
-                none_flagged (target_in s m
-                    ).elements,
-                no_flags_lem,
-              ),
-              rw (e, no_flags_none),
+  two_new : NewsOf new.More → Two fresh
+  unfolding new_elements
+  two_new w = w.is
+
+  pub nothing_new : NewsOf new.Nothing
+      → NonSurjDoes sig table s m sourcevars targetvars (Ok (record { preds = no_flags; funcs = no_flags; members = no_flags; free = no_flags }))
+  unfolding step_fault new_fault own conclusions row_for said_by type_sets keep each
+  nothing_new q =
+      let e = none_new q in
+      record {
+        is = (
+          rw e,
+          (
+            rw (
+              e,
+              none_flagged (target_in s m).pred_rows,
+              none_flagged (target_in s m).func_rows,
+              none_flagged (target_in s m
+                  ).elements,
+              no_flags_lem,
             ),
-          );
-        }
+            rw (e, no_flags_none),
+          ),
+        );
+      }
 
-    pub more_new : n ≡ new.More → NonSurjDoes sig table s m sourcevars targetvars (Refused 28)
-    unfolding step_fault new_fault
-    more_new q = record { is = rw (two_new q).same }
+  pub more_new : NewsOf new.More → NonSurjDoes sig table s m sourcevars targetvars (Err NewElements)
+  unfolding step_fault new_fault
+  more_new q = record { is = rw (two_new q).same }
 
-  module _ {e : ℕ} (one : fresh ≡ e ∷ []) {y : Yielding} (q : Yields y s function e (target_in s m).func_rows) where
-    pub no_row_lem : y ≡ yielding.Nothing → NonSurjDoes sig table s m sourcevars targetvars (Refused 29)
+  module _ {e : ℕ} (one : fresh ≡ e ∷ []) where
+    pub no_row_lem : Yields None s function e (target_in s m).func_rows → NonSurjDoes sig table s m sourcevars targetvars (Err NotYielded)
     unfolding step_fault new_fault row_fault yielding_row
-    no_row_lem f = let v = rw f at q in record { is = rw (one, v.is) }
+    no_row_lem q = record { is = rw (one, q.is) }
 
-    module _ {place : ℕ} {row : Row} (f : y ≡ yielding.At place row) (few : place < places) {arguments : List ℕ}
-        (a : arguments ≡ but_last (els_in s row.els)) {r : Bool} (t : r ≡ all (in_image (pairs_by s m)) (arguments)) where
-      inside : all (in_image (pairs_by s m)) (but_last (els_in s row.els)) ≡ r
+    module _ {y : Yielding} (q : Yields (Some y) s function e (target_in s m).func_rows) (few : y.place < places) {arguments : List ℕ}
+        (a : arguments ≡ but_last (els_in s y.row.els)) {r : Bool} (t : r ≡ all (in_image (pairs_by s m)) (arguments)) where
+      inside : all (in_image (pairs_by s m)) (but_last (els_in s y.row.els)) ≡ r
       inside = sym (t ∙ ap (all (in_image (pairs_by s m))) a)
 
-      pub outside : r ≡ false → NonSurjDoes sig table s m sourcevars targetvars (Refused 30)
+      pub outside : r ≡ false → NonSurjDoes sig table s m sourcevars targetvars (Err UnmappedArgument)
       unfolding step_fault new_fault row_fault yielding_row
-      outside b = let v = rw f at q in record { is = rw (one, v.is.2, inside, b) }
+      outside b = record { is = rw (one, q.is.2, inside, b) }
 
       pub yielded : r ≡ true
-          → NonSurjDoes sig table s m sourcevars targetvars (Adds (record { preds = no_flags; funcs = only_flag place; members = no_flags; free = no_flags }))
+          → NonSurjDoes sig table s m sourcevars targetvars (Ok (record { preds = no_flags; funcs = only_flag y.place; members = no_flags; free = no_flags }))
       unfolding step_fault new_fault row_fault own conclusions row_for yielding_row domain_statement said_by domains_by type_sets keep each
       yielded b =
-          let v = rw f at q in
-          let only : flagged (only_flag place) (target_in s m).func_rows ≡ row_from s function row ∷ [] =
-          one_flagged no_row place few (target_in s m).func_rows v.is.0 ∙ rw v.is.1 in
+          let only : flagged (only_flag y.place) (target_in s m).func_rows ≡ row_from s function y.row ∷ [] =
+          one_flagged no_row y.place few (target_in s m).func_rows q.is.0 ∙ rw q.is.1 in
           record {
             is = (
-              rw (one, v.is.2, inside, b),
+              rw (one, q.is.2, inside, b),
               (
-                rw (one, v.is.2, none_flagged (target_in s m).pred_rows, only, none_flagged (target_in s m).elements, no_flags_lem),
-                rw (one, v.is.2, one_some place few, only),
+                rw (one, q.is.2, none_flagged (target_in s m).pred_rows, only, none_flagged (target_in s m).elements, no_flags_lem),
+                rw (one, q.is.2, one_some y.place few, only),
               ),
             );
           }

@@ -3,22 +3,22 @@ use Prim.Native.Nat.{ℕ, ◌+◌, ◌≤◌, ◌<◌}
 use native.Mathlib.Omega.{arith}
 use mathlib.Core.Bool.{Bool, true, false, not, ◌&&◌}
 use mathlib.Core.List.{List, [], ◌∷◌, ◌++◌, append-nil}
-use mathlib.Core.Logic.{◌⊎◌, inl, inr}
 use mathlib.Core.Option.{none}
 use mathlib.Core.Path.{◌≡◌, refl, sym, ◌∙◌, ap}
 use borrow.Author.Tests.{lt-ltb, le-ltb}
 use lib.ListN.{length, get_or, take, drop, take-append-drop}
-use lib.Seq.{get_or-take, take_all}
+use lib.Seq.{get_or-take, length-take-le}
 use Rattle.definition.specs.Base.{cons_if, keep, each, given}
 use Rattle.laws.proofs.Lists.{length_each, get_d_each}
 use Rattle.records.proofs.Lists.{keep_append}
 use Rattle.rows.proofs.Kept.{flag_at_lem}
 use Rattle.flags.specs.declared.Mask.{Mask}
-use Rattle.flags.specs.Flags.{places, flag_at, no_flags, with_flag, FlagsOf}
-use Rattle.flags.proofs.Words.{flags_start, flags_set, flags_clear}
+use Rattle.flags.specs.Flags.{places, flag_at, with_flag, FlagsOf}
+use Rattle.flags.proofs.Words.{flags_set, flags_clear}
 use Rattle.naming.specs.Variables.{kept_by, kept_in}
 use Rattle.records.proofs.Parts.{take_more}
 use Rattle.kinds.specs.Elements.{FreeOf, Two, News}
+use Rattle.kinds.specs.declared.elements.New.{New}
 use Rattle.kinds.specs.declared.elements.New.TheVariants as new
 
 -- What a numbered row tells of an element.
@@ -43,18 +43,15 @@ module _ (p : ℕ → Bool) (els row : List ℕ) (first : ℕ) {count : ℕ} (n 
 pub record Freed (mask : Mask) (first : ℕ) (row : List ℕ) (marks : List Bool) (count : ℕ) : Type 0 where
   pub flags : FlagsOf mask (λ (i : ℕ). not (given (kept_by first (get_or row i 0))) && not (get_or marks i false)) count
 
-pub free_start : (first : ℕ) (row : List ℕ) (marks : List Bool) → Freed no_flags first row marks 0
-free_start first row marks = record { flags = flags_start _ }
-
 module _ {mask : Mask} {first : ℕ} {row : List ℕ} {marks : List Bool} {i : ℕ} (w : Freed mask first row marks i) (few : i < places) where
   pub free_old : get_or row i 0 < first → Freed mask first row marks (i + 1)
   free_old l = record { flags = flags_clear w.flags few (rw (lt-ltb _ _ l)) }
 
   module _ (l : first ≤ get_or row i 0) where
-    pub free_marked : not (get_or marks i false) ≡ false → Freed mask first row marks (i + 1)
+    pub free_marked : get_or marks i false ≡ true → Freed mask first row marks (i + 1)
     free_marked e = record { flags = flags_clear w.flags few (rw (le-ltb _ _ l, e)) }
 
-    pub free_new : not (get_or marks i false) ≡ true → Freed (with_flag mask i) first row marks (i + 1)
+    pub free_new : get_or marks i false ≡ false → Freed (with_flag mask i) first row marks (i + 1)
     free_new e = record { flags = flags_set w.flags few (rw (le-ltb _ _ l, e)) }
 
 pub free_are : {row : List ℕ} {marks : List Bool} {first count : ℕ} {mask : Mask} → Freed mask first row marks count → (p q : ℕ → Bool) (els : List ℕ)
@@ -68,68 +65,54 @@ free_are {row} {marks} {first} {count} {mask} w p q els n e f = record { at = at
         let y : get_or marks i false ≡ q (get_or els i 0) = flag_at_lem q els marks (rw (← n) f) i 0 h in
         w.flags.same i b ∙ rw (kept_at p els row first n e i b, y)
 
--- The search for new elements: none so far, or one.
+-- The search for new elements, up to a place.
 abbrev fresh : (ℕ → Bool) → List ℕ → List ℕ
 fresh p = keep (λ (e : ℕ). not (p e))
 
-pub record Finding (p : ℕ → Bool) (els : List ℕ) (count found i : ℕ) : Type 0 where
-  pub few : i ≤ count
-  pub is : ((found ≡ count) × (fresh p (take i els) ≡ [])) ⊎ ((found < i) × (fresh p (take i els) ≡ get_or els found 0 ∷ []))
-
-pub find_start : (p : ℕ → Bool) (els : List ℕ) {count : ℕ} → Finding p els count count 0
+fresh_on : (p : ℕ → Bool) (els : List ℕ) {i : ℕ} → i < length els
+    → fresh p (take (i + 1) els) ≡ fresh p (take i els) ++ cons_if (not (p (get_or els i 0))) (get_or els i 0) []
 unfolding keep
-find_start p els = record { few = omega arith; is = inl (refl, refl) }
+fresh_on p els {i} h = rw (take_more els i 0 h, keep_append (λ (e : ℕ). not (p e)) (take i els) (get_or els i 0 ∷ []))
 
-module _ {p : ℕ → Bool} {els : List ℕ} {count found i : ℕ} (n : count ≡ length els) (w : Finding p els count found i) where
-  one_more : i < count → fresh p (take (i + 1) els) ≡ fresh p (take i els) ++ cons_if (not (p (get_or els i 0))) (get_or els i 0) []
-  unfolding keep
-  one_more h = rw (take_more els i 0 (rw (← n) h), keep_append (λ (e : ℕ). not (p e)) (take i els) (get_or els i 0 ∷ []))
+pub find_start : (p : ℕ → Bool) (els : List ℕ) → News new.Nothing p (take 0 els)
+unfolding keep
+find_start p els = record { is = refl }
 
-  pub find_miss : i < count → p (get_or els i 0) ≡ true → Finding p els count found (i + 1)
-  find_miss h e = record { few = omega arith; is = go w.is }
+module _ (p : ℕ → Bool) (els : List ℕ) {i : ℕ} (h : i < length els) where
+  at_place : {j : ℕ} → j < length (take i els) → (j < length (take (i + 1) els)) × (get_or (take (i + 1) els) j 0 ≡ get_or (take i els) j 0)
+  at_place {j} l =
+      let a = length-take-le i els (omega arith) in let b = length-take-le (i + 1) els (omega arith) in
+      (omega arith, get_or-take (i + 1) els j 0 (omega arith) ∙ sym (get_or-take i els j 0 (omega arith)))
+
+  pub find_miss : (n : New) → p (get_or els i 0) ≡ true → News n p (take i els) → News n p (take (i + 1) els)
+  find_miss n e w = go n w
     where
       same : fresh p (take (i + 1) els) ≡ fresh p (take i els)
-      same = one_more h ∙ rw (e, append-nil (fresh p (take i els)))
+      same = fresh_on p els h ∙ rw (e, append-nil (fresh p (take i els)))
 
-      go : ((found ≡ count) × (fresh p (take i els) ≡ [])) ⊎ ((found < i) × (fresh p (take i els) ≡ get_or els found 0 ∷ []))
-          → ((found ≡ count) × (fresh p (take (i + 1) els) ≡ [])) ⊎ ((found < i + 1) × (fresh p (take (i + 1) els) ≡ get_or els found 0 ∷ []))
-      go (inl a) = inl (a.0, same ∙ a.1)
-      go (inr a) = inr (omega (arith, a.0), same ∙ a.1)
+      go : (n : New) → News n p (take i els) → News n p (take (i + 1) els)
+      go new.Nothing w = record { is = same ∙ w.is }
+      go (new.One j) w = let a = at_place w.is.0 in record { is = (a.0, same ∙ rw a.1 w.is.1) }
+      go new.More w = let t = w.is in record { is = record { one = t.one; other = t.other; rest = t.rest; same = same ∙ t.same } }
 
-  pub find_hit : i < count → p (get_or els i 0) ≡ false → count ≤ found → Finding p els count i (i + 1)
-  find_hit h e l = record { few = omega arith; is = inr (omega arith, go w.is) }
-    where
-      go : ((found ≡ count) × (fresh p (take i els) ≡ [])) ⊎ ((found < i) × (fresh p (take i els) ≡ get_or els found 0 ∷ []))
-          → fresh p (take (i + 1) els) ≡ get_or els i 0 ∷ []
-      go (inl a) = one_more h ∙ rw (e, a.1)
-      go (inr a) = absurd (omega (arith, a.0))
+  module _ (e : p (get_or els i 0) ≡ false) where
+    pub find_hit : News new.Nothing p (take i els) → News (new.One i) p (take (i + 1) els)
+    find_hit w =
+        let a = length-take-le (i + 1) els (omega arith) in
+        record { is = (omega arith, fresh_on p els h ∙ rw (e, w.is, get_or-take (i + 1) els i 0 (omega arith))) }
 
-  pub find_more : i < count → p (get_or els i 0) ≡ false → found < count → News new.More p els
-  find_more h e l = record { is = go w.is }
-    where
-      go : ((found ≡ count) × (fresh p (take i els) ≡ [])) ⊎ ((found < i) × (fresh p (take i els) ≡ get_or els found 0 ∷ [])) → Two (fresh p els)
-      go (inl a) = absurd (omega (arith, a.0))
-      go (inr a) =
-          let b : fresh p (take (i + 1) els) ≡ get_or els found 0 ∷ get_or els i 0 ∷ [] = one_more h ∙ rw (e, a.1) in
-          let c : fresh p (take (i + 1) els ++ drop (i + 1) els) ≡ fresh p (take (i + 1) els) ++ fresh p (drop (i + 1) els) =
-          keep_append (λ (x : ℕ). not (p x)) (take (i + 1) els) (drop (i + 1) els) in
-          let d : take (i + 1) els ++ drop (i + 1) els ≡ els = take-append-drop (i + 1) els in
-          record { one = get_or els found 0; other = get_or els i 0; rest = fresh p (drop (i + 1) els); same = ap (fresh p) (sym d) ∙ c ∙ rw b }
+    pub find_more : (n : New) → (n ≡ new.Nothing → ⊥) → News n p (take i els) → News new.More p els
+    find_more n d w = record { is = go n d w }
+      where
+        whole : (k : ℕ) → fresh p els ≡ fresh p (take k els) ++ fresh p (drop k els)
+        whole k = ap (fresh p) (sym (take-append-drop k els)) ∙ keep_append (λ (x : ℕ). not (p x)) (take k els) (drop k els)
 
-  whole : count ≤ i → take i els ≡ els
-  whole h = take_all i els (omega arith)
-
-  pub find_one : count ≤ i → found < count → News (new.One found) p els
-  find_one h l = record { is = go w.is }
-    where
-      go : ((found ≡ count) × (fresh p (take i els) ≡ [])) ⊎ ((found < i) × (fresh p (take i els) ≡ get_or els found 0 ∷ []))
-          → (found < length els) × (fresh p els ≡ get_or els found 0 ∷ [])
-      go (inl a) = absurd (omega (arith, a.0))
-      go (inr a) = (omega arith, rw (whole h) at a.1)
-
-  pub find_none : count ≤ i → count ≤ found → News new.Nothing p els
-  find_none h l = record { is = go w.is }
-    where
-      go : ((found ≡ count) × (fresh p (take i els) ≡ [])) ⊎ ((found < i) × (fresh p (take i els) ≡ get_or els found 0 ∷ [])) → fresh p els ≡ []
-      go (inl a) = rw (whole h) at a.1
-      go (inr a) = let f = w.few in absurd (omega (arith, a.0))
+        go : (n : New) → (n ≡ new.Nothing → ⊥) → News n p (take i els) → Two (fresh p els)
+        go new.Nothing d w = absurd (d refl)
+        go (new.One j) d w = record {
+          one = get_or (take i els) j 0;
+          other = get_or els i 0;
+          rest = fresh p (drop (i + 1) els);
+          same = whole (i + 1) ∙ rw (fresh_on p els h, e, w.is.1);
+        }
+        go new.More d w = let t = w.is in record { one = t.one; other = t.other; rest = t.rest ++ fresh p (drop i els); same = whole i ∙ rw t.same }

@@ -1,4 +1,4 @@
-// The rows and members of a map's target that are no images of the source's: a flag for each, or that a row of the source has an
+// The rows and members of a map's target that are no images of the source's: a flag for each, or 26 where a row of the source has an
 // element without an image.
 ghost use Rattle.std.specs.Prelude.{List, ℕ, ◌≤◌};
 ghost use Rattle.definition.specs.Base.{each};
@@ -11,26 +11,26 @@ ghost use Rattle.rows.specs.Morphisms.{pairs_by, Between};
 ghost use Rattle.kinds.specs.Added.{SectionRun, SectionRows, NewRows, NewMembers, AddsRows};
 ghost use Rattle.rule.specs.Layout.{place_e, place_i};
 
-use crate::step::Step;
 use flags::{Mask, NO_FLAGS, PLACES, packed_less};
+use records::refusal::Refusal;
 use rows::members::{has_members, mapped_members, new_members};
 use rows::morphism::Morphism;
-use rows::table::{Images, ROWS, TABLE, mapped_rel_apps, new_rows};
+use rows::table::{ROWS, TABLE, mapped_rel_apps, new_rows};
 use rule::elements::element_count;
 use rule::ids::{PLACE_A, PLACE_R, RULE_INDEX};
 use rule::maps::Map;
 use rule::sections::section_of;
 use statements::masks::Masks;
 
-// The flags of what is new, or that an element of a row has no image.
-#[derive(Clone, Copy)]
-pub enum Flagged {
-    Of(Mask),
-    Unmapped,
-}
-
 // Which rows from `start` to `stop` are no images of those from `from` to `end`.
-fn new_between(s: &[u8], from: usize, end: usize, m: Map, start: usize, stop: usize) -> Flagged
+fn new_between(
+    s: &[u8],
+    from: usize,
+    end: usize,
+    m: Map,
+    start: usize,
+    stop: usize,
+) -> Result<Mask, Refusal>
     requires map_in { MapIn s.now m }
     requires rows_from { RowsFrom s.now from end }
     requires rows_from_2 { RowsFrom s.now start stop }
@@ -40,15 +40,17 @@ fn new_between(s: &[u8], from: usize, end: usize, m: Map, start: usize, stop: us
 {
     let mut symbols = [0u16; ROWS];
     let mut els = [0u16; TABLE];
-    let mapped = mapped_rel_apps(s, from, end, m, &mut symbols, &mut els);
-    let Images::Count(images) = mapped else {
-        return Flagged::Unmapped;
-    };
-    Flagged::Of(new_rows(s, start, stop, &symbols, &els, images))
+    let images = mapped_rel_apps(s, from, end, m, &mut symbols, &mut els)?;
+    Ok(new_rows(s, start, stop, &symbols, &els, images))
 }
 
 // Which R or A rows of the target are new. Small rules often have none on either side: then no tables are cleared for them.
-fn new_section(s: &[u8], index: &[u16; RULE_INDEX], m: Morphism, place: usize) -> Flagged
+fn new_section(
+    s: &[u8],
+    index: &[u16; RULE_INDEX],
+    m: Morphism,
+    place: usize,
+) -> Result<Mask, Refusal>
     requires between { Between s.now index.now m × ((place_e ≤ place) × (place ≤ place_i)) }
     requires section_rows { SectionRows s.now index.now m.source place }
     requires section_rows_2 { SectionRows s.now index.now m.target place }
@@ -59,55 +61,46 @@ fn new_section(s: &[u8], index: &[u16; RULE_INDEX], m: Morphism, place: usize) -
 {
     let old = section_of(index, m.source, place);
     let new = section_of(index, m.target, place);
-    if old.from == old.to {
-        if new.from == new.to {
-            return Flagged::Of(NO_FLAGS);
-        }
+    if old.from == old.to && new.from == new.to {
+        return Ok(NO_FLAGS);
     }
     new_between(s, old.from, old.to, m.map, new.from, new.to)
 }
 
 // Which elements of the target have a new member row and no mark. Here too no tables are cleared where there are none on either side.
-fn new_unmarked(s: &[u8], index: &[u16; RULE_INDEX], m: Morphism, marks: [bool; PLACES]) -> Flagged
+fn new_unmarked(
+    s: &[u8],
+    index: &[u16; RULE_INDEX],
+    m: Morphism,
+    marks: [bool; PLACES],
+) -> Result<Mask, Refusal>
     requires { Between s.now index.now m }
     ensures { NewMembers result s.now index.now m marks }
 {
-    if !has_members(s, index, m.source) {
-        if !has_members(s, index, m.target) {
-            return Flagged::Of(NO_FLAGS);
-        }
+    if !has_members(s, index, m.source) && !has_members(s, index, m.target) {
+        return Ok(NO_FLAGS);
     }
     let mut symbols = [0u16; ROWS];
     let mut els = [0u16; TABLE];
-    let mapped = mapped_members(s, index, m.source, m.map, &mut symbols, &mut els);
-    let Images::Count(images) = mapped else {
-        return Flagged::Unmapped;
-    };
+    let images = mapped_members(s, index, m.source, m.map, &mut symbols, &mut els)?;
     let new = new_members(s, index, m.target, &symbols, &els, images);
-    Flagged::Of(packed_less(new, marks, element_count(index, m.target)))
+    Ok(packed_less(new, marks, element_count(index, m.target)))
 }
 
 // 26, else the flags of the new rows, with the members that have no mark.
-pub fn added_rows(s: &[u8], index: &[u16; RULE_INDEX], m: Morphism, marks: [bool; PLACES]) -> Step
+pub fn added_rows(
+    s: &[u8],
+    index: &[u16; RULE_INDEX],
+    m: Morphism,
+    marks: [bool; PLACES],
+) -> Result<Masks, Refusal>
     requires { Between s.now index.now m }
     ensures { AddsRows result s.now index.now m marks }
 {
-    let p = new_section(s, index, m, PLACE_R);
-    let Flagged::Of(preds) = p else {
-        return Step::Refused(26);
-    };
-    let f = new_section(s, index, m, PLACE_A);
-    let Flagged::Of(funcs) = f else {
-        return Step::Refused(26);
-    };
-    let e = new_unmarked(s, index, m, marks);
-    let Flagged::Of(members) = e else {
-        return Step::Refused(26);
-    };
-    Step::Adds(Masks {
-        preds,
-        funcs,
-        members,
+    Ok(Masks {
+        preds: new_section(s, index, m, PLACE_R)?,
+        funcs: new_section(s, index, m, PLACE_A)?,
+        members: new_unmarked(s, index, m, marks)?,
         free: NO_FLAGS,
     })
 }

@@ -23,14 +23,10 @@ pub fn free_els(targetvars: [u16; FIELDS], count: usize, first: u16, marks: [boo
         → take count marks ≡ each q els → FreeOf result p q els }
 {
     let mut mask = NO_FLAGS;
-    let mut i: usize = 0;
-    while i < count {
-        if first <= targetvars[i] {
-            if !marks[i] {
-                mask = with_flag(mask, i);
-            }
+    for i in 0..count {
+        if first <= targetvars[i] && !marks[i] {
+            mask = with_flag(mask, i);
         }
-        i += 1;
     }
     mask
 }
@@ -40,19 +36,14 @@ pub fn new_elements(targetvars: [u16; FIELDS], count: usize, first: u16) -> New
     requires { count ≤ field_limit }
     ensures { (p : ℕ → Bool) (els : List ℕ) → count ≡ length els → each given (kept_in first count targetvars) ≡ each p els → News result p els }
 {
-    let mut found = count;
-    let mut i: usize = 0;
-    while i < count {
+    let mut new = New::Nothing;
+    for i in 0..count {
         if first <= targetvars[i] {
-            if found < count {
+            let New::Nothing = new else {
                 return New::More;
-            }
-            found = i;
+            };
+            new = New::One(i);
         }
-        i += 1;
     }
-    if found < count {
-        return New::One(found);
-    }
-    New::Nothing
+    new
 }

@@ -4,5 +4,4 @@
 pub mod added;
 pub mod elements;
 pub mod morphisms;
-pub mod step;
 pub mod yielding;

@@ -15,10 +15,10 @@ ghost use Rattle.kinds.specs.Steps.{from, to, Reaches, MasksFor, IfDoes, SurjDoe
 
 use crate::added::added_rows;
 use crate::elements::{New, free_els, new_elements};
-use crate::step::Step;
-use crate::yielding::{Yielding, all_flagged, arguments, yielding_row};
+use crate::yielding::{all_flagged, arguments, yielding_row};
 use flags::{NO_FLAGS, PLACES, none_set, one_flag};
 use naming::variables::image_els;
+use records::refusal::Refusal;
 use rows::arguments::constrained_els;
 use rows::kernel::{kernel_clash, key_vars};
 use rows::morphism::Morphism;
@@ -28,7 +28,15 @@ use rule::sections::section_of;
 use signature::ids::{Counts, INDEX};
 use statements::masks::Masks;
 
-// 25: do two variables of a kernel pair differ in type? Most maps have no kernel pairs: no image of several keys is flagged, and no
+// Masks of a target that adds nothing.
+const NO_MASKS: Masks = Masks {
+    preds: NO_FLAGS,
+    funcs: NO_FLAGS,
+    members: NO_FLAGS,
+    free: NO_FLAGS,
+};
+
+// Do two variables of a kernel pair differ in type? Most maps have no kernel pairs: no image of several keys is flagged, and no
 // variable is looked up.
 fn clashes(
     s: &[u8],
@@ -49,7 +57,8 @@ fn clashes(
     kernel_clash(s, m.map, &vars, types)
 }
 
-// 25 and 26, else the flags of the new rows, with the members that have no mark.
+// Refused where variables of a kernel pair differ in type, or an element of a row has no image; else the flags of the new rows, with the
+// members that have no mark.
 fn new_masks(
     s: &[u8],
     index: &[u16; RULE_INDEX],
@@ -57,20 +66,20 @@ fn new_masks(
     sourcevars: [u16; FIELDS],
     types: &[u8],
     marks: [bool; PLACES],
-) -> Step
+) -> Result<Masks, Refusal>
     requires between { Between s.now index.now m }
     requires given_out { GivenOut (source_in s.now m) sourcevars (length types.now) }
     ensures { (sig : Signature) (table : List Variable) (targetvars : List ℕ) → TypesOf table types.now
         → MasksFor sig table s.now m sourcevars targetvars index.now marks result }
 {
     if clashes(s, index, m, sourcevars, types) {
-        return Step::Refused(25);
+        return Err(Refusal::KernelTypesDiffer);
     }
     added_rows(s, index, m, marks)
 }
 
-// If and Noop: 25, 26, else the new rows but for members whose element is constrained, and the elements that are neither images nor
-// constrained.
+// If and Noop: refused as `new_masks` is, else the new rows but for members whose element is constrained, and the elements that are neither
+// images nor constrained.
 pub fn flatten_if_arbitrary(
     sig: &[u8],
     symbols: &[u16; INDEX],
@@ -82,7 +91,7 @@ pub fn flatten_if_arbitrary(
     targetvars: [u16; FIELDS],
     first: u16,
     types: &[u8],
-) -> Step
+) -> Result<Masks, Refusal>
     requires indexed { Indexed sig.now symbols.now counts }
     requires sound_at { SoundAt (signature_at sig.now symbols.now counts) s.now index.now m.target }
     requires reaches { Reaches s.now index.now m targetvars first }
@@ -92,22 +101,12 @@ pub fn flatten_if_arbitrary(
         × IfDoes (signature_at sig.now symbols.now counts) table s.now m sourcevars targetvars Noop result }
 {
     let marks = constrained_els(sig, symbols, counts, s, index, m.target);
-    let step = new_masks(s, index, m, sourcevars, types, marks);
-    let Step::Adds(masks) = step else {
-        return step;
-    };
-    let preds = masks.preds;
-    let funcs = masks.funcs;
-    let members = masks.members;
-    Step::Adds(Masks {
-        preds,
-        funcs,
-        members,
-        free: free_els(targetvars, element_count(index, m.target), first, marks),
-    })
+    let masks = new_masks(s, index, m, sourcevars, types, marks)?;
+    let free = free_els(targetvars, element_count(index, m.target), first, marks);
+    Ok(Masks { free, ..masks })
 }
 
-// SurjThen: 25, 26, 27, else the new rows.
+// SurjThen: refused as `new_masks` is, or at a new element; else the new rows.
 pub fn flatten_surj_then(
     s: &[u8],
     index: &[u16; RULE_INDEX],
@@ -116,25 +115,20 @@ pub fn flatten_surj_then(
     targetvars: [u16; FIELDS],
     first: u16,
     types: &[u8],
-) -> Step
+) -> Result<Masks, Refusal>
     requires reaches { Reaches s.now index.now m targetvars first }
     requires given_out { GivenOut (source_in s.now m) sourcevars (length types.now) }
     ensures { (sig : Signature) (table : List Variable) → TypesOf table types.now
         → SurjDoes sig table s.now m sourcevars targetvars result }
 {
-    let step = new_masks(s, index, m, sourcevars, types, [false; PLACES]);
-    let Step::Adds(masks) = step else {
-        return step;
-    };
-    let new = new_elements(targetvars, element_count(index, m.target), first);
-    match new {
-        New::Nothing => Step::Adds(masks),
-        New::One(_) => Step::Refused(27),
-        New::More => Step::Refused(27),
+    let masks = new_masks(s, index, m, sourcevars, types, [false; PLACES])?;
+    match new_elements(targetvars, element_count(index, m.target), first) {
+        New::Nothing => Ok(masks),
+        New::One(_) | New::More => Err(Refusal::NewElement),
     }
 }
 
-// 29 and 30 of the one new element, which stands at a place; else the row that yields it.
+// The row that yields the one new element, which stands at a place. Refused where no row does, or where an argument of that row is no image.
 fn yielding_step(
     s: &[u8],
     index: &[u16; RULE_INDEX],
@@ -142,7 +136,7 @@ fn yielding_step(
     targetvars: [u16; FIELDS],
     first: u16,
     i: usize,
-) -> Step
+) -> Result<Masks, Refusal>
     requires reaches { Reaches s.now index.now m targetvars first }
     requires i_bound { i < count_at index.now m.target }
     ensures { (sig : Signature) (table : List Variable) (sourcevars : List ℕ)
@@ -152,42 +146,31 @@ fn yielding_step(
 {
     let e = element_number(s, index, m.target, i);
     let rows = section_of(index, m.target, PLACE_A);
-    let y = yielding_row(s, rows.from, rows.to, e);
-    let Yielding::At { place, row } = y else {
-        return Step::Refused(29);
-    };
+    let y = yielding_row(s, rows.from, rows.to, e).ok_or(Refusal::NotYielded)?;
     let images = image_els(targetvars, element_count(index, m.target), first);
-    if !all_flagged(s, index, m.target, arguments(s, row), images) {
-        return Step::Refused(30);
+    if !all_flagged(s, index, m.target, arguments(s, y.row), images) {
+        return Err(Refusal::UnmappedArgument);
     }
-    Step::Adds(Masks {
-        preds: NO_FLAGS,
-        funcs: one_flag(place),
-        members: NO_FLAGS,
-        free: NO_FLAGS,
+    Ok(Masks {
+        funcs: one_flag(y.place),
+        ..NO_MASKS
     })
 }
 
-// NonSurjThen: 28, 29, 30, else the row that yields the new element, if there is one.
+// NonSurjThen: refused at a second new element, else the row that yields the new element, if there is one.
 pub fn flatten_non_surj_then(
     s: &[u8],
     index: &[u16; RULE_INDEX],
     m: Morphism,
     targetvars: [u16; FIELDS],
     first: u16,
-) -> Step
+) -> Result<Masks, Refusal>
     requires { Reaches s.now index.now m targetvars first }
     ensures { (sig : Signature) (table : List Variable) (sourcevars : List ℕ) → NonSurjDoes sig table s.now m sourcevars targetvars result }
 {
-    let new = new_elements(targetvars, element_count(index, m.target), first);
-    match new {
-        New::Nothing => Step::Adds(Masks {
-            preds: NO_FLAGS,
-            funcs: NO_FLAGS,
-            members: NO_FLAGS,
-            free: NO_FLAGS,
-        }),
+    match new_elements(targetvars, element_count(index, m.target), first) {
+        New::Nothing => Ok(NO_MASKS),
         New::One(i) => yielding_step(s, index, m, targetvars, first, i),
-        New::More => Step::Refused(28),
+        New::More => Err(Refusal::NewElements),
     }
 }

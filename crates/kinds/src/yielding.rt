@@ -10,47 +10,36 @@ ghost use Rattle.rule.specs.Lists.{els_in, ElsInside};
 ghost use Rattle.kinds.specs.Yielding.{ResultRows, Yields, RowBounds};
 
 use rows::table::ROWS;
-use rule::elements::{Found, find_element};
+use rule::elements::find_element;
 use rule::ids::{ElId, RULE_INDEX};
 use rule::lists::{Els, el_at, first};
 use rule::rows::{Row, read_row, row_result};
 
 // A row, and its place in its section.
 #[derive(Clone, Copy)]
-pub enum Yielding {
-    At { place: usize, row: Row },
-    Nothing,
+pub struct Yielding {
+    pub place: usize,
+    pub row: Row,
 }
 
 // The first A row whose result is an element.
-pub fn yielding_row(s: &[u8], from: usize, end: usize, e: ElId) -> Yielding
+pub fn yielding_row(s: &[u8], from: usize, end: usize, e: ElId) -> Option<Yielding>
     requires { ResultRows s.now from end }
     ensures by_index { (kind : ℕ) (fs : List definition.Field) → Run s.now from end fs
         → Yields result s.now kind e.0 (each (row_of kind) fs) }
     ensures row_bounds { RowBounds result s.now }
 {
-    let mut found = Yielding::Nothing;
     let mut at = from;
-    let mut place: usize = 0;
-    'functions: while at < end {
-        // The rows of one function stand together; this is the first of them.
-        let first = read_row(s, at);
-        let mut row = first;
-        while row.symbol == first.symbol {
-            let result = row_result(s, row);
-            if result.0 == e.0 {
-                found = Yielding::At { place, row };
-                break 'functions;
-            }
-            place += 1;
-            at = row.next;
-            if end <= at {
-                break 'functions;
-            }
-            row = read_row(s, at);
+    let mut place = 0;
+    while at < end {
+        let row = read_row(s, at);
+        if row_result(s, row) == e {
+            return Some(Yielding { place, row });
         }
+        place += 1;
+        at = row.next;
     }
-    found
+    None
 }
 
 // The arguments of a row: its elements but for its result.
@@ -78,17 +67,13 @@ pub fn all_flagged(
         → ((e : ℕ) → e ∈ els_in s.now l → e ∈ element_numbers s.now index.now k)
         → result ≡ all p (els_in s.now l) }
 {
-    let count = l.count;
-    let mut j: usize = 0;
-    while j < count {
-        let f = find_element(s, index, k, el_at(s, l, j));
-        let Found::At(i) = f else {
+    for j in 0..l.count {
+        let Some(i) = find_element(s, index, k, el_at(s, l, j)) else {
             return false;
         };
         if !flags[i] {
             return false;
         }
-        j += 1;
     }
     true
 }

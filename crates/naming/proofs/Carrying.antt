@@ -26,7 +26,7 @@ use Rattle.rule.specs.MapFields.{pairs_in, pair_at, MapIn, Joins}
 use Rattle.rule.specs.declared.maps.Map.{Map}
 use Rattle.rule.proofs.MapLaws.{pairs_many}
 use Rattle.rule.specs.Elements.{count_at, element_numbers, Finds}
-use Rattle.rule.specs.declared.elements.Found.TheVariants.{At, Nothing}
+use Rattle.std.proofs.Common.{Some, None}
 use Rattle.rule.specs.Structures.{structure_in, Laid}
 use Rattle.naming.specs.Maps.{taken_over}
 use Rattle.laws.proofs.Choices.{last_append, each_each, each_same}
@@ -97,7 +97,7 @@ module _ (s vars : List ℕ) (source target : ℕ) (m : Map) where
 module _ {s index : List ℕ} {source target : ℕ} {m : Map} (a : Laid s index source) (b : Laid s index target) (map : MapIn s m) where
   -- Its keys and images are found.
   pub not_absent : {A : Type 0} {p : ℕ} → Joins s source target m → p < m.pairs
-      → (Finds Nothing (pair_at s m p).key (element_numbers s index source) → A) × (Finds Nothing (pair_at s m p).image (element_numbers s index target) → A)
+      → (Finds None (pair_at s m p).key (element_numbers s index source) → A) × (Finds None (pair_at s m p).image (element_numbers s index target) → A)
   unfolding pair_at
   not_absent {A} {p} j h =
       let n : length (pairs_in s m) ≡ m.pairs = pairs_many map in
@@ -111,11 +111,11 @@ module _ {s index : List ℕ} {source target : ℕ} {m : Map} (a : Laid s index 
   carrying = record { same = entries_none (structure_in s source) (structure_in s target) _ (element_few b) }
 
   -- Where a number was found, it stands.
-  stands : {k e i : ℕ} → Laid s index k → Finds (At i) e (element_numbers s index k)
+  stands : {k e i : ℕ} → Laid s index k → Finds (Some i) e (element_numbers s index k)
       → (i < length (numbers_of (structure_in s k))) × (get_or (numbers_of (structure_in s k)) i 0 ≡ e)
   stands {k} {e} l f = let w = f.is in let x = place_in e (element_numbers s index k) (has_mem e _ w.2) in rw (numbers_are l) (w.1, rw w.0 x.1)
 
-  entry : {e i : ℕ} → Finds (At i) e (element_numbers s index source)
+  entry : {e i : ℕ} → Finds (Some i) e (element_numbers s index source)
       → variable_at (structure_in s source) (variables_in (structure_in s source) vars) e ≡ get_or vars i 0
   unfolding variable_at
   entry {e} {i} f = let w = f.is in
@@ -123,8 +123,8 @@ module _ {s index : List ℕ} {source target : ℕ} {m : Map} (a : Laid s index 
       rw (numbers_are a, ← w.0) (get_or-take (length (structure_in s source).elements) vars i 0 l)
 
   pub carry : {row : List ℕ} {p i j : ℕ} → Carrying s vars source target m row p → p < m.pairs
-      → Finds (At i) (pair_at s m p).key (element_numbers s index source)
-      → Finds (At j) (pair_at s m p).image (element_numbers s index target) → Carrying s vars source target m (set row j (get_or vars i 0)) (p + 1)
+      → Finds (Some i) (pair_at s m p).key (element_numbers s index source)
+      → Finds (Some j) (pair_at s m p).image (element_numbers s index target) → Carrying s vars source target m (set row j (get_or vars i 0)) (p + 1)
   unfolding pair_at
   carry {row} {p} {i} {j} c h f g =
       let n : length (pairs_in s m) ≡ m.pairs = pairs_many map in

@@ -10,7 +10,7 @@ use Rattle.definition.specs.Rule.{Structure, Element, element_of}
 use Rattle.definition.specs.Names.{numbers_of}
 use Rattle.laws.proofs.Lists.{length_each, mem_at}
 use Rattle.rule.specs.Elements.{count_at, element_fields, element_numbers, Elements, Finds}
-use Rattle.rule.specs.declared.elements.Found.TheVariants.{At}
+use Rattle.std.proofs.Common.{Some, None}
 use Rattle.rule.proofs.Finding.{numbers_length, numbers_get}
 use Rattle.rule.specs.ElementFields.{element_in, elements_in, element_from}
 use Rattle.rule.specs.declared.elements.Element as read
@@ -72,5 +72,5 @@ module _ {s index : List ℕ} {k : ℕ} (l : Laid s index k) where
     past_count h = rw (elements_are, ← e) h
 
   -- An element that was found stands in its structure's row.
-  pub found_few : {i e : ℕ} → Finds (At i) e (element_numbers s index k) → i < field_limit
+  pub found_few : {i e : ℕ} → Finds (Some i) e (element_numbers s index k) → i < field_limit
   found_few f = let w = f.is.1 in omega (arith, numbers_length s index k, l.elements.elements.few)

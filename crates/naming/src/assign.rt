@@ -10,7 +10,7 @@ ghost use Rattle.naming.specs.Variables.{entry_of, row_of, GivenOut};
 ghost use Rattle.naming.specs.Maps.{taken_over};
 
 use crate::variables::{NO_VAR, assign_structure_el_vars};
-use rule::elements::{Found, element_count, find_element};
+use rule::elements::{element_count, find_element};
 use rule::ids::{FIELDS, RULE_INDEX};
 use rule::maps::{Map, pair_image, pair_key};
 
@@ -29,18 +29,16 @@ pub fn carried(
     ensures { result ≡ row_of (each entry_of (taken_over s.now vars source target m)) }
 {
     let mut row = [NO_VAR; FIELDS];
-    let mut p: usize = 0;
-    while p < m.pairs {
+    for p in 0..m.pairs {
         let from = find_element(s, index, source, pair_key(s, m, p));
-        let Found::At(i) = from else {
+        let Some(i) = from else {
             return row;
         };
         let to = find_element(s, index, target, pair_image(s, m, p));
-        let Found::At(j) = to else {
+        let Some(j) = to else {
             return row;
         };
         row[j] = vars[i];
-        p += 1;
     }
     row
 }

@@ -1,11 +1,13 @@
 -- The searches among M, K and X: what a field answers.
 use Prim.Native.Nat.{ℕ}
-use mathlib.Core.Bool.{Bool, true, not}
+use mathlib.Core.Bool.{Bool, true, false, not}
 use mathlib.Core.List.{List, [], ◌∷◌}
 use mathlib.Core.Option.{Option, none, some}
 use mathlib.Core.Path.{◌≡◌, refl, sym, ◌∙◌}
 use borrow.Author.Tests.{eq-eqb, ne_eqb}
-use Rattle.definition.specs.Base.{any, first_of, given}
+use Rattle.std.specs.Prelude as std
+use Rattle.std.specs.Prelude.{Some, None, is_some, unwrap_or}
+use Rattle.definition.specs.Base.{any, first_of, given, or_default}
 use Rattle.definition.specs.Rule.{Map, Kind, Auxiliary}
 use Rattle.definition.specs.Walk.{incoming_source, pairs_between}
 use Rattle.rule.specs.Lookup.{FindsMap}
@@ -13,8 +15,6 @@ use Rattle.rule.specs.declared.lookup.MapFound.{MapFound}
 use Rattle.rule.specs.declared.lookup.MapFound.TheVariants as map
 use Rattle.rule.proofs.MapReading.{found_at, found_none}
 use Rattle.plan.specs.Sources.{source_is}
-use Rattle.plan.specs.declared.sources.Source.{Source}
-use Rattle.plan.specs.declared.sources.Source.TheVariants.{At, Nothing}
 
 -- The sources of a structure.
 abbrev pub into : ℕ → List Map → Option ℕ
@@ -33,18 +33,28 @@ pub source_none : (t : ℕ) → into t [] ≡ none
 unfolding incoming_source first_of
 source_none t = refl
 
+-- Whether there is one.
+given_source : (r : std.Option ℕ) → given (source_is r) ≡ is_some r
+given_source (Some u) = refl
+given_source None = refl
+
+-- The source of the pair that an X adds.
+pub lowest_is : (r : std.Option ℕ) {source : ℕ} {lowest : Option ℕ} → source_is r ≡ lowest → source ≡ unwrap_or r 0 → source ≡ or_default lowest 0
+lowest_is (Some u) e q = rw (← e) q
+lowest_is None e q = rw (← e) q
+
 -- Whether one of them has no map.
 abbrev pub no_source : List Map → Auxiliary → Bool
 no_source maps x = not (given (incoming_source maps x.structure))
 
-module _ (maps : List Map) (x : Auxiliary) {target : ℕ} {r : Source} (p : target ≡ x.structure) (q : source_is r ≡ incoming_source maps target) where
-  pub unmapped_here : r ≡ Nothing → (rest : List Auxiliary) → any (no_source maps) (x ∷ rest) ≡ true
+module _ (maps : List Map) (x : Auxiliary) {target : ℕ} (r : std.Option ℕ) (p : target ≡ x.structure) (q : source_is r ≡ incoming_source maps target) where
+  pub unmapped_here : is_some r ≡ false → (rest : List Auxiliary) → any (no_source maps) (x ∷ rest) ≡ true
   unfolding any
-  unmapped_here e rest = rw (← p, ← q, e)
+  unmapped_here e rest = rw (← p, ← q, given_source r, e)
 
-  pub unmapped_behind : {source : ℕ} → r ≡ At source → (rest : List Auxiliary) → any (no_source maps) (x ∷ rest) ≡ any (no_source maps) rest
+  pub unmapped_behind : is_some r ≡ true → (rest : List Auxiliary) → any (no_source maps) (x ∷ rest) ≡ any (no_source maps) rest
   unfolding any
-  unmapped_behind e rest = rw (← p, ← q, e)
+  unmapped_behind e rest = rw (← p, ← q, given_source r, e)
 
 abbrev pub no_map : List Map → Kind → Bool
 no_map maps k = not (given (pairs_between maps k.source k.target))

@@ -1,9 +1,8 @@
 -- A source that was found, as the definition's.
-use Rattle.std.proofs.Math.Option.{Option, none, some}
-use Rattle.std.specs.Prelude.{ℕ}
-use Rattle.plan.specs.declared.sources.Source.{Source}
-use Rattle.plan.specs.declared.sources.Source.TheVariants.{At, Nothing}
+use Rattle.std.specs.Prelude.{ℕ, Option, Some, None}
+use Rattle.std.proofs.Math.Option as definition
+use Rattle.std.proofs.Math.Option.{none, some}
 
-abbrev pub source_is : Source → Option ℕ
-source_is (At u) = some u
-source_is Nothing = none
+abbrev pub source_is : Option ℕ → definition.Option ℕ
+source_is (Some u) = some u
+source_is None = none

@@ -6,40 +6,29 @@ ghost use Rattle.plan.specs.Sources.{source_is};
 
 use records::fields::{Field, read_field};
 use rule::ids::{PLACE_K, PLACE_M, PLACE_X, RULE_INDEX};
-use rule::lookup::{MapFound, find_map, source_at, structure_at, target_at};
+use rule::lookup::{find_map, source_at, structure_at, target_at};
 use rule::sections::section_behind;
 
-// The lowest source of a structure.
-#[derive(Clone, Copy)]
-pub enum Source {
-    At(usize),
-    Nothing,
-}
-
-// Maps stand by their sources, so the first map into a structure has the lowest source.
-pub fn incoming_source(s: &[u8], index: &[u16; RULE_INDEX], target: usize) -> Source
+// The lowest source of a structure. Maps stand by their sources, so that of the first map into it.
+pub fn incoming_source(s: &[u8], index: &[u16; RULE_INDEX], target: usize) -> Option<usize>
     requires { Ready s.now index.now }
     ensures { source_is result ≡ incoming_source (rule_at s.now).maps target }
 {
     let maps = section_behind(s, index, PLACE_M);
     let mut at = maps.from;
     while at < maps.to {
-        let f = read_field(s, at);
-        let Field::Got {
-            letter: _,
-            start,
-            len,
-            next,
-        } = f
+        let Some(Field {
+            start, len, next, ..
+        }) = read_field(s, at)
         else {
-            return Source::Nothing;
+            return None;
         };
         if target_at(s, start, len) == target {
-            return Source::At(source_at(s, start, len));
+            return Some(source_at(s, start, len));
         }
         at = next;
     }
-    Source::Nothing
+    None
 }
 
 // 21: an X structure has no map into it.
@@ -50,20 +39,15 @@ pub fn unmapped_auxiliary(s: &[u8], index: &[u16; RULE_INDEX]) -> bool
     let auxiliaries = section_behind(s, index, PLACE_X);
     let mut at = auxiliaries.from;
     while at < auxiliaries.to {
-        let f = read_field(s, at);
-        let Field::Got {
-            letter: _,
-            start,
-            len,
-            next,
-        } = f
+        let Some(Field {
+            start, len, next, ..
+        }) = read_field(s, at)
         else {
             return true;
         };
-        let source = incoming_source(s, index, structure_at(s, start, len));
-        let Source::At(_) = source else {
+        if incoming_source(s, index, structure_at(s, start, len)).is_none() {
             return true;
-        };
+        }
         at = next;
     }
     false
@@ -77,20 +61,15 @@ pub fn unmapped_kind(s: &[u8], index: &[u16; RULE_INDEX]) -> bool
     let kinds = section_behind(s, index, PLACE_K);
     let mut at = kinds.from;
     while at < kinds.to {
-        let f = read_field(s, at);
-        let Field::Got {
-            letter: _,
-            start,
-            len,
-            next,
-        } = f
+        let Some(Field {
+            start, len, next, ..
+        }) = read_field(s, at)
         else {
             return true;
         };
-        let map = find_map(s, index, source_at(s, start, len), target_at(s, start, len));
-        let MapFound::At { start: _, len: _ } = map else {
+        if find_map(s, index, source_at(s, start, len), target_at(s, start, len)).is_none() {
             return true;
-        };
+        }
         at = next;
     }
     false

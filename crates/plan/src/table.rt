@@ -1,13 +1,12 @@
 // The kinds of all pairs of structures: those of K, then those that the X add.
 ghost use Rattle.std.specs.Prelude.{[], ◌≡◌, ◌<◌};
 ghost use Rattle.std.proofs.Math.Option.{some};
-ghost use Rattle.definition.specs.Base.{or_default};
 ghost use Rattle.definition.specs.Limits.{structure_limit};
-ghost use Rattle.definition.specs.Walk.{incoming_source, auxiliary_kind, completed};
+ghost use Rattle.definition.specs.Walk.{auxiliary_kind, completed};
 ghost use Rattle.rule.specs.Lookup.{Ready, rule_at, kind_is};
 ghost use Rattle.plan.specs.Table.{kind_in, Tabled, Adds};
 
-use crate::sources::{Source, incoming_source};
+use crate::sources::incoming_source;
 use records::fields::{Field, read_field};
 use rule::ids::{PLACE_K, PLACE_X, RULE_INDEX, STRUCTURES};
 use rule::lookup::{MorphismKind, class_at, kind_at, source_at, structure_at, target_at};
@@ -46,18 +45,6 @@ fn auxiliary_kind(class: u8) -> u8
     IF
 }
 
-// The source of the pair that an X adds.
-fn lowest_source(s: &[u8], index: &[u16; RULE_INDEX], target: usize) -> usize
-    requires { Ready s.now index.now }
-    ensures { result ≡ or_default (incoming_source (rule_at s.now).maps target) 0 }
-{
-    let found = incoming_source(s, index, target);
-    let Source::At(source) = found else {
-        return 0;
-    };
-    source
-}
-
 // A pair's kind into the table, unless the pair has one by then.
 fn add(table: &mut [[u8; STRUCTURES]; STRUCTURES], source: usize, target: usize, kind: u8)
     requires { (source < structure_limit) × (target < structure_limit) }
@@ -78,13 +65,9 @@ fn stored(s: &[u8], index: &[u16; RULE_INDEX], table: &mut [[u8; STRUCTURES]; ST
     let kinds = section_behind(s, index, PLACE_K);
     let mut at = kinds.from;
     while at < kinds.to {
-        let f = read_field(s, at);
-        let Field::Got {
-            letter: _,
-            start,
-            len,
-            next,
-        } = f
+        let Some(Field {
+            start, len, next, ..
+        }) = read_field(s, at)
         else {
             return;
         };
@@ -109,18 +92,14 @@ fn complete(s: &[u8], index: &[u16; RULE_INDEX], table: &mut [[u8; STRUCTURES]; 
     let auxiliaries = section_behind(s, index, PLACE_X);
     let mut at = auxiliaries.from;
     while at < auxiliaries.to {
-        let f = read_field(s, at);
-        let Field::Got {
-            letter: _,
-            start,
-            len,
-            next,
-        } = f
+        let Some(Field {
+            start, len, next, ..
+        }) = read_field(s, at)
         else {
             return;
         };
         let target = structure_at(s, start, len);
-        let source = lowest_source(s, index, target);
+        let source = incoming_source(s, index, target).unwrap_or(0);
         add(
             table,
             source,

@@ -21,7 +21,7 @@ use Rattle.laws.proofs.Lists.{never, has_mem, length_each, get_d_each, joined_ap
 use Rattle.laws.proofs.Numbering.{place_in}
 use Rattle.records.specs.Places.{Run}
 use Rattle.rule.specs.Elements.{count_at, element_numbers, Elements, Finds}
-use Rattle.rule.specs.declared.elements.Found.TheVariants.{At, Nothing}
+use Rattle.std.proofs.Common.{Some, None}
 use Rattle.rule.proofs.Finding.{numbers_length, Ascending}
 use Rattle.rule.specs.Rows.{row_symbol, RowsKnown, row_from, RowRead}
 use Rattle.rule.specs.Lists.{els_in, ElsInside}
@@ -57,10 +57,10 @@ module _ {flags : List Bool} {els seen : List ℕ} (m : Marks flags els seen) {e
   unmarked : (j : ℕ) → j < length els → (e ≡ get_or els j 0 → ⊥) → get_or flags j false ≡ has (get_or els j 0) (seen ++ (e ∷ []))
   unmarked j l d = m.at j l ∙ sym (has_more (get_or els j 0) seen e ∙ rw (ne_eqb e (get_or els j 0) d) (or-false (has (get_or els j 0) seen)))
 
-  pub mark_none : Finds Nothing e els → Marks flags els (seen ++ (e ∷ []))
+  pub mark_none : Finds None e els → Marks flags els (seen ++ (e ∷ []))
   mark_none f = record { at = λ j l. unmarked j l (λ q. never (rw (← q) at (has_get els j l)) f.is) }
 
-  pub mark_at : Ascending els → {i : ℕ} → Finds (At i) e els → i < length flags → Marks (set flags i true) els (seen ++ (e ∷ []))
+  pub mark_at : Ascending els → {i : ℕ} → Finds (Some i) e els → i < length flags → Marks (set flags i true) els (seen ++ (e ∷ []))
   mark_at up {i} f h = record { at = λ j l. go j l (ℕ_discrete j i) }
     where
       here : get_or els i 0 ≡ e

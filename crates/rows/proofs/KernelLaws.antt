@@ -20,7 +20,7 @@ use Rattle.definition.specs.Rows.{pairs_among, kernel_pairs}
 use Rattle.definition.specs.Signature.{Signature}
 use Rattle.laws.proofs.Lists.{bool_cases, never, and_left, and_right, and_true, or_cases, any_mem, any_true, get_d_each, mem_has, each_append, mem_at}
 use Rattle.rule.specs.Elements.{Finds}
-use Rattle.rule.specs.declared.elements.Found.TheVariants.{At, Nothing}
+use Rattle.std.proofs.Common.{Some, None}
 use Rattle.rule.specs.Lookup.{no_pair}
 use Rattle.rows.specs.Kernel.{KeyVars, KeyTypes, Typed, TypesOf, SideAt, clash}
 use Rattle.rule.specs.MapFields.{pairs_in, pair_at, MapIn, KeysIn, ImagesIn}
@@ -237,14 +237,14 @@ keys_start source pairs vars = record { same = refl }
 
 -- A key is found.
 pub key_found : {s : List ℕ} {m : Map} → MapIn s m → {els : List ℕ} → KeysIn els (pairs_in s m) → (p : ℕ) → p < m.pairs → {e : ℕ} → e ≡ (pair_at s m p).key
-    → Finds Nothing e els → ⊥
+    → Finds None e els → ⊥
 unfolding pair_at
 key_found {s} {m} h {els} k p l e f =
     let n = pairs_many h in never (mem_has _ els (k.named _ (mem_at (pairs_in s m) p no_pair (omega arith)))) (rw e at f.is)
 
 pub keys_next : {s : List ℕ} {m : Map} → MapIn s m → {source : Side} {vars els row : List ℕ} {p e i : ℕ} → KeysDone source (pairs_in s m) vars p
     → SideAt els row source → p < m.pairs
-    → p < length vars → e ≡ (pair_at s m p).key → Finds (At i) e els → KeysDone source (pairs_in s m) (set vars p (get_or row i 0)) (p + 1)
+    → p < length vars → e ≡ (pair_at s m p).key → Finds (Some i) e els → KeysDone source (pairs_in s m) (set vars p (get_or row i 0)) (p + 1)
 unfolding pair_at each variable_at
 keys_next {s} {m} h {source} {vars} {els} {row} {p} {e} {i} d t l b q f =
     let n = pairs_many h in

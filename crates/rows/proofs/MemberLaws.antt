@@ -25,16 +25,17 @@ use Rattle.rule.specs.declared.elements.Element as read
 use Rattle.rule.specs.Rows.{Alike, has_parents, member_rows}
 use Rattle.rows.specs.Members.{new_member}
 use Rattle.rows.specs.Table.{lacks_image, row_lacks, image_in, is_new, Maps, Imaged}
-use Rattle.rows.specs.declared.table.Mapped.TheVariants as mapped
-use Rattle.rows.specs.declared.table.Images.TheVariants as images
+use Rattle.records.specs.declared.refusal.Refusal.{Refusal}
+use Rattle.records.specs.declared.refusal.Refusal.TheVariants as refusal
+use Rattle.std.proofs.Common.{Ok, Err}
 use Rattle.records.proofs.Parts.{store_more, any_append, none_kept, any_each, drop_mem}
 use Rattle.rows.proofs.TableLaws.{Filled, filled_none, filled_more}
 use Rattle.rule.proofs.ElementLaws.{parents_many, elements_many, elements_more, elements_on}
 
 -- A row of one element more: its image, and that the element, or one before it, has none.
 module _ {pairs : List Pair} {es els₀ els : List ℕ} {at : ℕ} (e : ℕ) where
-  pub maps_more : Maps mapped.All pairs es els₀ els at → {v n : ℕ} → image_of pairs e ≡ some v → length es ≡ n → at + n < length els
-      → Maps mapped.All pairs (es ++ (e ∷ [])) els₀ (set els (at + n) v) at
+  pub maps_more : Maps (Ok tt) pairs es els₀ els at → {v n : ℕ} → image_of pairs e ≡ some v → length es ≡ n → at + n < length els
+      → Maps (Ok tt) pairs (es ++ (e ∷ [])) els₀ (set els (at + n) v) at
   unfolding any each
   maps_more m {v} {n} q h l =
       let a : at + length (es ++ (e ∷ [])) ≡ at + n + 1 = rw length-append (omega arith) in
@@ -44,12 +45,12 @@ module _ {pairs : List Pair} {es els₀ els : List ℕ} {at : ℕ} (e : ℕ) whe
         is = (any_append (lacks_image pairs) es (e ∷ []) ∙ rw (m.is.0, q), rw (a, store_more els (at + n) v l, b, each_append, q, append_assoc));
       }
 
-  pub lacks_before : Maps mapped.Unmapped pairs es els₀ els at → Maps mapped.Unmapped pairs (es ++ (e ∷ [])) els₀ els at
-  lacks_before m = record { long = m.long; is = any_append (lacks_image pairs) es (e ∷ []) ∙ rw m.is }
+  pub lacks_before : {r : Refusal} → Maps (Err r) pairs es els₀ els at → Maps (Err r) pairs (es ++ (e ∷ [])) els₀ els at
+  lacks_before m = record { long = m.long; is = (m.is.0, any_append (lacks_image pairs) es (e ∷ []) ∙ rw m.is.1) }
 
-  pub lacks_last : Maps mapped.All pairs es els₀ els at → image_of pairs e ≡ none → Maps mapped.Unmapped pairs (es ++ (e ∷ [])) els₀ els at
+  pub lacks_last : Maps (Ok tt) pairs es els₀ els at → image_of pairs e ≡ none → Maps (Err refusal.UnmappedElement) pairs (es ++ (e ∷ [])) els₀ els at
   unfolding any
-  lacks_last m q = record { long = m.long; is = any_append (lacks_image pairs) es (e ∷ []) ∙ rw (m.is.0, q) }
+  lacks_last m q = record { long = m.long; is = (refl, any_append (lacks_image pairs) es (e ∷ []) ∙ rw (m.is.0, q)) }
 
 -- Lists of one length with one member more.
 same_snoc : (xs ys : List ℕ) (x y : ℕ) → length xs ≡ length ys → same_list (xs ++ (x ∷ [])) (ys ++ (y ∷ [])) ≡ (same_list xs ys && eqb x y)
@@ -162,14 +163,13 @@ module _ (s index : List ℕ) (k : ℕ) (none_has : any has_parents (elements_in
 pub record Filling (pairs : List Pair) (s index : List ℕ) (k i n : ℕ) (symbols els : List ℕ) : Type 0 where
   pub filled : Filled pairs (member_rows (take i (elements_in s index k))) symbols els
   pub count : n ≡ length (member_rows (take i (elements_in s index k)))
-  pub few : n ≤ i
 
 pub filling_start : (pairs : List Pair) (s index : List ℕ) (k : ℕ) (symbols els : List ℕ) → Filling pairs s index k 0 0 symbols els
 unfolding member_rows keep each
-filling_start pairs s index k symbols els = record { filled = filled_none pairs symbols els; count = refl; few = omega arith }
+filling_start pairs s index k symbols els = record { filled = filled_none pairs symbols els; count = refl }
 
 module _ {pairs : List Pair} {s index : List ℕ} {k i n : ℕ} {symbols els : List ℕ} (f : Filling pairs s index k i n symbols els) where
-  pub filling_end : {size : ℕ} → size ≡ count_at index k → size ≤ i → Imaged (images.Count n) pairs (member_rows (elements_in s index k)) symbols els
+  pub filling_end : {size : ℕ} → size ≡ count_at index k → size ≤ i → Imaged (Ok n) pairs (member_rows (elements_in s index k)) symbols els
   filling_end {size} c h =
       let m = elements_many s index k in
       let t : take i (elements_in s index k) ≡ elements_in s index k = take_all i (elements_in s index k) (omega arith) in
@@ -179,23 +179,22 @@ module _ {pairs : List Pair} {s index : List ℕ} {k i n : ℕ} {symbols els : L
   module _ {e : read.Element} (w : Within s e) (q : element_from s e ≡ element_in s index k i) (l : i < count_at index k) where
     pub filling_skip : e.parents ≡ 0 → Filling pairs s index k (i + 1) n symbols els
     filling_skip z = record
-        { filled = rw (member_skip w index k i q l z) f.filled; count = rw (member_skip w index k i q l z) f.count; few = omega (arith, f.few) }
+        { filled = rw (member_skip w index k i q l z) f.filled; count = rw (member_skip w index k i q l z) f.count }
 
     module _ (z : e.parents ≡ 0 → ⊥) where
       pub filling_next : {els' : List ℕ} → n < length symbols → column_limit * n ≤ length els
-          → Maps mapped.All pairs (member_row (element_from s e)).elements els els' (column_limit * n)
+          → Maps (Ok tt) pairs (member_row (element_from s e)).elements els els' (column_limit * n)
           → Filling pairs s index k (i + 1) (n + 1) (set symbols n e.ty.0) els'
       unfolding member_row
       filling_next a b m = record {
         filled = rw (member_next w index k i q l z)
             (filled_more f.filled (member_row (element_from s e)) n f.count a b (omega (arith, member_columns w, w.few)) m);
         count = rw (member_next w index k i q l z, length-append) (omega (arith, f.count));
-        few = omega (arith, f.few);
       }
 
-      pub filling_stop : {els' : List ℕ} → Maps mapped.Unmapped pairs (member_row (element_from s e)).elements els els' (column_limit * n)
+      pub filling_stop : {r : Refusal} {els' : List ℕ} → Maps (Err r) pairs (member_row (element_from s e)).elements els els' (column_limit * n)
           → any (row_lacks pairs) (member_rows (elements_in s index k)) ≡ true
-      filling_stop m = any_mem (row_lacks pairs) (member_rows (elements_in s index k)) (member_mem w index k i q l z) m.is
+      filling_stop m = any_mem (row_lacks pairs) (member_rows (elements_in s index k)) (member_mem w index k i q l z) m.is.1
 
 -- Whether a member row is new.
 module _ {s : List ℕ} {e : read.Element} (w : Within s e) (pairs : List Pair) (sources : List Row) where

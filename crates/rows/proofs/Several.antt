@@ -23,7 +23,7 @@ use Rattle.records.proofs.Lists.{keep_append}
 use Rattle.laws.proofs.Lists.{never, has_mem, mem_has, each_append, trichotomy, mem_at}
 use Rattle.laws.proofs.Numbering.{place_in}
 use Rattle.rule.specs.Elements.{element_numbers, Elements, Finds}
-use Rattle.rule.specs.declared.elements.Found.TheVariants.{At, Nothing}
+use Rattle.std.proofs.Common.{Some, None}
 use Rattle.rule.proofs.Finding.{Ascending, numbers_length}
 use Rattle.flags.specs.declared.Mask.{Mask}
 use Rattle.flags.specs.Flags.{places, flag_at, no_flags, none_set, PackedLess}
@@ -92,14 +92,14 @@ module _ {s : List ℕ} {m : Map} (h : MapIn s m) {els : List ℕ} {seen merged 
     unfolding each
     more = rw (on, each_append, q)
 
-    pub image_found : (target : Structure) → numbers_of target ≡ els → ImagesIn target (pairs_in s m) → Finds Nothing e els → ⊥
+    pub image_found : (target : Structure) → numbers_of target ≡ els → ImagesIn target (pairs_in s m) → Finds None e els → ⊥
     unfolding pair_at
     image_found target same named f =
         let n = pairs_many h in
         let i = named.named _ (mem_at (pairs_in s m) p no_pair (omega arith)) in
         never (mem_has _ (numbers_of target) i) (rw (q, ← same) at f.is)
 
-    module _ {i : ℕ} (f : Finds (At i) e els) (up : Ascending els) (a : i < length seen) (b : i < length merged) where
+    module _ {i : ℕ} (f : Finds (Some i) e els) (up : Ascending els) (a : i < length seen) (b : i < length merged) where
       here : get_or els i 0 ≡ e
       here = rw f.is.0 (place_in e els (has_mem e els f.is.2)).1
 

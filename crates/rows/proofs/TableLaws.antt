@@ -21,8 +21,7 @@ use Rattle.records.proofs.Link.{one_more}
 use Rattle.rule.specs.Rows.{Alike}
 use Rattle.rows.specs.Table as table
 use Rattle.rows.specs.Table.{lacks_image, row_lacks, image_in, Held, more, Maps}
-use Rattle.rows.specs.declared.table.Mapped.{Mapped}
-use Rattle.rows.specs.declared.table.Mapped.TheVariants as mapped
+use Rattle.std.proofs.Common.{Ok}
 use Rattle.records.proofs.Parts.{take_more, store_more, kept_get, kept_stretch, put_kept, put_stretch, any_append}
 
 -- The first j elements of a row are mapped.
@@ -54,7 +53,7 @@ module _ {pairs : List Pair} {es els₀ els : List ℕ} {at j : ℕ} (m : Mappin
   unfolding any
   mapping_stop h g q = m.left ∙ rw (one_more es j h, g, q)
 
-  pub mapping_end : length es ≡ j → Maps mapped.All pairs es els₀ els at
+  pub mapping_end : length es ≡ j → Maps (Ok tt) pairs es els₀ els at
   unfolding any
   mapping_end h =
       let l : length es ≤ j = omega arith in
@@ -62,14 +61,6 @@ module _ {pairs : List Pair} {es els₀ els : List ℕ} {at j : ℕ} (m : Mappin
         long = m.long;
         is = (m.left ∙ rw (drop_of_length-le es l), rw (h, m.put) (ap (λ (xs : List ℕ). take at els₀ ++ each (image_in pairs) xs) (take_all j es l)));
       }
-
--- The two answers.
-module _ {r : Mapped} {pairs : List Pair} {es els₀ els : List ℕ} {at : ℕ} (m : Maps r pairs es els₀ els at) where
-  pub maps_stop : r ≡ mapped.Unmapped → any (lacks_image pairs) es ≡ true
-  maps_stop e = rw e at m.is
-
-  pub maps_all : r ≡ mapped.All → Maps mapped.All pairs es els₀ els at
-  maps_all e = rw e at m
 
 -- Rows that are held stay held where their places do, and one more is held behind them.
 module _ {symbols els : List ℕ} where
@@ -97,7 +88,7 @@ filled_none pairs symbols els = record { fine = refl; held = table.none }
 
 module _ {pairs : List Pair} {rows : List Row} {symbols els els' : List ℕ} (f : Filled pairs rows symbols els) (r : Row) (n : ℕ) (count : n ≡ length rows) where
   pub filled_more : n < length symbols → column_limit * n ≤ length els → length r.elements ≤ column_limit
-      → Maps mapped.All pairs r.elements els els' (column_limit * n) → Filled pairs (rows ++ (r ∷ [])) (set symbols n r.symbol) els'
+      → Maps (Ok tt) pairs r.elements els els' (column_limit * n) → Filled pairs (rows ++ (r ∷ [])) (set symbols n r.symbol) els'
   unfolding any each image_row
   filled_more h k w m =
       let many : length (each (image_row pairs) rows) ≡ length rows = length_each (image_row pairs) rows in

@@ -14,15 +14,14 @@ use Rattle.laws.proofs.Lists.{mem_each, any_mem, length_each, get_d_each}
 use Rattle.flags.specs.Flags.{Packed}
 use Rattle.flags.specs.declared.Mask.{Mask}
 use Rattle.rule.specs.Lists.{els_in}
-use Rattle.rule.specs.Rows.{row_from, RowRead, Alike}
+use Rattle.rule.specs.Rows.{row_from, RowRead, RowsFrom, Alike}
 use Rattle.rule.specs.declared.rows.Row as read
 use Rattle.rows.specs.Table.{table_size, lacks_image, row_lacks, image_in, is_new, Maps, Imaged}
-use Rattle.rows.specs.declared.table.Mapped.TheVariants as mapped
-use Rattle.rows.specs.declared.table.Images.TheVariants as images
+use Rattle.std.proofs.Common.{Ok}
 use Rattle.records.proofs.Parts.{any_each}
 use Rattle.rule.proofs.ListLaws.{els_many}
 use Rattle.rule.proofs.RowFields.{Passed, all_passed}
-use Rattle.rule.proofs.RowReading.{NextRow, row_in, row_at, rows_more, rows_many}
+use Rattle.rule.proofs.RowReading.{NextRow, next_row, row_in, row_at, rows_more, rows_many}
 use Rattle.rows.proofs.TableLaws.{Filled, filled_none, filled_more}
 
 -- The first i rows of a section.
@@ -33,10 +32,15 @@ pub rows_start : (pairs : List Pair) (kind : ℕ) (fs : List Field) (symbols els
 unfolding each
 rows_start pairs kind fs symbols els = filled_none pairs symbols els
 
+-- There is room for a row that a loop reads.
+pub row_fits : {s : List ℕ} {from end at i : ℕ} {r : read.Row} (w : RowsFrom s from end) → Passed s end w.fields at i → at < end → RowRead s at r
+    → i < field_limit
+row_fits w p h q = let n = next_row p h q in let few = w.few in omega (arith, n.inside)
+
 -- The row that a loop reads is the next one.
 module _ {s : List ℕ} {end i : ℕ} {fs : List Field} {r : read.Row} (n : NextRow s end fs i r) (kind : ℕ) where
   pub rows_next : {at : ℕ} {pairs : List Pair} {symbols els els' : List ℕ} → RowRead s at r → i < field_limit → Filled pairs (first_rows kind i fs) symbols els
-      → length symbols ≡ field_limit → length els ≡ table_size → Maps mapped.All pairs (els_in s r.els) els els' (column_limit * i)
+      → length symbols ≡ field_limit → length els ≡ table_size → Maps (Ok tt) pairs (els_in s r.els) els els' (column_limit * i)
       → Filled pairs (first_rows kind (i + 1) fs) (set symbols i r.symbol) els'
   rows_next q l f a b m =
       rw (rows_more n kind) (filled_more f (row_from s kind r) i (rows_many n kind) (omega arith) (omega arith) (omega (arith, els_many q.inside, q.few)) m)
@@ -59,7 +63,7 @@ module _ {s : List ℕ} {end i : ℕ} {fs : List Field} {r : read.Row} (n : Next
       get_d_each (is_new pairs sources) (each (row_of kind) fs) i row false (omega (arith, n.inside)) ∙ rw (row_at n kind row, ← d)
 
 pub rows_end : {s : List ℕ} {end at i : ℕ} {fs : List Field} {pairs : List Pair} {symbols els : List ℕ} → Passed s end fs at i → end ≤ at → (kind : ℕ)
-    → Filled pairs (first_rows kind i fs) symbols els → Imaged (images.Count i) pairs (each (row_of kind) fs) symbols els
+    → Filled pairs (first_rows kind i fs) symbols els → Imaged (Ok i) pairs (each (row_of kind) fs) symbols els
 rows_end {fs = fs} {pairs} {symbols} {els} p h kind f =
     let e = all_passed p h in
     let g : Filled pairs (each (row_of kind) fs) symbols els = rw e.0 at f in

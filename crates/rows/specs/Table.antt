@@ -1,14 +1,12 @@
 -- Rows, and the table that holds their images.
-use Rattle.std.specs.Prelude.{ℕ, ◌+◌, ◌*◌, ◌≤◌, Bool, true, false, not, List, [], ◌∷◌, ◌++◌, ◌≡◌, length, get_or, take}
+use Rattle.std.specs.Prelude.{ℕ, ◌+◌, ◌*◌, ◌≤◌, Bool, true, false, not, List, [], ◌∷◌, ◌++◌, ◌≡◌, length, get_or, take, Result, Ok, Err}
 use Rattle.definition.specs.Base.{or_default, each, any, given}
 use Rattle.definition.specs.Limits.{field_limit, column_limit}
 use Rattle.definition.specs.Rule.{Row, Pair}
 use Rattle.definition.specs.Rows.{image_of, image_row, same_row}
 use Rattle.records.specs.Places.{stretch}
-use Rattle.rows.specs.declared.table.Mapped.{Mapped}
-use Rattle.rows.specs.declared.table.Mapped.TheVariants as mapped
-use Rattle.rows.specs.declared.table.Images.{Images}
-use Rattle.rows.specs.declared.table.Images.TheVariants as images
+use Rattle.records.specs.declared.refusal.Refusal.{Refusal}
+use Rattle.records.specs.declared.refusal.Refusal.TheVariants as refusal
 use Rattle.rule.specs.Rows.{Alike}
 
 abbrev pub table_size : ℕ
@@ -41,19 +39,20 @@ pub record Holds (kind : ℕ) (columns : ℕ → ℕ) (pairs : List Pair) (sourc
   pub count : n ≡ length sources
   pub alike : Alike kind columns sources
 
--- What the mapping of a row answers: an element has no image, or the table has their images from a place on, and is as it was before it.
-abbrev MapsAs : Mapped → List Pair → List ℕ → List ℕ → List ℕ → ℕ → Type 0
-MapsAs mapped.Unmapped pairs es els₀ els at = any (lacks_image pairs) es ≡ true
-MapsAs mapped.All pairs es els₀ els at = (any (lacks_image pairs) es ≡ false) × (take (at + length es) els ≡ take at els₀ ++ each (image_in pairs) es)
+-- What the mapping of a row answers: 26 where an element has no image, or the table has their images from a place on, and is as it was
+-- before it.
+abbrev MapsAs : Result (Unit {0}) Refusal → List Pair → List ℕ → List ℕ → List ℕ → ℕ → Type 0
+MapsAs (Err r) pairs es els₀ els at = (r ≡ refusal.UnmappedElement) × (any (lacks_image pairs) es ≡ true)
+MapsAs (Ok _) pairs es els₀ els at = (any (lacks_image pairs) es ≡ false) × (take (at + length es) els ≡ take at els₀ ++ each (image_in pairs) es)
 
-pub record Maps (r : Mapped) (pairs : List Pair) (es els₀ els : List ℕ) (at : ℕ) : Type 0 where
+pub record Maps (r : Result (Unit {0}) Refusal) (pairs : List Pair) (es els₀ els : List ℕ) (at : ℕ) : Type 0 where
   pub long : length els ≡ length els₀
   pub is : MapsAs r pairs es els₀ els at
 
 -- And that of rows.
-abbrev ImagedAs : Images → List Pair → List Row → List ℕ → List ℕ → Type 0
-ImagedAs images.Unmapped pairs rows symbols els = any (row_lacks pairs) rows ≡ true
-ImagedAs (images.Count n) pairs rows symbols els = (any (row_lacks pairs) rows ≡ false) × (n ≡ length rows) × Held symbols els 0 (each (image_row pairs) rows)
+abbrev ImagedAs : Result ℕ Refusal → List Pair → List Row → List ℕ → List ℕ → Type 0
+ImagedAs (Err r) pairs rows symbols els = (r ≡ refusal.UnmappedElement) × (any (row_lacks pairs) rows ≡ true)
+ImagedAs (Ok n) pairs rows symbols els = (any (row_lacks pairs) rows ≡ false) × (n ≡ length rows) × Held symbols els 0 (each (image_row pairs) rows)
 
-pub record Imaged (r : Images) (pairs : List Pair) (rows : List Row) (symbols els : List ℕ) : Type 0 where
+pub record Imaged (r : Result ℕ Refusal) (pairs : List Pair) (rows : List Row) (symbols els : List ℕ) : Type 0 where
   pub is : ImagedAs r pairs rows symbols els

@@ -20,7 +20,7 @@ ghost use Rattle.rows.specs.Arguments.{symbols_of, parents_of, Declared, Marks};
 ghost use Rattle.rule.specs.Layout.{place_r, place_a, section_from, section_to};
 
 use flags::PLACES;
-use rule::elements::{Found, find_element};
+use rule::elements::find_element;
 use rule::ids::{PLACE_A, PLACE_R, RULE_INDEX};
 use rule::lists::{Els, behind, el_at};
 use rule::rows::read_row;
@@ -41,9 +41,10 @@ fn symbol_of(kind: u8, number: u16) -> RowSymbol
     ensures declared { (counts : Counts) → number < symbols_of counts kind → Declared counts result }
 {
     if kind == PREDICATE {
-        return RowSymbol::Pred(PredId(number));
+        RowSymbol::Pred(PredId(number))
+    } else {
+        RowSymbol::Func(FuncId(number))
     }
-    RowSymbol::Func(FuncId(number))
 }
 
 // How many parents a row lists before its arguments.
@@ -67,14 +68,10 @@ fn mark(s: &[u8], index: &[u16; RULE_INDEX], k: usize, l: Els, flags: &mut [bool
         → Marks flags.new (element_numbers s.now index.now k) (seen ++ els_in s.now l) }
     ensures flags_len { length flags.new ≡ places }
 {
-    let count = l.count;
-    let mut j: usize = 0;
-    while j < count {
-        let f = find_element(s, index, k, el_at(s, l, j));
-        if let Found::At(i) = f {
+    for j in 0..l.count {
+        if let Some(i) = find_element(s, index, k, el_at(s, l, j)) {
             flags[i] = true;
         }
-        j += 1;
     }
 }
 

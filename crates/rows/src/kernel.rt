@@ -12,8 +12,7 @@ ghost use Rattle.rule.specs.MapFields.{pair_at, pairs_in, MapIn, KeysIn, ImagesI
 ghost use Rattle.rows.specs.Kernel.{clash, images_ascend, KeyVars, KeyTypes, TypesOf, SideAt, Typed, Merged};
 
 use flags::{Mask, NO_FLAGS, PLACES, packed_less};
-use records::fields::place;
-use rule::elements::{Found, element_count, find_element};
+use rule::elements::{element_count, find_element};
 use rule::ids::{FIELDS, RULE_INDEX};
 use rule::maps::{Map, pair_image, pair_key};
 
@@ -33,14 +32,11 @@ pub fn key_vars(
         → KeyVars source (pairs_in s.now m) result }
 {
     let mut vars = [0u16; FIELDS];
-    let mut p: usize = 0;
-    while p < m.pairs {
-        let f = find_element(s, index, k, pair_key(s, m, p));
-        let Found::At(i) = f else {
+    for p in 0..m.pairs {
+        let Some(i) = find_element(s, index, k, pair_key(s, m, p)) else {
             return vars;
         };
         vars[p] = row[i];
-        p += 1;
     }
     vars
 }
@@ -54,14 +50,12 @@ fn images_ascend(s: &[u8], m: Map) -> bool
         return true;
     }
     let mut last = pair_image(s, m, 0);
-    let mut p: usize = 1;
-    while p < m.pairs {
+    for p in 1..m.pairs {
         let e = pair_image(s, m, p);
-        if e.0 <= last.0 {
+        if e <= last {
             return false;
         }
         last = e;
-        p += 1;
     }
     true
 }
@@ -81,15 +75,12 @@ pub fn merged_els(s: &[u8], index: &[u16; RULE_INDEX], target: usize, m: Map) ->
     }
     let mut seen = [false; PLACES];
     let mut merged = [false; PLACES];
-    let mut p: usize = 0;
-    while p < m.pairs {
-        let f = find_element(s, index, target, pair_image(s, m, p));
-        let Found::At(j) = f else {
+    for p in 0..m.pairs {
+        let Some(j) = find_element(s, index, target, pair_image(s, m, p)) else {
             return NO_FLAGS;
         };
         merged[j] = seen[j];
         seen[j] = true;
-        p += 1;
     }
     packed_less(merged, [false; PLACES], element_count(index, target))
 }
@@ -103,16 +94,11 @@ fn clashes_later(s: &[u8], m: Map, vars: &[u16; FIELDS], types: &[u8], p: usize)
         → result ≡ any (clash type (pair_at s.now m p)) (drop (p + 1) (pairs_in s.now m)) }
 {
     let image = pair_image(s, m, p);
-    let ty = types[place(vars[p])];
-    let mut q = p + 1;
-    while q < m.pairs {
-        let other = pair_image(s, m, q);
-        if image.0 == other.0 {
-            if ty != types[place(vars[q])] {
-                return true;
-            }
+    let ty = types[usize::from(vars[p])];
+    for q in p + 1..m.pairs {
+        if pair_image(s, m, q) == image && types[usize::from(vars[q])] != ty {
+            return true;
         }
-        q += 1;
     }
     false
 }
@@ -125,12 +111,10 @@ pub fn kernel_clash(s: &[u8], m: Map, vars: &[u16; FIELDS], types: &[u8]) -> boo
         → TypesOf table types.now → ImagesIn target.structure (pairs_in s.now m)
         → result ≡ kernel_clashes table source target (pairs_in s.now m) }
 {
-    let mut p: usize = 0;
-    while p < m.pairs {
+    for p in 0..m.pairs {
         if clashes_later(s, m, vars, types, p) {
             return true;
         }
-        p += 1;
     }
     false
 }

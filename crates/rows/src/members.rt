@@ -13,11 +13,12 @@ ghost use Rattle.rows.specs.Table.{table_size, Maps, Imaged, Held, Holds};
 ghost use Rattle.rule.specs.ElementFields.{element_from, elements_in, ElementsAt, Within};
 ghost use Rattle.rows.specs.Members.{new_member};
 
-use crate::table::{Images, Mapped, ROWS, TABLE, map_elements, same_elements};
+use crate::table::{ROWS, TABLE, map_elements, same_elements};
 use flags::PLACES;
+use records::refusal::Refusal;
 use rule::elements::{Element, element_count, parents_of, read_element};
 use rule::ids::RULE_INDEX;
-use rule::maps::{Image, Map, image_of};
+use rule::maps::{Map, image_of};
 use signature::ids::COLUMNS;
 
 // Has a structure any member row?
@@ -26,38 +27,34 @@ pub fn has_members(s: &[u8], index: &[u16; RULE_INDEX], k: usize) -> bool
     requires elements_at { ElementsAt s.now index.now k }
     ensures { result ≡ any has_parents (elements_in s.now index.now k) }
 {
-    let count = element_count(index, k);
-    let mut i: usize = 0;
-    while i < count {
-        let e = read_element(s, index, k, i);
-        if e.parents != 0 {
+    for i in 0..element_count(index, k) {
+        if read_element(s, index, k, i).parents != 0 {
             return true;
         }
-        i += 1;
     }
     false
 }
 
-// The image of an element's member row, into the table from a place on.
-fn map_member(s: &[u8], e: Element, m: Map, els: &mut [u16; TABLE], at: usize) -> Mapped
+// The image of an element's member row, into the table from a place on; 26 where an element has none.
+fn map_member(
+    s: &[u8],
+    e: Element,
+    m: Map,
+    els: &mut [u16; TABLE],
+    at: usize,
+) -> Result<(), Refusal>
     requires map_in { MapIn s.now m }
     requires within { Within s.now e }
     requires column_limit_bound { (at + column_limit ≤ table_size) × (length els.old ≡ table_size) }
     ensures { Maps result (pairs_in s.now m) (member_row (element_from s.now e)).elements els.old els.new at }
 {
-    let row = map_elements(s, parents_of(e), m, els, at);
-    let Mapped::All = row else {
-        return Mapped::Unmapped;
-    };
-    let i = image_of(s, m, e.number);
-    let Image::Of(own) = i else {
-        return Mapped::Unmapped;
-    };
+    map_elements(s, parents_of(e), m, els, at)?;
+    let own = image_of(s, m, e.number).ok_or(Refusal::UnmappedElement)?;
     els[at + e.parents] = own.0;
-    Mapped::All
+    Ok(())
 }
 
-// The images of the member rows of a structure, in the elements' order.
+// The images of the member rows of a structure, in the elements' order: how many there are, or 26 where an element has none.
 pub fn mapped_members(
     s: &[u8],
     index: &[u16; RULE_INDEX],
@@ -65,7 +62,7 @@ pub fn mapped_members(
     m: Map,
     symbols: &mut [u16; ROWS],
     els: &mut [u16; TABLE],
-) -> Images
+) -> Result<usize, Refusal>
     requires map_in { MapIn s.now m }
     requires k_lt_structure_limit { k < structure_limit }
     requires elements_at { ElementsAt s.now index.now k }
@@ -74,23 +71,17 @@ pub fn mapped_members(
         els.new }
     ensures symbols_len_2 { (length symbols.new ≡ field_limit) × (length els.new ≡ table_size) }
 {
-    let count = element_count(index, k);
     let mut n: usize = 0;
-    let mut i: usize = 0;
-    while i < count {
+    for i in 0..element_count(index, k) {
         let e = read_element(s, index, k, i);
-        i += 1;
         if e.parents == 0 {
             continue;
         }
-        let row = map_member(s, e, m, els, COLUMNS * n);
-        let Mapped::All = row else {
-            return Images::Unmapped;
-        };
+        map_member(s, e, m, els, COLUMNS * n)?;
         symbols[n] = e.ty.0;
         n += 1;
     }
-    Images::Count(n)
+    Ok(n)
 }
 
 // Are the elements of a member row those of the table from a place on?
@@ -99,11 +90,7 @@ fn same_member(s: &[u8], e: Element, els: &[u16; TABLE], at: usize) -> bool
     requires column_limit_bound { (at + column_limit ≤ table_size) × (length els.now ≡ table_size) }
     ensures { result ≡ same_list (member_row (element_from s.now e)).elements (stretch els.now at (e.parents + 1)) }
 {
-    let own = e.number;
-    if els[at + e.parents] != own.0 {
-        return false;
-    }
-    same_elements(s, parents_of(e), els, at)
+    els[at + e.parents] == e.number.0 && same_elements(s, parents_of(e), els, at)
 }
 
 // Is an element's member row one of those in the table?
@@ -119,15 +106,10 @@ pub fn is_member_image(
     ensures { (columns : ℕ → ℕ) (qs : List Row) → Held symbols.now els.now 0 qs → images ≡ length qs → Alike member columns qs
         → e.parents + 1 ≡ columns e.ty.0 → result ≡ any (same_row (member_row (element_from s.now e))) qs }
 {
-    let ty = e.ty;
-    let mut i: usize = 0;
-    while i < images {
-        if symbols[i] == ty.0 {
-            if same_member(s, e, els, COLUMNS * i) {
-                return true;
-            }
+    for i in 0..images {
+        if symbols[i] == e.ty.0 && same_member(s, e, els, COLUMNS * i) {
+            return true;
         }
-        i += 1;
     }
     false
 }
@@ -146,10 +128,7 @@ fn is_new_member(
         → Holds member columns pairs sources symbols.now els.now images
         → ((e.parents ≡ 0 → ⊥) → e.parents + 1 ≡ columns e.ty.0) → result ≡ new_member pairs sources (element_from s.now e) }
 {
-    if e.parents == 0 {
-        return false;
-    }
-    !is_member_image(s, e, symbols, els, images)
+    e.parents != 0 && !is_member_image(s, e, symbols, els, images)
 }
 
 // Which elements have a member row that is no image of one of the source.
@@ -169,13 +148,10 @@ pub fn new_members(
         → Alike member columns (member_rows (elements_in s.now index.now k))
         → take (count_at index.now k) result ≡ each (new_member pairs sources) (elements_in s.now index.now k) }
 {
-    let count = element_count(index, k);
     let mut flags = [false; PLACES];
-    let mut i: usize = 0;
-    while i < count {
+    for i in 0..element_count(index, k) {
         let e = read_element(s, index, k, i);
         flags[i] = is_new_member(s, e, symbols, els, images);
-        i += 1;
     }
     flags
 }

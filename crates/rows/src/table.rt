@@ -14,9 +14,10 @@ ghost use Rattle.rule.specs.Rows.{row_from, RowsFrom, Alike};
 ghost use Rattle.rows.specs.Table.{table_size, Maps, Imaged, Held, is_new, Holds};
 
 use flags::{Mask, NO_FLAGS, with_flag};
+use records::refusal::Refusal;
 use rule::ids::FIELDS;
 use rule::lists::{Els, el_at};
-use rule::maps::{Image, Map, image_of};
+use rule::maps::{Map, image_of};
 use rule::rows::{Row, read_row};
 use signature::ids::COLUMNS;
 
@@ -25,41 +26,27 @@ pub const ROWS: usize = FIELDS;
 
 pub const TABLE: usize = ROWS * COLUMNS;
 
-// Whether each element of a row has an image.
-#[derive(Clone, Copy)]
-pub enum Mapped {
-    All,
-    Unmapped,
-}
-
-// The images of rows: how many, or that an element of one has none.
-#[derive(Clone, Copy)]
-pub enum Images {
-    Count(usize),
-    Unmapped,
-}
-
-// The images of the elements of a list, into the table from a place on.
-pub fn map_elements(s: &[u8], l: Els, m: Map, els: &mut [u16; TABLE], at: usize) -> Mapped
+// The images of the elements of a list, into the table from a place on; 26 where one has none.
+pub fn map_elements(
+    s: &[u8],
+    l: Els,
+    m: Map,
+    els: &mut [u16; TABLE],
+    at: usize,
+) -> Result<(), Refusal>
     requires map_in { MapIn s.now m }
     requires els_inside { ElsInside s.now l }
     requires count_bound { (at + l.count ≤ table_size) × (length els.old ≡ table_size) }
     ensures { Maps result (pairs_in s.now m) (els_in s.now l) els.old els.new at }
 {
-    let count = l.count;
-    let mut j: usize = 0;
-    while j < count {
-        let i = image_of(s, m, el_at(s, l, j));
-        let Image::Of(e) = i else {
-            return Mapped::Unmapped;
-        };
+    for j in 0..l.count {
+        let e = image_of(s, m, el_at(s, l, j)).ok_or(Refusal::UnmappedElement)?;
         els[at + j] = e.0;
-        j += 1;
     }
-    Mapped::All
+    Ok(())
 }
 
-// The images of the rows of a section.
+// The images of the rows of a section: how many there are, or 26 where an element has none.
 pub fn mapped_rel_apps(
     s: &[u8],
     from: usize,
@@ -67,7 +54,7 @@ pub fn mapped_rel_apps(
     m: Map,
     symbols: &mut [u16; ROWS],
     els: &mut [u16; TABLE],
-) -> Images
+) -> Result<usize, Refusal>
     requires map_in { MapIn s.now m }
     requires rows_from { RowsFrom s.now from end }
     requires symbols_len { (length symbols.old ≡ field_limit) × (length els.old ≡ table_size) }
@@ -80,14 +67,11 @@ pub fn mapped_rel_apps(
     while at < end {
         let row = read_row(s, at);
         symbols[i] = row.symbol;
-        let mapped = map_elements(s, row.els, m, els, COLUMNS * i);
-        let Mapped::All = mapped else {
-            return Images::Unmapped;
-        };
+        map_elements(s, row.els, m, els, COLUMNS * i)?;
         i += 1;
         at = row.next;
     }
-    Images::Count(i)
+    Ok(i)
 }
 
 // Are the elements of a list those of the table from a place on?
@@ -96,14 +80,10 @@ pub fn same_elements(s: &[u8], l: Els, els: &[u16; TABLE], at: usize) -> bool
     requires count_bound { (at + l.count ≤ table_size) × (length els.now ≡ table_size) }
     ensures { result ≡ same_list (els_in s.now l) (stretch els.now at l.count) }
 {
-    let count = l.count;
-    let mut j: usize = 0;
-    while j < count {
-        let e = el_at(s, l, j);
-        if e.0 != els[at + j] {
+    for j in 0..l.count {
+        if el_at(s, l, j).0 != els[at + j] {
             return false;
         }
-        j += 1;
     }
     true
 }
@@ -121,15 +101,10 @@ pub fn is_image(
     ensures { (kind : ℕ) (columns : ℕ → ℕ) (qs : List definition_rule.Row) → Held symbols.now els.now 0 qs → images ≡ length qs
         → Alike kind columns qs → row.els.count ≡ columns row.symbol → result ≡ any (same_row (row_from s.now kind row)) qs }
 {
-    let mut i: usize = 0;
-    while i < images {
-        let held = symbols[i];
-        if held == row.symbol {
-            if same_elements(s, row.els, els, COLUMNS * i) {
-                return true;
-            }
+    for i in 0..images {
+        if symbols[i] == row.symbol && same_elements(s, row.els, els, COLUMNS * i) {
+            return true;
         }
-        i += 1;
     }
     false
 }

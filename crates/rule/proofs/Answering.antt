@@ -11,47 +11,47 @@ use Rattle.definition.specs.Limits.{rule_bytes}
 use Rattle.definition.specs.Records.{Field, Block, blocks, fault_among}
 use Rattle.definition.specs.Signature.{Signature}
 use Rattle.definition.specs.Rule.{head_fault, structures_fault, named_in, rule_part, rule_of, read_rule}
-use Rattle.signature.specs.Faults.{fault_of}
-use Rattle.signature.specs.declared.faults.Fault.{Fault}
-use Rattle.signature.specs.declared.faults.Fault.TheVariants.{Sound, Draws}
+use Rattle.records.specs.Refusals.{number, fault_of}
+use Rattle.records.specs.declared.refusal.Refusal.{Refusal}
+use Rattle.std.proofs.Common.{Ok, Err}
 use Rattle.rule.specs.Elements.{numbers_in, Known}
-use Rattle.rule.specs.Faults.{tail_fault}
+use Rattle.rule.specs.Faults.{Checked, tail_fault}
 use Rattle.rule.specs.Answers.{SectionChecked, Structured, Tailed, Passes, AllStored, AllHold, Indexed}
 use Rattle.rule.proofs.Whole.{of_n, read_head, read_structures, read_tail, read_part_lem, read_sound, no_fault, read_indexed}
 use Rattle.rule.proofs.Whole.{structured, head_run, ended_same, ended_tail, ended_named}
 
 module _ (sig : Signature) {s index : List ℕ} {whole : Bool} {n : ℕ} (short : length s ≤ rule_bytes) (p : Passes s index whole n)
-    (h : Fault) (head : SectionChecked h sig s index 0 letter_n 0) where
+    (h : Checked) (head : SectionChecked h sig s index 0 letter_n 0) where
   head_fault_lem : fault_of h ≡ fault_among letter_n head_fault (rule_part s).fields
   head_fault_lem = of_n sig _ _ h (head _ (head_run p))
 
-  pub answer_head : {k : ℕ} → h ≡ Draws k → refused k ≡ read_rule sig s
+  pub answer_head : {f : Refusal} → h ≡ Err f → refused (number f) ≡ read_rule sig s
   answer_head = read_head sig s short head_fault_lem
 
-  module _ (head_sound : h ≡ Sound) (b : Fault)
+  module _ {u : Unit} (head_sound : h ≡ Ok u) (b : Checked)
       (checked : (bs : List Block) → Structured s index n bs → fault_of b ≡ structures_fault sig 0 bs) where
     structures_fault_lem : fault_of b ≡ structures_fault sig 0 (blocks letter_s (rule_part s).fields)
     structures_fault_lem = checked _ (structured p)
 
-    pub answer_structures : {k : ℕ} → b ≡ Draws k → refused k ≡ read_rule sig s
+    pub answer_structures : {f : Refusal} → b ≡ Err f → refused (number f) ≡ read_rule sig s
     answer_structures = read_structures sig s short head_fault_lem head_sound structures_fault_lem
 
     module _ {index' : List ℕ} (held : (bs : List Block) → Structured s index n bs → AllHold b s index' n bs)
-        (stored : AllStored b s index index' n) (sound : b ≡ Sound) (x : Fault)
+        (stored : AllStored b s index index' n) {v : Unit} (sound : b ≡ Ok v) (x : Checked)
         (tail : (fs : List Field) → Tailed s index' fs → numbers_in s index' n ≡ named_in fs → fault_of x ≡ tail_fault fs) where
       known : Known s index' n
       known = (rw sound at stored).known
 
-      hold : AllHold Sound s index' n (blocks letter_s (rule_part s).fields)
+      hold : AllHold (Ok v) s index' n (blocks letter_s (rule_part s).fields)
       hold = rw sound at (held _ (structured p))
 
       tail_fault_lem : fault_of x ≡ tail_fault (rule_part s).fields
       tail_fault_lem = tail _ (ended_tail p stored.kept known) (ended_named p stored.kept known hold)
 
-      pub answer_tail : {k : ℕ} → x ≡ Draws k → refused k ≡ read_rule sig s
+      pub answer_tail : {f : Refusal} → x ≡ Err f → refused (number f) ≡ read_rule sig s
       answer_tail = read_tail sig s short head_fault_lem head_sound structures_fault_lem sound tail_fault_lem
 
-      module _ (tail_sound : x ≡ Sound) where
+      module _ {t : Unit} (tail_sound : x ≡ Ok t) where
         pub answer_part : whole ≡ false → refused 2 ≡ read_rule sig s
         answer_part = read_part_lem sig s short head_fault_lem head_sound structures_fault_lem sound tail_fault_lem tail_sound
             (ended_same p stored.kept known)

@@ -12,9 +12,10 @@ use Rattle.laws.proofs.Lists.{and_left, and_right}
 use Rattle.records.specs.Places.{field_at, field_of, Run, got}
 use Rattle.std.proofs.Common.{None}
 use Rattle.records.proofs.Runs.{Behind, run_got, run_bad, run_end}
-use Rattle.signature.specs.Faults.{fault_of}
-use Rattle.signature.specs.declared.faults.Fault.{Fault}
-use Rattle.signature.specs.declared.faults.Fault.TheVariants.{Sound, Draws}
+use Rattle.records.specs.Refusals.{number, fault_of}
+use Rattle.rule.specs.Faults.{Checked}
+use Rattle.records.specs.declared.refusal.Refusal.{Refusal}
+use Rattle.std.proofs.Common.{Ok, Err}
 
 abbrev pub OfLetter : ℕ → List Field → Type 0
 OfLetter letter fs = all (λ (f : Field). eqb f.letter letter) fs ≡ true
@@ -77,8 +78,8 @@ module _ {s : List ℕ} {letter : ℕ} {check : ℕ → Option Field → Field �
               let q : l ≡ letter = eqb-true l letter (letter_head letter (field_of s l start len) b.rest o) in
               record { is = q; rest = b.rest; same = b.same ∙ rw q; run = b.run; letters = letter_tail letter (field_of s l start len) b.rest o }
 
-      pub check_fault : {r : Fault} {n : ℕ} → r ≡ Draws n → fault_of r ≡ check count last (field_of s letter start len)
-          → fault_of r ≡ fault_among letter check fs
+      pub check_fault : {r : Checked} {f : Refusal} → r ≡ Err f → fault_of r ≡ check count last (field_of s letter start len)
+          → some (number f) ≡ fault_among letter check fs
       unfolding fault_from
       check_fault d k = sym (w.fault ∙ rw (first.same, ← k, d))
 
@@ -87,7 +88,7 @@ module _ {s : List ℕ} {letter : ℕ} {check : ℕ → Option Field → Field �
       unfolding fault_from
       passed rest q k = rw (q, ← k)
 
-      unfoldable pub check_next : {r : Fault} → r ≡ Sound → fault_of r ≡ check count last (field_of s letter start len)
+      unfoldable pub check_next : {r : Checked} {u : Unit} → r ≡ Ok u → fault_of r ≡ check count last (field_of s letter start len)
           → Checking s letter check to fs next (count + 1) (some (field_of s letter start len))
       check_next d k = let f = first in
           record { rest = f.rest; run = f.run; letters = f.letters; fault = w.fault ∙ passed f.rest f.same (rw d at k) }

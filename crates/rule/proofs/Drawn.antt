@@ -9,7 +9,7 @@ use mathlib.Core.Option.{Option, none, some}
 use mathlib.Core.Path.{◌≡◌, refl, sym, ◌∙◌, ap}
 use lib.Dec.{eqb, ltb, leb}
 use lib.ListN.{length, get_or, take, drop}
-use borrow.Author.Tests.{le-ltb, lt-ltb, eq-eqb, ne_eqb, ltb-true, ltb-false, not-false}
+use borrow.Author.Tests.{eqb-true, le-ltb, eq-eqb, ne_eqb, ltb-true, ltb-false, not-false}
 use Rattle.definition.specs.Base.{pick, less, all, has, lowest, empty, span}
 use Rattle.definition.specs.Letters.{letter_r, letter_a, letter_v, letter_i, predicate, function}
 use Rattle.definition.specs.Limits.{structure_limit, field_limit, map_limit, name_bytes}
@@ -17,7 +17,7 @@ use Rattle.definition.specs.Records.{Field, numbers, number_at, not_above, bad_n
 use Rattle.definition.specs.Signature.{Signature, type_parents, pred_of, func_of, column_count, arity, symbol_count}
 use Rattle.definition.specs.Rule.{Pair, element_of, row_of, name_of, pairs_of, map_of, auxiliary_of, row_key, keys_ascend, elements_at, class_falls, head_fault}
 use Rattle.definition.specs.Rule.{structure_fault, element_fault, row_fault, name_fault, map_fault, kind_fault, auxiliary_fault}
-use Rattle.laws.proofs.Lists.{length_each, get_d_each, or_right, never}
+use Rattle.laws.proofs.Lists.{length_each, get_d_each, or_left, or_right, never}
 use Rattle.records.specs.Places.{two_at, stretch, field_of}
 use Rattle.records.proofs.Lists.{all_get}
 use Rattle.records.proofs.Numbers.{length_stretch, stretch_at, drop_stretch, take_stretch, length_numbers_in, numbers_in_lem, number_in}
@@ -30,9 +30,10 @@ use Rattle.signature.specs.declared.ids.Relation.{Relation}
 use Rattle.signature.proofs.ByKind.{counted}
 use Rattle.laws.proofs.Numbers.{drop_numbers, take_numbers}
 use Rattle.rule.specs.Faults.{name_key, pair_named, last_field, LastIn, AboveLast, Fits, row_symbols, row_columns, row_check, last_named, check_of}
-use Rattle.rule.specs.declared.order.Last.{Last}
-use Rattle.rule.specs.declared.order.Last.TheVariants.{Content, Nothing}
-use Rattle.signature.specs.declared.faults.Fault.TheVariants.{Sound, Draws}
+use Rattle.std.proofs.Common as std
+use Rattle.std.proofs.Common.{Some, None, Ok, Err}
+use Rattle.records.specs.declared.fields.Field as read
+use Rattle.records.specs.declared.refusal.Refusal.{Refusal}
 use Rattle.rule.specs.Elements.{element_numbers, numbers_in}
 use Rattle.rule.proofs.Letters.{get_d_span, length_span}
 
@@ -40,6 +41,42 @@ use Rattle.rule.proofs.Letters.{get_d_span, length_span}
 abbrev pub first : List (ℕ × Bool) → Option ℕ
 first [] = none
 first (c ∷ cs) = pick c.1 (some c.0) (first cs)
+
+-- Where the first test fails, what it was to rule out may be used in the others.
+unless : (t : Bool) (z : Option ℕ) {x y : Option ℕ} → (t ≡ false → x ≡ y) → pick t z x ≡ pick t z y
+unless true z h = refl
+unless false z h = h refl
+
+-- A content of numbers is as long as the least asks.
+pub numbers_long : (len least : ℕ) → (odd len || ltb len (2 * least)) ≡ false → 2 * least ≤ len
+numbers_long len least e = ltb-false len (2 * least) (or_right (odd len) (ltb len (2 * least)) e)
+
+pub row_long : (len results : ℕ) → (odd len || ltb len (2 * (1 + results))) ≡ false → 2 ≤ len
+row_long len results e = omega (arith, numbers_long len (1 + results) e)
+
+-- What comes behind a test that failed does not matter.
+either : (t : Bool) (z r : Option ℕ) {x y : Bool} → (t ≡ true → x ≡ y) → pick (not t || x) z r ≡ pick (not t || y) z r
+either true z r h = rw (h refl)
+either false z r h = refl
+
+-- The elements that can be named in the first n structures.
+pub named_length : (s index : List ℕ) (n : ℕ) → length (numbers_in s index n) ≡ n
+unfolding numbers_in
+named_length s index n = length_each (element_numbers s index) (span n 0) ∙ length_span n 0
+
+pub named_at : (s index : List ℕ) (n k : ℕ) → k < n → elements_at (numbers_in s index n) k ≡ element_numbers s index k
+unfolding numbers_in
+named_at s index n k h =
+    get_d_each (element_numbers s index) (span n 0) k 0 [] (rw (length_span n 0) h) ∙ ap (element_numbers s index) (get_d_span n 0 k 0 h ∙ omega arith)
+
+-- A source and a target that can be named.
+pub ends_below : (s : List ℕ) (start n : ℕ) → start + 4 ≤ length s → all (λ (k : ℕ). ltb k n) (numbers (stretch s start 4)) ≡ true
+    → (two_at s start < n) × (two_at s (start + 2) < n)
+ends_below s start n h e = (rw (add-zero start) at (below 0 (omega arith)), below 1 (omega arith))
+  where
+    below : (i : ℕ) → i < 2 → two_at s (start + 2 * i) < n
+    below i l = ltb-true _ n
+        (rw (numbers_in_lem s start 4 h i l) at (all_get (λ (k : ℕ). ltb k n) (numbers (stretch s start 4)) i 0 e (rw (length_numbers_in s start 4 h) l)))
 
 pub structure_tests : (before len : ℕ) (f : Field) → length f.content ≡ len
     → structure_fault before f ≡ first ((3, not (eqb len 0)) ∷ (4, leb structure_limit before) ∷ [])
@@ -71,89 +108,80 @@ module _ (s : List ℕ) (start len : ℕ) (h : start + len ≤ length s) (letter
 
   -- An E field.
   module _ (sig : Signature) (els : List ℕ) (before : ℕ) (last : Option Field) where
-    pub element_short : (odd len || ltb len (2 * 2)) ≡ true → element_fault sig els before last (field_of s letter start len) ≡ some 3
-    unfolding element_fault lowest
-    element_short e = rw (size, e)
-
-    pub element_tests : (odd len || ltb len (2 * 2)) ≡ false → 4 ≤ len → element_fault sig els before last (field_of s letter start len) ≡ first (
-        (4, leb field_limit before)
+    pub element_tests : element_fault sig els before last (field_of s letter start len) ≡ first (
+        (3, odd len || ltb len (2 * 2))
+        ∷ (4, leb field_limit before)
         ∷ (5, not (ltb (two_at s (start + 2)) (length sig.types)) || not (all (λ (e : ℕ). has e els) (numbers (stretch s (start + 4) (len - 4)))))
         ∷ (6, not_above (λ (g : Field). take 1 (numbers g.content)) last (field_of s letter start len))
         ∷ (7, not (eqb (len / 2 - 2) (length (type_parents sig (two_at s (start + 2)))))) ∷ [])
     unfolding element_fault lowest element_of
-    element_tests e l = rw (size, e, number 1 l, rest_length 2 l, rest 2)
+    element_tests = rw size (unless (odd len || ltb len (2 * 2)) _ (λ e. let l = numbers_long len 2 e in rw (number 1 l, rest_length 2 l, rest 2)))
 
   -- An R or A field.
   module _ (results symbols : ℕ) (columns : ℕ → ℕ) (els : List ℕ) (before : ℕ) (last : Option Field) where
-    pub row_short : (odd len || ltb len (2 * (1 + results))) ≡ true → row_fault results symbols columns els before last (field_of s letter start len) ≡ some 3
-    unfolding row_fault lowest
-    row_short e = rw (size, e)
-
-    pub row_tests : (odd len || ltb len (2 * (1 + results))) ≡ false → 2 ≤ len
-        → row_fault results symbols columns els before last (field_of s letter start len) ≡ first (
-        (4, leb field_limit before)
+    pub row_tests : row_fault results symbols columns els before last (field_of s letter start len) ≡ first (
+        (3, odd len || ltb len (2 * (1 + results)))
+        ∷ (4, leb field_limit before)
         ∷ (5, not (ltb (two_at s start) symbols) || not (all (λ (e : ℕ). has e els) (numbers (stretch s (start + 2) (len - 2)))))
         ∷ (6, not_above (row_key results) last (field_of s letter start len))
         ∷ (7, not (eqb (len / 2 - 1) (columns (two_at s start)))) ∷ [])
     unfolding row_fault lowest row_of
-    row_tests e l = rw (size, e, number 0 l, rest_length 1 l, rest 1, add-zero)
+    row_tests =
+        rw size (unless (odd len || ltb len (2 * (1 + results))) _
+        (λ e. let l = row_long len results e in rw (number 0 l, rest_length 1 l, rest 1, add-zero)))
 
   -- A V or I field.
   module _ (count : ℕ) (key : Field → List ℕ) (els : List ℕ) (before : ℕ) (last : Option Field) where
-    pub name_short : len < 2 * count → name_fault count key els before last (field_of s letter start len) ≡ some 3
-    unfolding name_fault lowest
-    name_short e = rw (size, lt-ltb _ _ e)
-
-    pub name_tests : 1 ≤ count → 2 * count ≤ len → name_fault count key els before last (field_of s letter start len) ≡ first (
-        (4, leb field_limit before)
+    pub name_tests : 1 ≤ count → name_fault count key els before last (field_of s letter start len) ≡ first (
+        (3, ltb len (2 * count))
+        ∷ (4, leb field_limit before)
         ∷ (5, not (has (two_at s (start + 2 * (count - 1))) els))
         ∷ (6, not_above key last (field_of s letter start len))
         ∷ (8, bad_name 1 name_bytes (stretch s (start + 2 * count) (len - 2 * count))) ∷ [])
     unfolding name_fault lowest name_of
-    name_tests p l = rw (size, le-ltb _ _ l, number (count - 1) (omega arith), drop_stretch s start len (2 * count))
+    name_tests p =
+        rw size (unless (ltb len (2 * count)) _
+        (λ e. let l = ltb-false len (2 * count) e in rw (number (count - 1) (omega arith), drop_stretch s start len (2 * count))))
 
   -- A source and a target.
   ends : 4 ≤ len → take 2 (numbers (stretch s start len)) ≡ numbers (stretch s start 4)
   ends l = take_numbers 2 (stretch s start len) ∙ ap numbers (take_stretch s start len 4 l)
 
-  -- An M field.
-  module _ (named : List (List ℕ)) (before : ℕ) (last : Option Field) where
-    pub map_short : len < 4 → map_fault named before last (field_of s letter start len) ≡ some 3
-    unfolding map_fault lowest
-    map_short e = rw (size, lt-ltb _ _ e)
-
-    pub map_odd : 4 ≤ len → (len % 4 ≡ 0 → ⊥) → map_fault named before last (field_of s letter start len) ≡ some 3
-    unfolding map_fault lowest
-    map_odd l e = rw (size, le-ltb _ _ l, ne_eqb _ _ e)
-
+  -- An M field, where the elements of n structures can be named.
+  module _ (index : List ℕ) (n before : ℕ) (last : Option Field) where
     abbrev pairs : List Pair
     pairs = pairs_of (numbers (stretch s (start + 4) (4 * (len / 4 - 1))))
 
-    pub map_tests : 4 ≤ len → len % 4 ≡ 0 → map_fault named before last (field_of s letter start len) ≡ first (
-        (4, leb map_limit before)
+    pub map_tests : map_fault (numbers_in s index n) before last (field_of s letter start len) ≡ first (
+        (3, ltb len 4 || not (eqb (len % 4) 0))
+        ∷ (4, leb map_limit before)
         ∷ (
           5,
-          not (all (λ (k : ℕ). ltb k (length named)) (numbers (stretch s start 4)))
-              || not (all (pair_named (elements_at named (two_at s start)) (elements_at named (two_at s (start + 2)))) pairs),
+          not (all (λ (k : ℕ). ltb k n) (numbers (stretch s start 4)))
+              || not (all (pair_named (element_numbers s index (two_at s start)) (element_numbers s index (two_at s (start + 2)))) pairs),
         )
         ∷ (6, not_above (λ (g : Field). take 2 (numbers g.content)) last (field_of s letter start len) || not (keys_ascend pairs)) ∷ [])
     unfolding map_fault lowest map_of pair_named
-    map_tests l e =
+    map_tests =
+        rw size (unless (ltb len 4 || not (eqb (len % 4) 0)) _ (λ e.
+        let l : 4 ≤ len = ltb-false len 4 (or_left (ltb len 4) (not (eqb (len % 4) 0)) e) in
+        let m : len % 4 ≡ 0 = eqb-true (len % 4) 0 (not-false (eqb (len % 4) 0) (or_right (ltb len 4) (not (eqb (len % 4) 0)) e)) in
         let z : len - 4 ≡ 4 * (len / 4 - 1) = omega arith in
-        rw (size, le-ltb _ _ l, eq-eqb _ _ e, number 0 (omega arith), number 1 l, ends l, rest 2, z, add-zero)
+        rw (number 0 (omega arith), number 1 l, ends l, rest 2, z, add-zero, named_length s index n)
+        (unless (leb map_limit before) _ (λ f. either (all (λ (k : ℕ). ltb k n) (numbers (stretch s start 4))) _ _ (λ t.
+        let b = ends_below s start n (omega arith) t in rw (named_at s index n (two_at s start) b.0, named_at s index n (two_at s (start + 2)) b.1))))))
 
   -- A K field.
   module _ (named : List (List ℕ)) (before : ℕ) (last : Option Field) where
-    pub kind_short : (len ≡ 5 → ⊥) → kind_fault named before last (field_of s letter start len) ≡ some 3
-    unfolding kind_fault lowest
-    kind_short e = rw (size, ne_eqb _ _ e)
-
-    pub kind_tests : len ≡ 5 → {n : ℕ} → length named ≡ n → kind_fault named before last (field_of s letter start len) ≡ first (
-        (4, leb map_limit before)
+    pub kind_tests : {n : ℕ} → length named ≡ n → kind_fault named before last (field_of s letter start len) ≡ first (
+        (3, not (eqb len 5))
+        ∷ (4, leb map_limit before)
         ∷ (5, not (all (λ (k : ℕ). ltb k n) (numbers (stretch s start 4))) || ltb 3 (get_or s (start + 4) 0))
         ∷ (6, not_above (λ (g : Field). take 2 (numbers g.content)) last (field_of s letter start len)) ∷ [])
     unfolding kind_fault lowest
-    kind_tests e n = rw (size, eq-eqb _ _ e, ends (omega arith), stretch_at s start len 4 (omega arith), n)
+    kind_tests n =
+        rw size (unless (not (eqb len 5)) _ (λ e.
+        let l : len ≡ 5 = eqb-true len 5 (not-false (eqb len 5) e) in rw (ends (omega arith), stretch_at s start len 4 (omega arith), n)))
 
   -- An X field.
   pub class_is : 1 ≤ len → (auxiliary_of (field_of s letter start len)).class ≡ get_or s start 0
@@ -161,30 +189,19 @@ module _ (s : List ℕ) (start len : ℕ) (h : start + len ≤ length s) (letter
   class_is l = stretch_at s start len 0 l ∙ rw add-zero
 
   module _ (named : List (List ℕ)) (before : ℕ) (last : Option Field) where
-    pub auxiliary_short : (len ≡ 3 → ⊥) → auxiliary_fault named before last (field_of s letter start len) ≡ some 3
-    unfolding auxiliary_fault lowest
-    auxiliary_short e = rw (size, ne_eqb _ _ e)
-
     structure_is : len ≡ 3 → (auxiliary_of (field_of s letter start len)).structure ≡ two_at s (start + 1)
     unfolding auxiliary_of
     structure_is e = rw (drop_stretch s start len 1) (number_in s (start + 1) (len - 1) (omega arith) 0 (omega arith) ∙ rw (add-zero (start + 1)))
 
-    pub auxiliary_tests : len ≡ 3 → {n : ℕ} → length named ≡ n → auxiliary_fault named before last (field_of s letter start len) ≡ first (
-        (4, leb map_limit before)
+    pub auxiliary_tests : {n : ℕ} → length named ≡ n → auxiliary_fault named before last (field_of s letter start len) ≡ first (
+        (3, not (eqb len 3))
+        ∷ (4, leb map_limit before)
         ∷ (5, ltb 2 (get_or s start 0) || not (ltb (two_at s (start + 1)) n))
         ∷ (6, class_falls last (field_of s letter start len)) ∷ [])
     unfolding auxiliary_fault lowest
-    auxiliary_tests e n = rw (size, eq-eqb _ _ e, class_is (omega arith), structure_is e, n)
-
--- The elements that can be named in the first n structures.
-pub named_length : (s index : List ℕ) (n : ℕ) → length (numbers_in s index n) ≡ n
-unfolding numbers_in
-named_length s index n = length_each (element_numbers s index) (span n 0) ∙ length_span n 0
-
-pub named_at : (s index : List ℕ) (n k : ℕ) → k < n → elements_at (numbers_in s index n) k ≡ element_numbers s index k
-unfolding numbers_in
-named_at s index n k h =
-    get_d_each (element_numbers s index) (span n 0) k 0 [] (rw (length_span n 0) h) ∙ ap (element_numbers s index) (get_d_span n 0 k 0 h ∙ omega arith)
+    auxiliary_tests n =
+        rw size (unless (not (eqb len 3)) _ (λ e.
+        let l : len ≡ 3 = eqb-true len 3 (not-false (eqb len 3) e) in rw (class_is (omega arith), structure_is l, n)))
 
 -- A class against the last one, which may be missing.
 pub class_none : (s : List ℕ) (start len a letter : ℕ) → false ≡ class_falls (some (field_of s letter a 0)) (field_of s letter start len)
@@ -248,22 +265,6 @@ module _ (rel : Relation) (results : ℕ) (e : kind_of rel ≡ pick (eqb results
       go true = refl
       go false = refl
 
--- A content of numbers is as long as the least asks.
-pub numbers_long : (len least : ℕ) → (odd len || ltb len (2 * least)) ≡ false → 2 * least ≤ len
-numbers_long len least e = ltb-false len (2 * least) (or_right (odd len) (ltb len (2 * least)) e)
-
--- A source and a target that can be named.
-pub ends_below : (s : List ℕ) (start n : ℕ) → start + 4 ≤ length s → all (λ (k : ℕ). ltb k n) (numbers (stretch s start 4)) ≡ true
-    → (two_at s start < n) × (two_at s (start + 2) < n)
-ends_below s start n h e = (rw (add-zero start) at (below 0 (omega arith)), below 1 (omega arith))
-  where
-    below : (i : ℕ) → i < 2 → two_at s (start + 2 * i) < n
-    below i l = ltb-true _ n
-        (rw (numbers_in_lem s start 4 h i l) at (all_get (λ (k : ℕ). ltb k n) (numbers (stretch s start 4)) i 0 e (rw (length_numbers_in s start 4 h) l)))
-
-pub row_long : (len results : ℕ) → (odd len || ltb len (2 * (1 + results))) ≡ false → 2 ≤ len
-row_long len results e = omega (arith, numbers_long len (1 + results) e)
-
 -- The elements of the last structure.
 pub last_named_lem : (s index : List ℕ) (n : ℕ) → 1 ≤ n → get_or (numbers_in s index n) (length (numbers_in s index n) - 1) [] ≡ element_numbers s index (n - 1)
 last_named_lem s index n h = rw (named_length s index n) (named_at s index n (n - 1) (omega arith))
@@ -317,17 +318,17 @@ less_one x y e = go (ltb x y) refl e
     go true p q = ltb-true x y p
     go false p q = never q (flat (ltb y x))
 
-above_last : (s : List ℕ) (start len : ℕ) (last : Last) → start + len ≤ length s → LastIn last (length s) → 4 ≤ len
+above_last : (s : List ℕ) (start len : ℕ) (last : std.Option read.Field) → start + len ≤ length s → LastIn last (length s) → 4 ≤ len
     → not_above (λ (g : Field). take 1 (numbers g.content)) (last_field s 0 last) (field_of s 0 start len) ≡ false → AboveLast last s (two_at s start)
-above_last s start len Nothing h w l e = tt
-above_last s start len (Content a m) h w l e = λ k.
-    less_one (two_at s a) (two_at s start)
-    (rw (one_number s a m w.is k, one_number s start len h (omega arith)) at
-    (not-false (less (take 1 (numbers (stretch s a m))) (take 1 (numbers (stretch s start len)))) e))
+above_last s start len None h w l e = tt
+above_last s start len (Some f) h w l e = λ k.
+    less_one (two_at s f.start) (two_at s start)
+    (rw (one_number s f.start f.len w.is k, one_number s start len h (omega arith)) at
+    (not-false (less (take 1 (numbers (stretch s f.start f.len))) (take 1 (numbers (stretch s start len)))) e))
 
-pub fits_sound : (s : List ℕ) (start len before : ℕ) (last : Last) → start + len ≤ length s → LastIn last (length s) → 4 ≤ len → before < field_limit
-    → not_above (λ (g : Field). take 1 (numbers g.content)) (last_field s 0 last) (field_of s 0 start len) ≡ false → Fits Sound s start len before last
+pub fits_sound : (s : List ℕ) (start len before : ℕ) (last : std.Option read.Field) → start + len ≤ length s → LastIn last (length s) → 4 ≤ len → before < field_limit
+    → not_above (λ (g : Field). take 1 (numbers g.content)) (last_field s 0 last) (field_of s 0 start len) ≡ false → {u : Unit} → Fits (Ok u) s start len before last
 fits_sound s start len before last h w l b e = record { is = (l, b, above_last s start len last h w l e) }
 
-pub fits_not : {n : ℕ} {s : List ℕ} {start len before : ℕ} {last : Last} → Fits (Draws n) s start len before last
+pub fits_not : {f : Refusal} {s : List ℕ} {start len before : ℕ} {last : std.Option read.Field} → Fits (Err f) s start len before last
 fits_not = record { is = tt }

@@ -18,7 +18,7 @@ use Rattle.records.proofs.Numbers.{drop_stretch, number_in}
 use Rattle.laws.proofs.Numbers.{drop_numbers}
 use Rattle.rule.specs.Layout.{elements_from}
 use Rattle.rule.specs.Elements.{count_at, position_at, element_at, element_fields, element_numbers, Elements, Finds}
-use Rattle.rule.specs.declared.elements.Found.TheVariants.{At}
+use Rattle.std.proofs.Common.{Some}
 use Rattle.rule.proofs.Finding.{numbers_length}
 use Rattle.rule.specs.ElementFields.{element_in, elements_in, element_from, Within, size_at, ElementsAt}
 use Rattle.rule.specs.declared.elements.Element as read
@@ -99,5 +99,5 @@ module _ (s index : List ℕ) (k : ℕ) where
     elements_on = let n = elements_many in rw (add-one, drop-cons (elements_in s index k) i no_element (omega arith), elements_get i l)
 
 -- An element that is found is one of few: a structure's row has its place, and so has a mask.
-pub found_few : {s index : List ℕ} {k i e : ℕ} → Elements s index k → Finds (At i) e (element_numbers s index k) → i < field_limit
+pub found_few : {s index : List ℕ} {k i e : ℕ} → Elements s index k → Finds (Some i) e (element_numbers s index k) → i < field_limit
 found_few {s} {index} {k} w f = let n = numbers_length s index k in let l = w.few in let h = f.is.1 in omega arith

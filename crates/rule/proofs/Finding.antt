@@ -1,8 +1,7 @@
 -- Elements: their numbers as a list, a search among ascending numbers, and a scan of E fields.
-use Prim.Native.Nat.{ℕ, zero, suc, ◌+◌, ◌*◌, ◌/◌, ◌≤◌, ◌<◌}
+use Prim.Native.Nat.{ℕ, zero, suc, ◌+◌, ◌*◌, ◌≤◌, ◌<◌}
 use native.Mathlib.Omega.{arith}
 use native.Mathlib.Nat.{add-zero}
-use native.Mathlib.Decide.{dec_lt, ℕ_discrete}
 use mathlib.Core.Bool.{Bool, true, false, ◌||◌}
 use mathlib.Core.List.{List, [], ◌∷◌}
 use mathlib.Core.Path.{◌≡◌, refl, sym, ◌∙◌}
@@ -17,14 +16,14 @@ use Rattle.definition.specs.Rule.{named_elements}
 use Rattle.laws.proofs.Lists.{length_each, get_d_each}
 use Rattle.records.specs.Places.{two_at, stretch, field_at, field_of, Run, got}
 use Rattle.records.specs.Held.{field_in}
-use Rattle.std.proofs.Common.{None}
+use Rattle.std.proofs.Common.{Option, Some, None}
+use Rattle.rule.specs.Search.{Places}
 use Rattle.records.proofs.Link.{got_is}
 use Rattle.records.proofs.Numbers.{length_stretch, number_in}
 use Rattle.records.proofs.Index.{length_held, held_get}
 use Rattle.records.proofs.Runs.{run_got, run_bad, run_end}
 use Rattle.rule.specs.Layout.{elements_from}
 use Rattle.rule.specs.Elements.{count_at, position_at, element_at, element_fields, element_numbers, Elements, Finds}
-use Rattle.rule.specs.declared.elements.Found.TheVariants.{At, Nothing}
 
 abbrev no_field : Field
 no_field = record { letter = start; content = [] }
@@ -69,55 +68,20 @@ place_at a (x ∷ xs) zero e h g d = rw (eq-eqb x e g, add-zero a)
 place_at a (x ∷ xs) (suc i) e h g d =
     rw (ne_eqb x e (λ q. d 0 (omega arith) q)) (place_at (a + 1) xs i e (omega arith) g (λ j l q. d (suc j) (omega arith) q) ∙ omega arith)
 
--- The search in a structure: what is below low is below e, what is from high on is above it.
-pub record Searching (s index : List ℕ) (k e low high : ℕ) : Type 0 where
-  pub within : high ≤ count_at index k
-  pub below : (i : ℕ) → i < low → i < count_at index k → element_at s index k i < e
-  pub above : (i : ℕ) → high ≤ i → i < count_at index k → e < element_at s index k i
-
-module _ {s index : List ℕ} {k : ℕ} (w : Elements s index k) (e : ℕ) where
-  pub search_start : {n : ℕ} → n ≡ count_at index k → Searching s index k e 0 n
-  search_start q = record { within = omega arith; below = λ i h l. absurd (omega arith); above = λ i h l. absurd (omega arith) }
-
-  pub search_found : (i : ℕ) → i < count_at index k → element_at s index k i ≡ e → Finds (At i) e (element_numbers s index k)
-  search_found i h q =
-      let l : i < length (element_numbers s index k) = rw (numbers_length s index k) h in
-      let g : get_or (element_numbers s index k) i 0 ≡ e = numbers_get w i h ∙ q in
-      record { is = (sym (place_at 0 (element_numbers s index k) i e l g before ∙ omega arith), l, has_at (element_numbers s index k) i e l g) }
-    where
-      before : (j : ℕ) → j < i → get_or (element_numbers s index k) j 0 ≡ e → ⊥
-      before j a r = let b = w.ascend j i a h in let x = numbers_get w j (omega arith) in omega arith
-
-  module _ {low high mid : ℕ} (v : Searching s index k e low high) (l : low < high) (m : mid ≡ (low + high) / 2) where
-    pub search_up : element_at s index k mid < e → Searching s index k e (mid + 1) high
-    search_up q = let z = v.within in record {
-      within = v.within;
-      below = λ i h n. go i h n (ℕ_discrete i mid);
-      above = v.above;
-    }
-      where
-        go : (i : ℕ) → i < mid + 1 → i < count_at index k → Dec (i ≡ mid) → element_at s index k i < e
-        go i h n (yes x) = rw x q
-        go i h n (no x) = let a = w.ascend i mid (omega arith) (omega (arith, v.within)) in omega arith
-
-    pub search_down : (element_at s index k mid ≡ e → ⊥) → e ≤ element_at s index k mid → Searching s index k e low mid
-    search_down d q = record {
-      within = omega (arith, v.within);
-      below = v.below;
-      above = λ i h n. go i h n (ℕ_discrete i mid) (ℕ_discrete (element_at s index k mid) e);
-    }
-      where
-        go : (i : ℕ) → mid ≤ i → i < count_at index k → Dec (i ≡ mid) → Dec (element_at s index k mid ≡ e) → e < element_at s index k i
-        go i h n x (yes y) = absurd (d y)
-        go i h n (yes x) (no y) = rw x (omega arith)
-        go i h n (no x) (no y) = let a = w.ascend mid i (omega arith) n in omega arith
-
-  pub search_none : {low high : ℕ} → Searching s index k e low high → high ≤ low → Finds Nothing e (element_numbers s index k)
-  search_none {low} {high} v h = record { is = has_none (element_numbers s index k) e (λ i l q. go i (rw (numbers_length s index k) at l) q (dec_lt i low)) }
-    where
-      go : (i : ℕ) → i < count_at index k → get_or (element_numbers s index k) i 0 ≡ e → Dec (i < low) → ⊥
-      go i l q (yes a) = let x = numbers_get w i l in let y = v.below i a l in omega arith
-      go i l q (no a) = let x = numbers_get w i l in let y = v.above i (omega arith) l in omega arith
+-- The place of a number among a structure's elements.
+pub finds_place : {s index : List ℕ} {k : ℕ} → Elements s index k → (r : Option ℕ) {e : ℕ} → Places r (count_at index k) e (element_at s index k)
+    → Finds r e (element_numbers s index k)
+finds_place {s} {index} {k} w (Some i) {e} p =
+    let l : i < length (element_numbers s index k) = rw (numbers_length s index k) p.is.0 in
+    let g : get_or (element_numbers s index k) i 0 ≡ e = numbers_get w i p.is.0 ∙ p.is.1 in
+    record { is = (sym (place_at 0 (element_numbers s index k) i e l g before ∙ omega arith), l, has_at (element_numbers s index k) i e l g) }
+  where
+    before : (j : ℕ) → j < i → get_or (element_numbers s index k) j 0 ≡ e → ⊥
+    before j a q = let b = w.ascend j i a p.is.0 in let x = numbers_get w j (omega (arith, p.is.0)) in omega (arith, p.is.1)
+finds_place {s} {index} {k} w None {e} p = record { is = has_none (element_numbers s index k) e none }
+  where
+    none : (i : ℕ) → i < length (element_numbers s index k) → get_or (element_numbers s index k) i 0 ≡ e → ⊥
+    none i l q = let h : i < count_at index k = rw (numbers_length s index k) at l in p.is i h (sym (numbers_get w i h) ∙ q)
 
 -- A scan of E fields for those that can be named.
 unfoldable pub names_of : List Field → List ℕ
@@ -156,18 +120,18 @@ module _ {s : List ℕ} {to e at : ℕ} {body : List Field} (w : Scanning s to e
       unfolding names_of keep each
       names_short rest h = rw (size, lt-leb 2 len h)
 
-      pub scan_hit : 2 ≤ len → {x : ℕ} → x ≡ two_at s start → x ≡ e → has e (named_elements body) ≡ true
+      pub scan_hit : 2 ≤ len → eqb (two_at s start) e ≡ true → has e (named_elements body) ≡ true
       unfolding has any
-      scan_hit h p q = let b = run_got w.run lt g in w.left ∙ rw (b.same, names_long b.rest h, eq-eqb (two_at s start) e (sym p ∙ q))
+      scan_hit h q = let b = run_got w.run lt g in w.left ∙ rw (b.same, names_long b.rest h, q)
 
-      missed : (rest : List Field) → w.rest ≡ field_of s letter start len ∷ rest → 2 ≤ len → (two_at s start ≡ e → ⊥)
+      missed : (rest : List Field) → w.rest ≡ field_of s letter start len ∷ rest → 2 ≤ len → eqb (two_at s start) e ≡ false
           → has e (names_of w.rest) ≡ has e (names_of rest)
       unfolding has any
-      missed rest r h q = rw (r, names_long rest h, ne_eqb (two_at s start) e q)
+      missed rest r h q = rw (r, names_long rest h, q)
 
-      pub scan_miss : 2 ≤ len → {x : ℕ} → x ≡ two_at s start → (x ≡ e → ⊥) → Scanning s to e body next
-      scan_miss h p q = let b = run_got w.run lt g in
-          record { rest = b.rest; run = b.run; left = w.left ∙ missed b.rest b.same h (λ z. q (p ∙ z)) }
+      pub scan_miss : 2 ≤ len → eqb (two_at s start) e ≡ false → Scanning s to e body next
+      scan_miss h q = let b = run_got w.run lt g in
+          record { rest = b.rest; run = b.run; left = w.left ∙ missed b.rest b.same h q }
 
       skipped : (rest : List Field) → w.rest ≡ field_of s letter start len ∷ rest → len < 2 → has e (names_of w.rest) ≡ has e (names_of rest)
       skipped rest r h = rw (r, names_short rest h)
@@ -176,10 +140,10 @@ module _ {s : List ℕ} {to e at : ℕ} {body : List Field} (w : Scanning s to e
       scan_skip h = let b = run_got w.run lt g in record { rest = b.rest; run = b.run; left = w.left ∙ skipped b.rest b.same h }
 
 -- What is found is there.
-pub finds_at : {i e : ℕ} {xs : List ℕ} → Finds (At i) e xs → has e xs ≡ true
+pub finds_at : {i e : ℕ} {xs : List ℕ} → Finds (Some i) e xs → has e xs ≡ true
 finds_at w = w.is.2
 
-pub finds_none : {e : ℕ} {xs : List ℕ} → Finds Nothing e xs → has e xs ≡ false
+pub finds_none : {e : ℕ} {xs : List ℕ} → Finds None e xs → has e xs ≡ false
 finds_none w = w.is
 
 -- Elements stand in ascending order.

@@ -2,12 +2,12 @@
 use Prim.Native.Nat.{ℕ, ◌+◌, ◌-◌, ◌*◌}
 use native.Mathlib.Omega.{arith}
 use mathlib.Core.List.{List}
-use mathlib.Core.Path.{◌≡◌, ◌∙◌}
+use mathlib.Core.Path.{◌≡◌, sym, ◌∙◌}
 use lib.ListN.{length, get_or}
 use Rattle.definition.specs.Records.{Field}
 use Rattle.records.specs.Places.{field_at, got}
 use Rattle.std.proofs.Common.{None}
-use Rattle.records.proofs.Link.{got_is}
+use Rattle.records.proofs.Link.{got_is, got_same}
 use Rattle.records.proofs.Numbers.{length_stretch}
 use Rattle.rule.specs.Layout.{place_n, place_s, letters, number_of, within, section_from}
 use Rattle.rule.specs.Answers.{HeadAt}
@@ -17,9 +17,8 @@ head_bad h e = let g = h.got in let z : ◌≡◌ {A = ℕ} 0 1 = cc in absurd (
 
 pub head_size : {s : List ℕ} {at letter start len next : ℕ} {f : Field} → HeadAt s at f → field_at s at ≡ got letter start len next → length f.content ≡ len
 head_size {s} {at} {letter} {start} {len} {next} h e =
-    let g = h.got in let x = got_is s at h.got in
-    let q : h.len ≡ len = cc in
-    rw h.same (length_stretch s h.start h.len (omega arith) ∙ q)
+    let x = got_is s at h.got in
+    rw h.same (length_stretch s h.start h.len (omega arith) ∙ (got_same (sym h.got ∙ e)).len_is)
 
 -- Where the code looks for it.
 pub head_of : {s : List ℕ} (index : List ℕ) (k : ℕ) {f : Field}

@@ -4,7 +4,7 @@ use native.Mathlib.Omega.{arith}
 use mathlib.Core.Bool.{true}
 use mathlib.Core.List.{List, [], ◌∷◌}
 use mathlib.Core.Option.{none, some}
-use mathlib.Core.Logic.{◌⊎◌, inl, inr, ⊎_elim}
+use mathlib.Core.Logic.{⊎_elim}
 use mathlib.Core.Path.{◌≡◌, refl, sym}
 use lib.ListN.{length, get_or}
 use borrow.Author.Tests.{eq-eqb, ne_eqb, ltb-true}
@@ -18,6 +18,8 @@ use Rattle.rule.proofs.PairLaws.{pairs_in_length, pair_in}
 use Rattle.rule.specs.MapFields.{pairs_in, pair_at, MapIn}
 use Rattle.rule.specs.declared.maps.Map.{Map}
 use Rattle.rule.specs.Lookup.{no_pair}
+use Rattle.rule.specs.Search.{KeysAre, Places}
+use Rattle.std.proofs.Common.{Some, None}
 
 -- Keys that ascend, by their places.
 abbrev key_of : List Pair → ℕ → ℕ
@@ -75,51 +77,23 @@ module _ {s : List ℕ} {m : Map} (h : MapIn s m) where
     pub image_is : two_at s (m.at + 4 * p + 2) ≡ (pair_at s m p).image
     image_is = rw (pair_is p l)
 
-  -- The pair of a key.
-  pub found : (e p : ℕ) → p < m.pairs → (pair_at s m p).key ≡ e → some (pair_at s m p).image ≡ image_of (pairs_in s m) e
+  -- The keys, by what is told of each place.
+  abbrev key_at : ℕ → ℕ
+  key_at p = (pair_at s m p).key
+
+  pub keys_are : {told : ℕ → ℕ → Type 0} → ((p x : ℕ) → p < m.pairs → told p x → x ≡ key_at p) → KeysAre told m.pairs key_at
   unfolding pair_at
-  found e p l q = let n = pairs_many in sym (image_some (pairs_in s m) h.ascend e p (omega arith) q)
+  keys_are tell = record { tell = tell; ascend = λ i j l k. let n = pairs_many in ascend_at (pairs_in s m) h.ascend i j l (omega arith) }
 
--- The search stands between two places: smaller keys before the one, larger ones from the other on.
-pub record Between (s : List ℕ) (m : Map) (e low high : ℕ) : Type 0 where
-  pub within : high ≤ m.pairs
-  pub smaller : (i : ℕ) → i < low → (pair_at s m i).key < e
-  pub larger : (i : ℕ) → high ≤ i → i < m.pairs → e < (pair_at s m i).key
+  -- The image of a key at a place, and of a number that is no key.
+  module _ {e : ℕ} where
+    pub found : {p : ℕ} → Places (Some p) m.pairs e key_at → some (pair_at s m p).image ≡ image_of (pairs_in s m) e
+    unfolding pair_at
+    found {p} w = let n = pairs_many in let l = w.is.0 in sym (image_some (pairs_in s m) h.ascend e p (omega arith) w.is.1)
 
-pub between_all : (s : List ℕ) (m : Map) (e : ℕ) → Between s m e 0 m.pairs
-between_all s m e = record { within = omega arith; smaller = λ i l. absurd (omega arith); larger = λ i l k. absurd (omega arith) }
-
-module _ {s : List ℕ} {m : Map} (h : MapIn s m) {e low high : ℕ} (b : Between s m e low high) where
-  keys_rise : (i j : ℕ) → i < j → j < m.pairs → (pair_at s m i).key < (pair_at s m j).key
-  unfolding pair_at
-  keys_rise i j l k = let n = pairs_many h in ascend_at (pairs_in s m) h.ascend i j l (omega arith)
-
-  pub between_up : (mid : ℕ) → mid < high → (pair_at s m mid).key < e → Between s m e (mid + 1) high
-  between_up mid l q = record {
-    within = b.within;
-    smaller = λ i k. ⊎_elim (λ (z : i < mid). let r = keys_rise i mid z (omega (arith, b.within)) in omega arith) (λ (z : i ≡ mid). rw z q) (below i k);
-    larger = b.larger;
-  }
-    where
-      below : (i : ℕ) → i < mid + 1 → (i < mid) ⊎ (i ≡ mid)
-      below i k = ⊎_elim (λ z. inl z) (λ z. ⊎_elim (λ y. inr y) (λ y. absurd (omega arith)) z) (trichotomy i mid)
-
-  pub between_down : (mid : ℕ) → mid < high → e < (pair_at s m mid).key → Between s m e low mid
-  between_down mid l q = record {
-    within = omega (arith, b.within);
-    smaller = b.smaller;
-    larger = λ i k n. ⊎_elim (λ z. absurd (omega arith)) (⊎_elim (λ (z : i ≡ mid). rw z q) (λ (z : mid < i). let r = keys_rise mid i z n in omega arith))
-        (trichotomy i mid);
-  }
-
-  pub not_found : high ≤ low → none ≡ image_of (pairs_in s m) e
-  unfolding pair_at
-  not_found l = let n = pairs_many h in sym (image_none (pairs_in s m) e (λ i k q. ⊎_elim
-      (λ (z : i < low). let r = b.smaller i z in omega arith)
-      (λ (z : low ≤ i). let r = b.larger i (omega arith) (omega arith) in omega arith) (or_lt i)))
-    where
-      or_lt : (i : ℕ) → (i < low) ⊎ (low ≤ i)
-      or_lt i = ⊎_elim (λ z. inl z) (⊎_elim (λ z. inr (omega arith)) (λ z. inr (omega arith))) (trichotomy i low)
+    pub not_found : Places None m.pairs e key_at → none ≡ image_of (pairs_in s m) e
+    unfolding pair_at
+    not_found w = let n = pairs_many in sym (image_none (pairs_in s m) e (λ i l q. w.is i (omega arith) q))
 
 -- Keys that ascend and stand in an ascending list are at most as many as it has.
 pub few_keys : (ps : List Pair) (els : List ℕ) → keys_ascend ps ≡ true → ((i j : ℕ) → i < j → j < length els → get_or els i 0 < get_or els j 0)

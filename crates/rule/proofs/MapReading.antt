@@ -16,8 +16,9 @@ use Rattle.records.proofs.Numbers.{length_stretch, take_stretch, drop_stretch}
 use Rattle.laws.proofs.Numbers.{drop_numbers}
 use Rattle.rule.specs.Elements.{element_numbers}
 use Rattle.rule.specs.Lookup.{Ready, rule_at, FindsMap}
-use Rattle.rule.specs.declared.lookup.MapFound.{MapFound}
-use Rattle.rule.specs.declared.lookup.MapFound.TheVariants as map
+use Rattle.std.proofs.Common as std
+use Rattle.std.proofs.Common.{Some, None}
+use Rattle.records.specs.declared.fields.Field as read
 use Rattle.rule.proofs.Finding.{numbers_length, numbers_ascend}
 use Rattle.rule.proofs.Saying.{known_at, numbers_are, pairs_are}
 use Rattle.rule.specs.MapFields.{pairs_in, MapIn, Joins}
@@ -28,11 +29,11 @@ use Rattle.rule.proofs.Opening.{joins}
 use Rattle.rule.proofs.SoundParts.{Between, between, sound_map}
 
 -- A map that was found.
-pub found_at : {s : List ℕ} {o : Option (List Pair)} {start len : ℕ} → FindsMap (map.At start len) s o
-    → (o ≡ some (map_of (field_of s letter_m start len)).pairs) × (start + len ≤ length s) × (4 ≤ len)
+pub found_at : {s : List ℕ} {o : Option (List Pair)} {f : read.Field} → FindsMap (Some f) s o
+    → (o ≡ some (map_of (field_of s letter_m f.start f.len)).pairs) × (f.start + f.len ≤ length s) × (4 ≤ f.len)
 found_at w = w.is
 
-pub found_none : {s : List ℕ} {o : Option (List Pair)} → FindsMap map.Nothing s o → o ≡ none
+pub found_none : {s : List ℕ} {o : Option (List Pair)} → FindsMap None s o → o ≡ none
 found_none w = w.is
 
 joins_as : {s : List ℕ} {a b source target : ℕ} {m : Map} → a ≡ source → b ≡ target → Joins s a b m → Joins s source target m
@@ -91,13 +92,14 @@ pub record Read (s : List ℕ) (source target : ℕ) (m : Map) : Type 0 where
   pub inside : MapIn s m
   pub joins : Joins s source target m
 
-module _ {s index : List ℕ} (w : Ready s index) (source target : ℕ) {r : MapFound} (f : FindsMap r s (pairs_between (rule_at s).maps source target)) where
-  pub never_missed : {A : Type 0} → given (pairs_between (rule_at s).maps source target) ≡ true → r ≡ map.Nothing → A
+module _ {s index : List ℕ} (w : Ready s index) (source target : ℕ) {r : std.Option read.Field} (f : FindsMap r s (pairs_between (rule_at s).maps source target)) where
+  pub never_missed : {A : Type 0} → given (pairs_between (rule_at s).maps source target) ≡ true → r ≡ None → A
   never_missed h e = let q = found_none (rw e at f) in let z : ◌≡◌ {A = Bool} false true = rw q at h in let y : ◌≡◌ {A = ℕ} 0 1 = cc in absurd (omega arith)
 
-  pub map_read : {start len n : ℕ} → r ≡ map.At start len → n ≡ length (map_of (field_of s letter_m start len)).pairs
-      → Read s source target (record { at = start + 4; pairs = n })
-  map_read {start} {len} e c =
+  pub map_read : {m : read.Field} {n : ℕ} → r ≡ Some m → n ≡ length (map_of (field_of s letter_m m.start m.len)).pairs
+      → Read s source target (record { at = m.start + 4; pairs = n })
+  map_read {m} e c =
+      let start = m.start in let len = m.len in
       let q = found_at (rw e at f) in
       rw (c ∙ sym (pairs_are s start len q.1 letter_m)) record {
         pairs = rw q.0 (map_pairs_are s start len q.1 q.2);

@@ -17,7 +17,6 @@ use Rattle.std.proofs.Common.{None}
 use Rattle.records.proofs.Link.{got_is}
 use Rattle.records.proofs.Runs.{run_got, run_bad, run_end}
 use Rattle.rule.specs.Lookup.{Ready, rule_at, FindsMap}
-use Rattle.rule.specs.declared.lookup.MapFound.TheVariants as map
 use Rattle.rule.proofs.Whole.{tail_run, letter_m_lem}
 use Rattle.rule.proofs.Sized.{AllLong, long_first, long_rest, maps_long}
 use Rattle.rule.specs.Layout.{place_m, place_k, number_of, back}
@@ -40,7 +39,7 @@ seek_start {s} {index} w source target = record {
 }
 
 module _ {s : List ℕ} {source target to at : ℕ} (w : Seeking s source target to at) where
-  pub seek_end : to ≤ at → FindsMap map.Nothing s (pairs_between (rule_at s).maps source target)
+  pub seek_end : to ≤ at → FindsMap None s (pairs_between (rule_at s).maps source target)
   unfolding first_of each
   seek_end h = record { is = w.left ∙ rw (run_end w.run h) }
 
@@ -63,7 +62,7 @@ module _ {s : List ℕ} {source target to at : ℕ} (w : Seeking s source target
       unfolding first_of each map_of
       first_is rest = refl
 
-      pub seek_hit : {r : Bool} → r ≡ joined → r ≡ true → FindsMap (map.At start len) s (pairs_between (rule_at s).maps source target)
+      pub seek_hit : {r : Bool} → r ≡ joined → r ≡ true → FindsMap (got letter start len next) s (pairs_between (rule_at s).maps source target)
       seek_hit q t = let b = run_got w.run lt e in
           record { is = (w.left ∙ rw (b.same, first_is b.rest, ← q, t), seek_inside, seek_long) }
 

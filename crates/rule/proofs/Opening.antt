@@ -20,7 +20,8 @@ use Rattle.definition.specs.Rule.{head_field, rule_of, rule_part, rule_fault, re
 use Rattle.definition.specs.Walk.{no_structure}
 use Rattle.records.specs.Places.{two_at, stretch, field_at, field_of, Run, got}
 use Rattle.records.specs.declared.fields.Field as read_field
-use Rattle.std.proofs.Common.{None}
+use Rattle.std.proofs.Common as std
+use Rattle.std.proofs.Common.{Some, None}
 use Rattle.records.proofs.Link.{got_is, fields_all, fields_bad, fields_got, fields_end}
 use Rattle.records.proofs.Numbers.{length_stretch, drop_stretch, number_in}
 use Rattle.laws.proofs.Lists.{get_d_each, lowest_none, mem_at}
@@ -138,9 +139,9 @@ first_read s b = go (field_at s 0) refl
     none_read (yes l) e = let n : fields_of s ≡ bad = fields_all s ∙ fields_bad s 0 l e in no_fields (rw n) b
     none_read (no l) e = let n : fields_of s ≡ end = fields_all s ∙ fields_end s 0 (omega arith) in no_fields (rw n) b
 
-    go : (r : read_field.Field) → field_at s 0 ≡ r → FirstRead s
-    go (got l from len next) e =
-        record { letter = l; from = from; len = len; next = next; got = e; same = head_first (fields_of s) (fields_all s ∙ fields_got s 0 e) b }
+    go : (r : std.Option read_field.Field) → field_at s 0 ≡ r → FirstRead s
+    go (Some f) e =
+        record { letter = f.letter; from = f.start; len = f.len; next = f.next; got = e; same = head_first (fields_of s) (fields_all s ∙ fields_got s 0 e) b }
     go None e = absurd (none_read (dec_lt 0 (length s)) e)
 
 head_sized : (n : ℕ) (l : Option Field) (f : Field) → head_fault n l f ≡ none → (2 ≤ length f.content) × (length f.content ≤ 2 + name_bytes)

@@ -1,5 +1,5 @@
 -- Pairs of key and image: those of a stretch, and loops along them.
-use Prim.Native.Nat.{ℕ, zero, suc, ◌+◌, ◌*◌, ◌/◌, ◌≤◌, ◌<◌}
+use Prim.Native.Nat.{ℕ, zero, suc, ◌+◌, ◌-◌, ◌*◌, ◌/◌, ◌≤◌, ◌<◌}
 use native.Mathlib.Omega.{arith}
 use native.Mathlib.Numerals.{add-one}
 use mathlib.Core.Bool.{Bool, true, false}
@@ -92,26 +92,29 @@ module _ (s : List ℕ) (start count : ℕ) (h : start + 4 * count ≤ length s)
       unfolding all_pairs all
       pairs_end l = rw (pair_end i l)
 
-    two_on : i + 1 < count → drop i pairs_all
-        ≡ record { key = two_at s (start + 4 * i); image = two_at s (start + 4 * i + 2) } ∷ record
-        { key = two_at s (start + 4 * i + 4); image = two_at s (start + 4 * i + 4 + 2) } ∷ drop (i + 1 + 1) pairs_all
-    two_on l = let e : start + 4 * (i + 1) ≡ start + 4 * i + 4 = omega arith in pair_on i (omega arith) ∙ rw (pair_on (i + 1) l, e)
+  -- Two keys, at an index and before it.
+  module _ (i : ℕ) (one : 1 ≤ i) where
+    two_on : i < count → drop (i - 1) pairs_all
+        ≡ record { key = two_at s (start + 4 * i - 4); image = two_at s (start + 4 * i - 4 + 2) }
+        ∷ record { key = two_at s (start + 4 * i); image = two_at s (start + 4 * i + 2) } ∷ drop (i + 1) pairs_all
+    two_on l =
+        let e : start + 4 * (i - 1) ≡ start + 4 * i - 4 = omega arith in
+        let n : i - 1 + 1 ≡ i = omega arith in
+        pair_on (i - 1) (omega arith) ∙ rw (n, pair_on i l, e)
 
-    pub keys_no : i + 1 < count → two_at s (start + 4 * i + 4) ≤ two_at s (start + 4 * i) → keys_from s start count i ≡ false
+    pub keys_no : i < count → two_at s (start + 4 * i) ≤ two_at s (start + 4 * i - 4) → keys_from s start count (i - 1) ≡ false
     unfolding keys_from keys_ascend
-    keys_no l h = rw (two_on l, le-ltb (two_at s (start + 4 * i)) (two_at s (start + 4 * i + 4)) h)
+    keys_no l h = rw (two_on l, le-ltb (two_at s (start + 4 * i - 4)) (two_at s (start + 4 * i)) h)
 
-    pub keys_on : i + 1 < count → two_at s (start + 4 * i) < two_at s (start + 4 * i + 4) → keys_from s start count i ≡ keys_from s start count (i + 1)
+    pub keys_on : i < count → two_at s (start + 4 * i - 4) < two_at s (start + 4 * i) → keys_from s start count (i - 1) ≡ keys_from s start count (i + 1 - 1)
     unfolding keys_from keys_ascend
-    keys_on l h =
-        let e : start + 4 * (i + 1) ≡ start + 4 * i + 4 = omega arith in
-        rw (two_on l, lt-ltb (two_at s (start + 4 * i)) (two_at s (start + 4 * i + 4)) h) (sym (rw (pair_on (i + 1) l, e)))
+    keys_on l h = let n : i + 1 - 1 ≡ i = omega arith in rw (n, two_on l, lt-ltb (two_at s (start + 4 * i - 4)) (two_at s (start + 4 * i)) h) (sym (rw (pair_on i l)))
 
-    pub keys_end : count ≤ i + 1 → keys_from s start count i ≡ true
+    pub keys_end : count ≤ i → keys_from s start count (i - 1) ≡ true
     unfolding keys_from keys_ascend
-    keys_end l = go (drop i pairs_all) short
+    keys_end l = go (drop (i - 1) pairs_all) short
       where
-        short : length (drop i pairs_all) ≤ 1
+        short : length (drop (i - 1) pairs_all) ≤ 1
         short = let n = pairs_in_length in rw length-drop (omega arith)
 
         go : (ps : List Pair) → length ps ≤ 1 → keys_ascend ps ≡ true

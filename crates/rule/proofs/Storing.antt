@@ -15,28 +15,28 @@ use Rattle.records.specs.Held.{held_at}
 use Rattle.records.proofs.Link.{got_is}
 use Rattle.records.proofs.Runs.{run_end}
 use Rattle.records.proofs.Index.{got_field, held_store, held_same}
-use Rattle.signature.specs.Faults.{fault_of}
-use Rattle.signature.specs.declared.faults.Fault.{Fault}
-use Rattle.signature.specs.declared.faults.Fault.TheVariants.{Sound, Draws}
+use Rattle.records.specs.Refusals.{number, fault_of}
+use Rattle.records.specs.declared.refusal.Refusal.{Refusal}
+use Rattle.std.proofs.Common.{Some, None, Ok, Err}
 use Rattle.rule.specs.Layout.{elements_from, counts_from, rule_index}
 use Rattle.rule.specs.Elements.{count_at, position_at, element_at, element_fields}
-use Rattle.rule.specs.Faults.{AboveLast, Fits}
+use Rattle.rule.specs.Faults.{Checked, AboveLast, Fits}
 use Rattle.rule.specs.Answers.{Kept, Stored, Holds}
-use Rattle.rule.specs.declared.order.Last.{Last}
-use Rattle.rule.specs.declared.order.Last.TheVariants.{Content, Nothing}
+use Rattle.std.proofs.Common as std
+use Rattle.records.specs.declared.fields.Field as read
 use Rattle.rule.proofs.Checking.{Checking, first, check_start, check_next}
 
 -- No number is above that of the last field.
-abbrev AtMost : Last → List ℕ → ℕ → Type 0
-AtMost Nothing s x = ⊥
-AtMost (Content start len) s x = (2 ≤ len) × (x ≤ two_at s start)
+abbrev AtMost : std.Option read.Field → List ℕ → ℕ → Type 0
+AtMost None s x = ⊥
+AtMost (Some f) s x = (2 ≤ f.len) × (x ≤ two_at s f.start)
 
-above_all : (last : Last) (s : List ℕ) (x e : ℕ) → AtMost last s x → AboveLast last s e → x < e
-above_all Nothing s x e a b = absurd a
-above_all (Content start len) s x e a b = let c = b a.0 in omega (arith, a.1)
+above_all : (last : std.Option read.Field) (s : List ℕ) (x e : ℕ) → AtMost last s x → AboveLast last s e → x < e
+above_all None s x e a b = absurd a
+above_all (Some f) s x e a b = let c = b a.0 in omega (arith, a.1)
 
 -- So many positions are stored.
-pub record Storing (s index₀ index : List ℕ) (k count : ℕ) (last : Last) : Type 0 where
+pub record Storing (s index₀ index : List ℕ) (k count : ℕ) (last : std.Option read.Field) : Type 0 where
   pub long : length index ≡ rule_index
   pub kept : Kept index₀ index k
   pub few : count ≤ field_limit
@@ -45,7 +45,7 @@ pub record Storing (s index₀ index : List ℕ) (k count : ℕ) (last : Last) :
   pub ascend : (i j : ℕ) → i < j → j < count → element_at s index k i < element_at s index k j
   pub newest : (i : ℕ) → i < count → AtMost last s (element_at s index k i)
 
-pub store_start : (s index : List ℕ) (k : ℕ) → length index ≡ rule_index → Storing s index index k 0 Nothing
+pub store_start : (s index : List ℕ) (k : ℕ) → length index ≡ rule_index → Storing s index index k 0 None
 store_start s index k l = record {
   long = l;
   kept = record { before = λ i h. refl; counts = λ j h. refl };
@@ -56,12 +56,13 @@ store_start s index k l = record {
   newest = λ i h. absurd (omega arith);
 }
 
-module _ {s index₀ index : List ℕ} {k count : ℕ} {last : Last} (w : Storing s index₀ index k count last) (hk : k < structure_limit) where
+module _ {s index₀ index : List ℕ} {k count : ℕ} {last : std.Option read.Field} (w : Storing s index₀ index k count last) (hk : k < structure_limit) where
   abbrev from : ℕ
   from = elements_from + field_limit * k
 
   -- One more.
-  module _ (at : ℕ) {letter start len next : ℕ} (e : field_at s at ≡ got letter start len next) (fits : Fits Sound s start len count last) where
+  module _ (at : ℕ) {letter start len next : ℕ} (e : field_at s at ≡ got letter start len next) {u : Unit}
+      (fits : Fits (Ok u) s start len count last) where
     abbrev index' : List ℕ
     index' = set index (from + count) at
 
@@ -99,7 +100,7 @@ module _ {s index₀ index : List ℕ} {k count : ℕ} {last : Last} (w : Storin
     newest_all i h (yes q) = (omega (arith, fits.is.0), rw (number_here i q) (omega arith))
     newest_all i h (no q) = (omega (arith, fits.is.0), rw (number_other i q) (omega (arith, below_new i (omega arith))))
 
-    pub store_next : Storing s index₀ index' k (count + 1) (Content start len)
+    pub store_next : Storing s index₀ index' k (count + 1) (got letter start len next)
     store_next = record {
       long = length-set index (from + count) at ∙ w.long;
       kept = record {
@@ -129,7 +130,7 @@ module _ {s index₀ index : List ℕ} {k count : ℕ} {last : Last} (w : Storin
   in_count : (i : ℕ) → i < count_at index'' k → i < count
   in_count i h = omega (arith, count_is)
 
-  pub store_end : Stored Sound s index₀ index'' k
+  pub store_end : {u : Unit} → Stored (Ok u) s index₀ index'' k
   store_end = record {
     kept = record {
       before = λ i h. same_entry i (omega arith) ∙ w.kept.before i h;
@@ -147,11 +148,11 @@ module _ {s index₀ index : List ℕ} {k count : ℕ} {last : Last} (w : Storin
   store_long = length-set index (counts_from + k) count ∙ w.long
 
   -- A fault ends the check.
-  pub store_fault : {n : ℕ} → Stored (Draws n) s index₀ index k
+  pub store_fault : {f : Refusal} → Stored (Err f) s index₀ index k
   store_fault = record { kept = w.kept; known = tt }
 
   -- The fields that the stored positions hold.
-  pub held_end : (body : List Field) → with_letter letter_e body ≡ held_at s index from count → Holds Sound s index'' k body
+  pub held_end : (body : List Field) → with_letter letter_e body ≡ held_at s index from count → {u : Unit} → Holds (Ok u) s index'' k body
   unfolding element_fields
   held_end body q = record { is = rw count_is (held_same s index'' index from count (λ i a b. same_entry i (omega (arith, w.few))) ∙ sym q) }
 
@@ -178,15 +179,16 @@ module _ {s index : List ℕ} {check : ℕ → Option Field → Field → Option
         ≡ held_at s (set index (elements_from + field_limit * k + count) at) (elements_from + field_limit * k) (count + 1) ++ rest
     stored rest q r h = rw (r, held_store s index (elements_from + field_limit * k) count at h, got_field s at e, q, append_assoc)
 
-    pub list_next : {r : Fault} → r ≡ Sound → fault_of r ≡ check count last (field_of s letter_e start len)
+    pub list_next : {r : Checked} {u : Unit} → r ≡ Ok u → fault_of r ≡ check count last (field_of s letter_e start len)
         → elements_from + field_limit * k + count < length index
         → Listing s (set index (elements_from + field_limit * k + count) at) check to k body next (count + 1) (some (field_of s letter_e start len))
     unfolding check_next
     list_next d c h = let f = first w.checking lt e in
         record { checking = check_next w.checking lt e d c; held = w.held ∙ stored f.rest f.is f.same h }
 
-pub holds_not : {n : ℕ} {s index : List ℕ} {k : ℕ} {body : List Field} → Holds (Draws n) s index k body
+pub holds_not : {f : Refusal} {s index : List ℕ} {k : ℕ} {body : List Field} → Holds (Err f) s index k body
 holds_not = record { is = tt }
 
-pub read_fits : {r : Fault} {s : List ℕ} {start len before : ℕ} {last : Last} → r ≡ Sound → Fits r s start len before last → before < field_limit
+pub read_fits : {r : Checked} {u : Unit} {s : List ℕ} {start len before : ℕ} {last : std.Option read.Field} → r ≡ Ok u → Fits r s start len before last
+    → before < field_limit
 read_fits e f = (rw e at f).is.1

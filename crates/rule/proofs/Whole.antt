@@ -18,14 +18,14 @@ use Rattle.definition.specs.Signature.{Signature}
 use Rattle.definition.specs.Rule.{head_fault, named_elements, structures_fault, named_in, rule_fault, rule_part, rule_of, read_rule, map_fault, kind_fault}
 use Rattle.definition.specs.Rule.{auxiliary_fault}
 use Rattle.records.specs.Places.{field_of, Run, none, more}
-use Rattle.signature.specs.Faults.{fault_of}
-use Rattle.signature.specs.declared.faults.Fault.{Fault}
-use Rattle.signature.specs.declared.faults.Fault.TheVariants.{Sound, Draws}
+use Rattle.records.specs.Refusals.{number, fault_of}
+use Rattle.records.specs.declared.refusal.Refusal.{Refusal}
+use Rattle.std.proofs.Common.{Ok, Err}
 use Rattle.rule.specs.Layout.{letter_at, front, within, back, no_block, block_at, fields_in, Sectioned, section_from, section_to, behind_from}
 use Rattle.rule.specs.Layout.{behind_to, number_of}
 use Rattle.rule.specs.Layout.{place_s, place_e, place_i, place_m, place_k, place_x}
 use Rattle.rule.specs.Elements.{element_fields, element_numbers, numbers_in, Known}
-use Rattle.rule.specs.Faults.{check_of, tail_fault}
+use Rattle.rule.specs.Faults.{Checked, check_of, tail_fault}
 use Rattle.rule.specs.Answers.{HeadAt, Bodied, SectionChecked, Structured, Tailed, Ended, Over, Passes, Kept, AllHold, Indexed}
 use Rattle.rule.proofs.Blocks.{blocks_append, head_letter}
 use Rattle.rule.proofs.Letters.{letter_test, place_is}
@@ -178,34 +178,34 @@ letter_x_lem = refl
 
 -- M, K and X, from what the checks of their sections told.
 module _ (sig : Signature) {s index : List ℕ} (n : ℕ) {fs : List Field} (b : Tailed s index fs) (e : numbers_in s index n ≡ named_in fs) where
-  of_m : (r : Fault) → SectionChecked r sig s index n letter_m (number_of (back place_m)) → fault_of r ≡ fault_among letter_m (map_fault (named_in fs)) fs
+  of_m : (r : Checked) → SectionChecked r sig s index n letter_m (number_of (back place_m)) → fault_of r ≡ fault_among letter_m (map_fault (named_in fs)) fs
   unfolding check_of
   of_m r h = rw (← e) (h fs (tail_run b place_m letter_m (omega arith) (omega arith) letter_m_lem))
 
-  of_k : (r : Fault) → SectionChecked r sig s index n letter_k (number_of (back place_k)) → fault_of r ≡ fault_among letter_k (kind_fault (named_in fs)) fs
+  of_k : (r : Checked) → SectionChecked r sig s index n letter_k (number_of (back place_k)) → fault_of r ≡ fault_among letter_k (kind_fault (named_in fs)) fs
   unfolding check_of
   of_k r h = rw (← e) (h fs (tail_run b place_k letter_k (omega arith) (omega arith) letter_k_lem))
 
-  of_x : (r : Fault) → SectionChecked r sig s index n letter_x (number_of (back place_x)) → fault_of r ≡ fault_among letter_x (auxiliary_fault (named_in fs)) fs
+  of_x : (r : Checked) → SectionChecked r sig s index n letter_x (number_of (back place_x)) → fault_of r ≡ fault_among letter_x (auxiliary_fault (named_in fs)) fs
   unfolding check_of
   of_x r h = rw (← e) (h fs (tail_run b place_x letter_x (omega arith) (omega arith) letter_x_lem))
 
-  module _ {m : Fault} (hm : SectionChecked m sig s index n letter_m (number_of (back place_m))) where
-    pub tail_m : {x : ℕ} → m ≡ Draws x → fault_of m ≡ tail_fault fs
+  module _ {m : Checked} (hm : SectionChecked m sig s index n letter_m (number_of (back place_m))) where
+    pub tail_m : {f : Refusal} → m ≡ Err f → some (number f) ≡ tail_fault fs
     unfolding tail_fault
     tail_m d = sym (rw (← (of_m m hm), d))
 
-    module _ (dm : m ≡ Sound) {k : Fault} (hk : SectionChecked k sig s index n letter_k (number_of (back place_k))) where
-      pub tail_k : {x : ℕ} → k ≡ Draws x → fault_of k ≡ tail_fault fs
+    module _ {u : Unit} (dm : m ≡ Ok u) {k : Checked} (hk : SectionChecked k sig s index n letter_k (number_of (back place_k))) where
+      pub tail_k : {f : Refusal} → k ≡ Err f → some (number f) ≡ tail_fault fs
       unfolding tail_fault
       tail_k d = sym (rw (← (of_m m hm), dm, ← (of_k k hk), d))
 
-      pub tail_x : k ≡ Sound → (x : Fault) → SectionChecked x sig s index n letter_x (number_of (back place_x)) → fault_of x ≡ tail_fault fs
+      pub tail_x : {v : Unit} → k ≡ Ok v → (x : Checked) → SectionChecked x sig s index n letter_x (number_of (back place_x)) → fault_of x ≡ tail_fault fs
       unfolding tail_fault
       tail_x dk x h = sym (rw (← (of_m m hm), dm, ← (of_k k hk), dk, ← (of_x x h)))
 
 -- N.
-pub of_n : (sig : Signature) (named : List (List ℕ)) (fs : List Field) (r : Fault) → fault_of r ≡ fault_among letter_n (check_of sig named letter_n) fs
+pub of_n : (sig : Signature) (named : List (List ℕ)) (fs : List Field) (r : Checked) → fault_of r ≡ fault_among letter_n (check_of sig named letter_n) fs
     → fault_of r ≡ fault_among letter_n head_fault fs
 unfolding check_of
 of_n sig named fs r h = h
@@ -228,24 +228,24 @@ module _ (sig : Signature) (s : List ℕ) (short : length s ≤ rule_bytes) wher
   abbrev fields : List Field
   fields = (rule_part s).fields
 
-  pub read_head : {h : Fault} {n : ℕ} → fault_of h ≡ fault_among letter_n head_fault fields → h ≡ Draws n → refused n ≡ read_rule sig s
+  pub read_head : {h : Checked} {f : Refusal} → fault_of h ≡ fault_among letter_n head_fault fields → h ≡ Err f → refused (number f) ≡ read_rule sig s
   unfolding rule_fault
   read_head h d = read_fault (rw (← h, d))
 
-  module _ {h : Fault} (eh : fault_of h ≡ fault_among letter_n head_fault fields) (dh : h ≡ Sound) where
-    pub read_structures : {b : Fault} {n : ℕ} → fault_of b ≡ structures_fault sig 0 (blocks letter_s fields) → b ≡ Draws n → refused n ≡ read_rule sig s
+  module _ {h : Checked} (eh : fault_of h ≡ fault_among letter_n head_fault fields) {u : Unit} (dh : h ≡ Ok u) where
+    pub read_structures : {b : Checked} {f : Refusal} → fault_of b ≡ structures_fault sig 0 (blocks letter_s fields) → b ≡ Err f → refused (number f) ≡ read_rule sig s
     unfolding rule_fault
     read_structures e d = read_fault (rw (← eh, dh, ← e, d))
 
-    module _ {b : Fault} (eb : fault_of b ≡ structures_fault sig 0 (blocks letter_s fields)) (db : b ≡ Sound) where
-      whole_fault : (x : Fault) → fault_of x ≡ tail_fault fields → rule_fault sig fields ≡ fault_of x
+    module _ {b : Checked} (eb : fault_of b ≡ structures_fault sig 0 (blocks letter_s fields)) {v : Unit} (db : b ≡ Ok v) where
+      whole_fault : (x : Checked) → fault_of x ≡ tail_fault fields → rule_fault sig fields ≡ fault_of x
       unfolding rule_fault tail_fault
       whole_fault x e = rw (← eh, dh, ← eb, db) (sym e)
 
-      pub read_tail : {x : Fault} {n : ℕ} → fault_of x ≡ tail_fault fields → x ≡ Draws n → refused n ≡ read_rule sig s
+      pub read_tail : {x : Checked} {f : Refusal} → fault_of x ≡ tail_fault fields → x ≡ Err f → refused (number f) ≡ read_rule sig s
       read_tail {x} e d = read_fault (whole_fault x e ∙ rw d)
 
-      module _ {x : Fault} (ex : fault_of x ≡ tail_fault fields) (dx : x ≡ Sound) where
+      module _ {x : Checked} (ex : fault_of x ≡ tail_fault fields) {t : Unit} (dx : x ≡ Ok t) where
         pub no_fault : rule_fault sig fields ≡ none
         no_fault = whole_fault x ex ∙ rw dx
 
@@ -270,7 +270,7 @@ module _ {s index index' : List ℕ} {whole : Bool} {n : ℕ} (p : Passes s inde
         rw (kept.before (number_of (back q)) (omega arith), kept.before (number_of (back q) + 1) (omega arith)) ((tailed p known.few).run q lo hi);
   }
 
-  module _ (holds : AllHold Sound s index' n (blocks letter_s (rule_part s).fields)) where
+  module _ {u : Unit} (holds : AllHold (Ok u) s index' n (blocks letter_s (rule_part s).fields)) where
     pub ended_named : numbers_in s index' n ≡ named_in (rule_part s).fields
     ended_named = named_all (rule_part s).fields ended_counted known holds.is
 

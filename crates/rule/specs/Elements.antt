@@ -1,13 +1,11 @@
 -- The elements that the index has, and how one is found.
-use Rattle.std.specs.Prelude.{true, false, List, ◌≡◌, ℕ, ◌+◌, ◌*◌, ◌≤◌, ◌<◌, length, get_or}
+use Rattle.std.specs.Prelude.{Option, Some, None, true, false, List, ◌≡◌, ℕ, ◌+◌, ◌*◌, ◌≤◌, ◌<◌, length, get_or}
 use Rattle.definition.specs.Base.{each, has, span, place_from}
 use Rattle.definition.specs.Limits.{structure_limit, field_limit}
 use Rattle.definition.specs.Records.{Field, number_at}
 use Rattle.records.specs.Places.{two_at}
 use Rattle.records.specs.Held.{held_at}
 use Rattle.rule.specs.Layout.{elements_from, counts_from}
-use Rattle.rule.specs.declared.elements.Found.{Found}
-use Rattle.rule.specs.declared.elements.Found.TheVariants.{At, Nothing}
 
 -- How many elements a structure has, where the field of one stands, and its number.
 abbrev pub count_at : List ℕ → ℕ → ℕ
@@ -41,9 +39,9 @@ pub record Known (s index : List ℕ) (n : ℕ) : Type 0 where
   pub elements : (k : ℕ) → k < n → Elements s index k
 
 -- The place of a number in a list, or that it is not in it.
-abbrev FoundAt : Found → ℕ → List ℕ → Type 0
-FoundAt (At i) e xs = (i ≡ place_from 0 e xs) × (i < length xs) × (has e xs ≡ true)
-FoundAt Nothing e xs = has e xs ≡ false
+abbrev FoundAt : Option ℕ → ℕ → List ℕ → Type 0
+FoundAt (Some i) e xs = (i ≡ place_from 0 e xs) × (i < length xs) × (has e xs ≡ true)
+FoundAt None e xs = has e xs ≡ false
 
-pub record Finds (r : Found) (e : ℕ) (xs : List ℕ) : Type 0 where
+pub record Finds (r : Option ℕ) (e : ℕ) (xs : List ℕ) : Type 0 where
   pub is : FoundAt r e xs

@@ -1,5 +1,6 @@
 -- The faults of a field as the definition's.
-use Rattle.std.specs.Prelude.{Bool, ◌&&◌, List, [], ℕ, ◌+◌, ◌-◌, ◌≤◌, ◌<◌, eqb, length, get_or, take, drop}
+use Rattle.std.specs.Prelude as std
+use Rattle.std.specs.Prelude.{Some, None, Result, Ok, Err, Bool, ◌&&◌, List, [], ℕ, ◌+◌, ◌-◌, ◌≤◌, ◌<◌, eqb, length, get_or, take, drop}
 use Rattle.std.proofs.Math.Option.{Option, none, some}
 use Rattle.definition.specs.Base.{pick, or_else, has}
 use Rattle.definition.specs.Letters.{letter_n, letter_r, letter_a, letter_v, letter_i, letter_m, letter_k, letter_x}
@@ -8,25 +9,27 @@ use Rattle.definition.specs.Records.{Field, numbers, fault_among}
 use Rattle.definition.specs.Signature.{Signature, pred_of, func_of, column_count}
 use Rattle.definition.specs.Rule.{Pair, head_fault, row_fault, name_fault, map_fault, kind_fault, auxiliary_fault, named_in}
 use Rattle.records.specs.Places.{two_at, field_of}
-use Rattle.signature.specs.declared.faults.Fault.{Fault}
-use Rattle.signature.specs.declared.faults.Fault.TheVariants.{Sound, Draws}
-use Rattle.rule.specs.declared.order.Last.{Last}
-use Rattle.rule.specs.declared.order.Last.TheVariants.{Content, Nothing}
+use Rattle.records.specs.declared.fields.Field as read
+use Rattle.records.specs.declared.refusal.Refusal.{Refusal}
 use Rattle.rule.specs.declared.order.Spot.{Spot}
 
+-- What a check answers.
+abbrev pub Checked : Type 0
+Checked = Result Unit Refusal
+
 -- The last field of a letter.
-abbrev pub last_field : List ℕ → ℕ → Last → Option Field
-last_field s letter Nothing = none
-last_field s letter (Content start len) = some (field_of s letter start len)
+abbrev pub last_field : List ℕ → ℕ → std.Option read.Field → Option Field
+last_field s letter None = none
+last_field s letter (Some f) = some (field_of s letter f.start f.len)
 
-abbrev LastAt : Last → ℕ → Type 0
-LastAt Nothing size = Unit
-LastAt (Content start len) size = start + len ≤ size
+abbrev LastAt : std.Option read.Field → ℕ → Type 0
+LastAt None size = Unit
+LastAt (Some f) size = f.start + f.len ≤ size
 
-pub record LastIn (last : Last) (size : ℕ) : Type 0 where
+pub record LastIn (last : std.Option read.Field) (size : ℕ) : Type 0 where
   pub is : LastAt last size
 
-abbrev pub spot_of : ℕ → ℕ → ℕ → Last → Spot
+abbrev pub spot_of : ℕ → ℕ → ℕ → std.Option read.Field → Spot
 spot_of start len before last = record { start = start; len = len; before = before; last = last }
 
 -- What a check draws of a field, which has the letter.
@@ -38,23 +41,23 @@ abbrev pub Lies : List ℕ → Spot → Type 0
 Lies s f = (f.start + f.len ≤ length s) × LastIn f.last (length s)
 
 -- An E field without a fault: it is long enough, below the limit, and its number is above the last one.
-abbrev pub AboveLast : Last → List ℕ → ℕ → Type 0
-AboveLast Nothing s e = Unit
-AboveLast (Content start len) s e = 2 ≤ len → two_at s start < e
+abbrev pub AboveLast : std.Option read.Field → List ℕ → ℕ → Type 0
+AboveLast None s e = Unit
+AboveLast (Some f) s e = 2 ≤ f.len → two_at s f.start < e
 
-abbrev FitsAs : Fault → List ℕ → ℕ → ℕ → ℕ → Last → Type 0
-FitsAs Sound s start len before last = (4 ≤ len) × (before < field_limit) × AboveLast last s (two_at s start)
-FitsAs (Draws n) s start len before last = Unit
+abbrev FitsAs : Checked → List ℕ → ℕ → ℕ → ℕ → std.Option read.Field → Type 0
+FitsAs (Ok u) s start len before last = (4 ≤ len) × (before < field_limit) × AboveLast last s (two_at s start)
+FitsAs (Err r) s start len before last = Unit
 
-pub record Fits (r : Fault) (s : List ℕ) (start len before : ℕ) (last : Last) : Type 0 where
+pub record Fits (r : Checked) (s : List ℕ) (start len before : ℕ) (last : std.Option read.Field) : Type 0 where
   pub is : FitsAs r s start len before last
 
 -- An S field without a fault is below the limit.
-abbrev BelowAs : Fault → ℕ → Type 0
-BelowAs Sound k = k < structure_limit
-BelowAs (Draws n) k = Unit
+abbrev BelowAs : Checked → ℕ → Type 0
+BelowAs (Ok u) k = k < structure_limit
+BelowAs (Err r) k = Unit
 
-pub record Below (r : Fault) (k : ℕ) : Type 0 where
+pub record Below (r : Checked) (k : ℕ) : Type 0 where
   pub is : BelowAs r k
 
 -- By what a V (one number) or an I (two) is ordered.

@@ -10,3 +10,4 @@ pub mod Rows
 pub mod Names
 pub mod Structures
 pub mod MapFields
+pub mod Search

@@ -1,16 +1,16 @@
 -- An accepted rule, as the lookups speak of it.
-use Rattle.std.specs.Prelude.{List, ◌≡◌, ℕ, ◌+◌, ◌≤◌, length}
+use Rattle.std.specs.Prelude as std
+use Rattle.std.specs.Prelude.{Some, None, List, ◌≡◌, ℕ, ◌+◌, ◌≤◌, length}
 use Rattle.std.proofs.Math.Option.{Option, none, some}
 use Rattle.definition.specs.Letters.{letter_m}
 use Rattle.records.specs.Places.{field_of}
+use Rattle.records.specs.declared.fields.Field as read
 use Rattle.definition.specs.Rule.{Rule, Pair, map_of, rule_of, rule_part, If, SurjThen, NonSurjThen, Noop}
 use Rattle.definition.specs.Rule as definition
 use Rattle.definition.specs.Signature.{Signature}
 use Rattle.rule.specs.Answers.{Indexed}
 use Rattle.rule.specs.declared.lookup.MorphismKind.{MorphismKind}
 use Rattle.rule.specs.declared.lookup.MorphismKind.TheVariants as kind
-use Rattle.rule.specs.declared.lookup.MapFound.{MapFound}
-use Rattle.rule.specs.declared.lookup.MapFound.TheVariants as map
 
 -- What the record says.
 unfoldable pub rule_at : List ℕ → Rule
@@ -32,10 +32,10 @@ kind_is kind.SurjThen = SurjThen
 kind_is kind.NonSurjThen = NonSurjThen
 kind_is kind.Noop = Noop
 
--- A map that was found, or that there is none.
-abbrev FoundMap : MapFound → List ℕ → Option (List Pair) → Type 0
-FoundMap (map.At start len) s pairs = (pairs ≡ some (map_of (field_of s letter_m start len)).pairs) × (start + len ≤ length s) × (4 ≤ len)
-FoundMap map.Nothing s pairs = pairs ≡ none
+-- The field of a map that was found, or that there is none.
+abbrev FoundMap : std.Option read.Field → List ℕ → Option (List Pair) → Type 0
+FoundMap (Some f) s pairs = (pairs ≡ some (map_of (field_of s letter_m f.start f.len)).pairs) × (f.start + f.len ≤ length s) × (4 ≤ f.len)
+FoundMap None s pairs = pairs ≡ none
 
-pub record FindsMap (r : MapFound) (s : List ℕ) (pairs : Option (List Pair)) : Type 0 where
+pub record FindsMap (r : std.Option read.Field) (s : List ℕ) (pairs : Option (List Pair)) : Type 0 where
   pub is : FoundMap r s pairs

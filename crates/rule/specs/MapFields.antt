@@ -1,5 +1,6 @@
 -- A map as its bytes have it.
-use Rattle.std.specs.Prelude.{ℕ, ◌+◌, ◌*◌, ◌≤◌, true, List, ◌≡◌, length, get_or}
+use Rattle.std.specs.Prelude as std
+use Rattle.std.specs.Prelude.{Some, None, ℕ, ◌+◌, ◌*◌, ◌≤◌, true, List, ◌≡◌, length, get_or}
 use Rattle.std.proofs.Math.Option.{Option, none, some}
 use Rattle.definition.specs.Base.{◌∈◌}
 use Rattle.definition.specs.Limits.{field_limit}
@@ -9,8 +10,7 @@ use Rattle.definition.specs.Rule.{Structure, Pair, pairs_of, keys_ascend}
 use Rattle.records.specs.Places.{stretch}
 use Rattle.rule.specs.Structures.{structure_in}
 use Rattle.rule.specs.declared.maps.Map.{Map}
-use Rattle.rule.specs.declared.maps.Image.{Image}
-use Rattle.rule.specs.declared.maps.Image.TheVariants.{Of, Nothing}
+use Rattle.rule.specs.declared.ids.ElId.{ElId}
 use Rattle.rule.specs.Lookup.{no_pair}
 
 -- The pairs of a map, and the one at a place.
@@ -27,9 +27,9 @@ pub record MapIn (s : List ℕ) (m : Map) : Type 0 where
   pub ascend : keys_ascend (pairs_in s m) ≡ true
 
 -- An image as the definition's.
-abbrev pub image_is : Image → Option ℕ
-image_is (Of e) = some e.0
-image_is Nothing = none
+abbrev pub image_is : std.Option ElId → Option ℕ
+image_is (Some e) = some e.0
+image_is None = none
 
 -- The keys are elements of the source.
 pub record KeysIn (els : List ℕ) (pairs : List Pair) : Type 0 where

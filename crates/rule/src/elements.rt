@@ -13,21 +13,16 @@ ghost use Rattle.rule.specs.Lists.{els_in, ElsInside};
 
 use crate::ids::{COUNTS_FROM, ELEMENTS_FROM, ElId, FIELDS, RULE_INDEX};
 use crate::lists::Els;
-use records::fields::{Field, num, place, read_field, two};
+use crate::search::search;
+use records::fields::{num, read_field, two};
 use signature::ids::TypeId;
-
-#[derive(Clone, Copy)]
-pub enum Found {
-    At(usize),
-    Nothing,
-}
 
 // How many elements a structure has.
 pub fn element_count(index: &[u16; RULE_INDEX], k: usize) -> usize
     requires { k < structure_limit }
     ensures { result ≡ count_at index.now k }
 {
-    place(index[COUNTS_FROM + k])
+    usize::from(index[COUNTS_FROM + k])
 }
 
 // Where the field of an element stands.
@@ -35,7 +30,7 @@ pub fn element_field(index: &[u16; RULE_INDEX], k: usize, i: usize) -> usize
     requires { (k < structure_limit) × (i < field_limit) }
     ensures { (result ≡ position_at index.now k i) × (result < 65536) }
 {
-    place(index[ELEMENTS_FROM + FIELDS * k + i])
+    usize::from(index[ELEMENTS_FROM + FIELDS * k + i])
 }
 
 // The number of an element.
@@ -47,36 +42,15 @@ pub fn element_number(s: &[u8], index: &[u16; RULE_INDEX], k: usize, i: usize) -
     ElId(num(s, element_field(index, k, i) + 3))
 }
 
-// The place of an element in its structure. Elements are often numbered from 0, so the place that is its number comes first;
-// they stand in ascending order, so the search halves what is left.
-pub fn find_element(s: &[u8], index: &[u16; RULE_INDEX], k: usize, e: ElId) -> Found
+// The place of an element in its structure; they stand in ascending order.
+pub fn find_element(s: &[u8], index: &[u16; RULE_INDEX], k: usize, e: ElId) -> Option<usize>
     requires k_lt_structure_limit { k < structure_limit }
     requires elements { Elements s.now index.now k }
     ensures { Finds result e.0 (element_numbers s.now index.now k) }
 {
-    let n = element_count(index, k);
-    let guess = place(e.0);
-    if guess < n {
-        let x = element_number(s, index, k, guess);
-        if x.0 == e.0 {
-            return Found::At(guess);
-        }
-    }
-    let mut low: usize = 0;
-    let mut high = n;
-    while low < high {
-        let mid = (low + high) >> 1;
-        let x = element_number(s, index, k, mid);
-        if x.0 == e.0 {
-            return Found::At(mid);
-        }
-        if x.0 < e.0 {
-            low = mid + 1;
-        } else {
-            high = mid;
-        }
-    }
-    Found::Nothing
+    search(element_count(index, k), e.0, |i| {
+        element_number(s, index, k, i).0
+    })
 }
 
 // Is there such an element in a structure?
@@ -85,11 +59,7 @@ pub fn has_element(s: &[u8], index: &[u16; RULE_INDEX], k: usize, e: ElId) -> bo
     requires elements { Elements s.now index.now k }
     ensures { result ≡ has e.0 (element_numbers s.now index.now k) }
 {
-    let f = find_element(s, index, k, e);
-    match f {
-        Found::At(_) => true,
-        Found::Nothing => false,
-    }
+    find_element(s, index, k, e).is_some()
 }
 
 // Is there an element in each number of a stretch?
@@ -106,13 +76,10 @@ pub fn elements_named(
     ensures { result ≡ all (λ (e : ℕ). has e (element_numbers s.now index.now k))
         (numbers (stretch s.now start len)) }
 {
-    let count = len >> 1;
-    let mut i: usize = 0;
-    while i < count {
+    for i in 0..len >> 1 {
         if !has_element(s, index, k, ElId(num(s, start + 2 * i))) {
             return false;
         }
-        i += 1;
     }
     true
 }
@@ -125,22 +92,13 @@ fn can_be_named(s: &[u8], from: usize, to: usize, e: ElId) -> bool
 {
     let mut at = from;
     while at < to {
-        let f = read_field(s, at);
-        let Field::Got {
-            letter: _,
-            start,
-            len,
-            next,
-        } = f
-        else {
+        let Some(f) = read_field(s, at) else {
             return false;
         };
-        if 2 <= len {
-            if num(s, start) == e.0 {
-                return true;
-            }
+        if 2 <= f.len && ElId(num(s, f.start)) == e {
+            return true;
         }
-        at = next;
+        at = f.next;
     }
     false
 }
@@ -151,13 +109,10 @@ pub fn parents_named(s: &[u8], from: usize, to: usize, start: usize, len: usize)
     ensures { (body : List definition.Field) → Run s.now from to (with_letter letter_e body)
         → result ≡ all (λ (e : ℕ). has e (named_elements body)) (numbers (stretch s.now start len)) }
 {
-    let count = len >> 1;
-    let mut i: usize = 0;
-    while i < count {
+    for i in 0..len >> 1 {
         if !can_be_named(s, from, to, ElId(num(s, start + 2 * i))) {
             return false;
         }
-        i += 1;
     }
     true
 }

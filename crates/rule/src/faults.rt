@@ -20,7 +20,7 @@ ghost use Rattle.definition.specs.Rule.{
   auxiliary_fault,
 };
 ghost use Rattle.records.specs.Places.{stretch, field_of, Run};
-ghost use Rattle.signature.specs.Faults.{fault_of};
+ghost use Rattle.records.specs.Refusals.{fault_of};
 ghost use Rattle.signature.specs.Index.{signature_at, Indexed};
 ghost use Rattle.signature.specs.Relations.{kind_of, number_of};
 ghost use Rattle.rule.specs.Elements.{element_numbers, numbers_in, Elements, Known};
@@ -31,11 +31,11 @@ use crate::ids::{
     ElId, FIELDS, LETTER_A, LETTER_I, LETTER_K, LETTER_M, LETTER_N, LETTER_R, LETTER_V, MAPS,
     NAME_BYTES, RULE_INDEX, STRUCTURES,
 };
-use crate::order::{Last, Spot, first_not_above, name_not_above, row_not_above};
-use records::fields::{num, two};
+use crate::order::{Spot, first_not_above, name_not_above, row_not_above};
+use records::fields::{Field, num, two};
 use records::names::bad_name;
 use records::order::named;
-use signature::faults::Fault;
+use records::refusal::Refusal;
 use signature::ids::{Counts, FuncId, INDEX, PredId, Relation, TypeId};
 use signature::lookup::{arity, declared, type_parents};
 
@@ -44,42 +44,42 @@ fn not_numbers(len: usize, least: usize) -> bool
     requires { least ≤ 2 }
     ensures { result ≡ (odd len || ltb len (2 * least)) }
 {
-    if (len & 1) == 1 {
-        return true;
-    }
-    len < 2 * least
+    (len & 1) == 1 || len < 2 * least
 }
 
 // An N field: the unnamed index, and the name.
-pub fn head_fault(s: &[u8], start: usize, len: usize) -> Fault
+#[tactic(auto, using(crate::proofs::Drawn::head_tests))]
+pub fn head_fault(s: &[u8], start: usize, len: usize) -> Result<(), Refusal>
     requires { start + len ≤ length s.now }
     ensures { (letter before : ℕ) (last : Option definition.Field)
         → fault_of result ≡ head_fault before last (field_of s.now letter start len) }
 {
     if len < 2 {
-        return Fault::Draws(3);
+        return Err(Refusal::BadLength);
     }
     if bad_name(s, start + 2, len - 2, 0, NAME_BYTES) {
-        return Fault::Draws(8);
+        return Err(Refusal::BadName);
     }
-    Fault::Sound
+    Ok(())
 }
 
 // An S field.
-pub fn structure_fault(len: usize, before: usize) -> Fault
+#[tactic(auto, using(crate::proofs::Drawn::structure_tests))]
+pub fn structure_fault(len: usize, before: usize) -> Result<(), Refusal>
     ensures result_value { (f : definition.Field) → length f.content ≡ len → fault_of result ≡ structure_fault before f }
     ensures below { Below result before }
 {
     if len != 0 {
-        return Fault::Draws(3);
+        return Err(Refusal::BadLength);
     }
     if STRUCTURES <= before {
-        return Fault::Draws(4);
+        return Err(Refusal::TooMany);
     }
-    Fault::Sound
+    Ok(())
 }
 
 // An E field of the structure whose E fields stand from one position to another: its number, type and parents.
+#[tactic(auto, using(crate::proofs::Drawn::element_tests, crate::proofs::Drawn::types_length))]
 pub fn element_fault(
     sig: &[u8],
     symbols: &[u16; INDEX],
@@ -88,7 +88,7 @@ pub fn element_fault(
     from: usize,
     to: usize,
     f: Spot,
-) -> Fault
+) -> Result<(), Refusal>
     requires indexed { Indexed sig.now symbols.now counts }
     requires lies { Lies s.now f }
     ensures result_value { (body : List definition.Field) (letter : ℕ) → Run s.now from to (with_letter letter_e body)
@@ -96,27 +96,26 @@ pub fn element_fault(
         s.now letter f }
     ensures fits { Fits result s.now f.start f.len f.before f.last }
 {
-    let last = f.last;
     if not_numbers(f.len, 2) {
-        return Fault::Draws(3);
+        return Err(Refusal::BadLength);
     }
     if FIELDS <= f.before {
-        return Fault::Draws(4);
+        return Err(Refusal::TooMany);
     }
     let t = num(s, f.start + 2);
-    if counts.types <= t as usize {
-        return Fault::Draws(5);
+    if counts.types <= usize::from(t) {
+        return Err(Refusal::Undeclared);
     }
     if !parents_named(s, from, to, f.start + 4, f.len - 4) {
-        return Fault::Draws(5);
+        return Err(Refusal::Undeclared);
     }
-    if first_not_above(s, last, 1, f.start, f.len) {
-        return Fault::Draws(6);
+    if first_not_above(s, f.last, 1, f.start, f.len) {
+        return Err(Refusal::NotAscending);
     }
     if (f.len >> 1) - 2 != type_parents(sig, symbols, counts, TypeId(t)) {
-        return Fault::Draws(7);
+        return Err(Refusal::BadArity);
     }
-    Fault::Sound
+    Ok(())
 }
 
 // What a row is about: a predicate, or, where it has a result, a function.
@@ -130,6 +129,7 @@ fn row_relation(results: usize, number: u16) -> Relation
 }
 
 // An R field (no results) or an A field (one): its symbol and its elements, in structure k.
+#[tactic(auto, using(crate::proofs::Drawn::row_tests, crate::proofs::Drawn::row_count, crate::proofs::Drawn::row_arity))]
 pub fn row_fault(
     sig: &[u8],
     symbols: &[u16; INDEX],
@@ -139,7 +139,7 @@ pub fn row_fault(
     k: usize,
     results: usize,
     f: Spot,
-) -> Fault
+) -> Result<(), Refusal>
     requires indexed { Indexed sig.now symbols.now counts }
     requires k_lt_structure_limit { (k < structure_limit) × (results ≤ 1) }
     requires elements { Elements s.now index.now k }
@@ -148,31 +148,31 @@ pub fn row_fault(
         ≡ fault_at (row_check (signature_at sig.now symbols.now counts) results
         (element_numbers s.now index.now k)) s.now letter f }
 {
-    let last = f.last;
     if not_numbers(f.len, 1 + results) {
-        return Fault::Draws(3);
+        return Err(Refusal::BadLength);
     }
     if FIELDS <= f.before {
-        return Fault::Draws(4);
+        return Err(Refusal::TooMany);
     }
     let rel = row_relation(results, num(s, f.start));
     if !declared(counts, rel) {
-        return Fault::Draws(5);
+        return Err(Refusal::Undeclared);
     }
     if !elements_named(s, index, k, f.start + 2, f.len - 2) {
-        return Fault::Draws(5);
+        return Err(Refusal::Undeclared);
     }
-    if row_not_above(s, last, results, f.start, f.len) {
-        return Fault::Draws(6);
+    if row_not_above(s, f.last, results, f.start, f.len) {
+        return Err(Refusal::NotAscending);
     }
     if (f.len >> 1) - 1 != arity(sig, symbols, counts, rel) {
-        return Fault::Draws(7);
+        return Err(Refusal::BadArity);
     }
-    Fault::Sound
+    Ok(())
 }
 
 // Is a V (one number) not above the last by its name, or an I (two) by its term number?
-fn not_above(s: &[u8], last: Last, count: usize, start: usize, len: usize) -> bool
+#[tactic(auto, using(crate::proofs::Drawn::key_name, crate::proofs::Drawn::key_term))]
+fn not_above(s: &[u8], last: Option<Field>, count: usize, start: usize, len: usize) -> bool
     requires len_in_bounds { start + len ≤ length s.now }
     requires le_count { (1 ≤ count) × (count ≤ 2) }
     requires last_in { LastIn last (length s.now) }
@@ -186,7 +186,14 @@ fn not_above(s: &[u8], last: Last, count: usize, start: usize, len: usize) -> bo
 }
 
 // A V field (one number, the element) or an I field (two, the second the element), and a name.
-pub fn name_fault(s: &[u8], index: &[u16; RULE_INDEX], k: usize, count: usize, f: Spot) -> Fault
+#[tactic(auto, using(crate::proofs::Drawn::name_tests))]
+pub fn name_fault(
+    s: &[u8],
+    index: &[u16; RULE_INDEX],
+    k: usize,
+    count: usize,
+    f: Spot,
+) -> Result<(), Refusal>
     requires k_lt_structure_limit { k < structure_limit }
     requires elements { Elements s.now index.now k }
     requires le_count { (1 ≤ count) × (count ≤ 2) }
@@ -194,23 +201,22 @@ pub fn name_fault(s: &[u8], index: &[u16; RULE_INDEX], k: usize, count: usize, f
     ensures { (letter : ℕ) → fault_of result ≡ fault_at
         (name_fault count (name_key count) (element_numbers s.now index.now k)) s.now letter f }
 {
-    let last = f.last;
     if f.len < 2 * count {
-        return Fault::Draws(3);
+        return Err(Refusal::BadLength);
     }
     if FIELDS <= f.before {
-        return Fault::Draws(4);
+        return Err(Refusal::TooMany);
     }
     if !has_element(s, index, k, ElId(num(s, f.start + 2 * (count - 1)))) {
-        return Fault::Draws(5);
+        return Err(Refusal::Undeclared);
     }
-    if not_above(s, last, count, f.start, f.len) {
-        return Fault::Draws(6);
+    if not_above(s, f.last, count, f.start, f.len) {
+        return Err(Refusal::NotAscending);
     }
     if bad_name(s, f.start + 2 * count, f.len - 2 * count, 1, NAME_BYTES) {
-        return Fault::Draws(8);
+        return Err(Refusal::BadName);
     }
-    Fault::Sound
+    Ok(())
 }
 
 // Is each key an element of the source and each image one of the target?
@@ -230,15 +236,13 @@ fn pairs_named(
         (element_numbers s.now index.now target))
         (pairs_of (numbers (stretch s.now start (4 * count)))) }
 {
-    let mut i: usize = 0;
-    while i < count {
+    for i in 0..count {
         if !has_element(s, index, source, ElId(num(s, start + 4 * i))) {
             return false;
         }
         if !has_element(s, index, target, ElId(num(s, start + 4 * i + 2))) {
             return false;
         }
-        i += 1;
     }
     true
 }
@@ -248,18 +252,22 @@ fn keys_ascend(s: &[u8], start: usize, count: usize) -> bool
     requires { start + 4 * count ≤ length s.now }
     ensures { result ≡ keys_ascend (pairs_of (numbers (stretch s.now start (4 * count)))) }
 {
-    let mut i: usize = 0;
-    while i + 1 < count {
-        if num(s, start + 4 * i + 4) <= num(s, start + 4 * i) {
+    for i in 1..count {
+        if num(s, start + 4 * i) <= num(s, start + 4 * i - 4) {
             return false;
         }
-        i += 1;
     }
     true
 }
 
 // An M field: source, target, and pairs of key and image.
-pub fn map_fault(s: &[u8], index: &[u16; RULE_INDEX], structures: usize, f: Spot) -> Fault
+#[tactic(auto, using(crate::proofs::Drawn::map_tests, records::proofs::Numbers::low_bits, records::proofs::Numbers::low_bits_not))]
+pub fn map_fault(
+    s: &[u8],
+    index: &[u16; RULE_INDEX],
+    structures: usize,
+    f: Spot,
+) -> Result<(), Refusal>
     requires known { Known s.now index.now structures }
     requires lies { Lies s.now f }
     ensures { (letter : ℕ)
@@ -267,95 +275,91 @@ pub fn map_fault(s: &[u8], index: &[u16; RULE_INDEX], structures: usize, f: Spot
 {
     let start = f.start;
     let len = f.len;
-    let last = f.last;
-    if len < 4 {
-        return Fault::Draws(3);
-    }
-    if (len & 3) != 0 {
-        return Fault::Draws(3);
+    if len < 4 || (len & 3) != 0 {
+        return Err(Refusal::BadLength);
     }
     if MAPS <= f.before {
-        return Fault::Draws(4);
+        return Err(Refusal::TooMany);
     }
     if !named(s, start, 4, structures) {
-        return Fault::Draws(5);
+        return Err(Refusal::Undeclared);
     }
     let pairs = (len >> 2) - 1;
     if !pairs_named(s, index, two(s, start), two(s, start + 2), start + 4, pairs) {
-        return Fault::Draws(5);
+        return Err(Refusal::Undeclared);
     }
-    if first_not_above(s, last, 2, start, len) {
-        return Fault::Draws(6);
+    if first_not_above(s, f.last, 2, start, len) {
+        return Err(Refusal::NotAscending);
     }
     if !keys_ascend(s, start + 4, pairs) {
-        return Fault::Draws(6);
+        return Err(Refusal::NotAscending);
     }
-    Fault::Sound
+    Ok(())
 }
 
 // A K field: source, target, and a byte for the kind.
-pub fn kind_fault(s: &[u8], structures: usize, f: Spot) -> Fault
+#[tactic(auto, using(crate::proofs::Drawn::kind_tests))]
+pub fn kind_fault(s: &[u8], structures: usize, f: Spot) -> Result<(), Refusal>
     requires { Lies s.now f }
     ensures { (letter : ℕ) (named : List (List ℕ)) → length named ≡ structures
         → fault_of result ≡ fault_at (kind_fault named) s.now letter f }
 {
     let start = f.start;
-    let last = f.last;
     if f.len != 5 {
-        return Fault::Draws(3);
+        return Err(Refusal::BadLength);
     }
     if MAPS <= f.before {
-        return Fault::Draws(4);
+        return Err(Refusal::TooMany);
     }
     if !named(s, start, 4, structures) {
-        return Fault::Draws(5);
+        return Err(Refusal::Undeclared);
     }
     if 3 < s[start + 4] {
-        return Fault::Draws(5);
+        return Err(Refusal::Undeclared);
     }
-    if first_not_above(s, last, 2, start, f.len) {
-        return Fault::Draws(6);
+    if first_not_above(s, f.last, 2, start, f.len) {
+        return Err(Refusal::NotAscending);
     }
-    Fault::Sound
+    Ok(())
 }
 
 // Is the class below the last one?
-fn class_falls(s: &[u8], last: Last, start: usize) -> bool
+fn class_falls(s: &[u8], last: Option<Field>, start: usize) -> bool
     requires start_in_bounds { start < length s.now }
     requires last_in { LastIn last (length s.now) }
     ensures { (letter len : ℕ) → 1 ≤ len
         → result ≡ class_falls (last_field s.now letter last) (field_of s.now letter start len) }
 {
     match last {
-        Last::Nothing => false,
-        Last::Content { start: a, len: m } => if m == 0 { false } else { s[start] < s[a] },
+        Some(g) => g.len != 0 && s[start] < s[g.start],
+        None => false,
     }
 }
 
 // An X field: a byte for the class, and a structure.
-pub fn auxiliary_fault(s: &[u8], structures: usize, f: Spot) -> Fault
+#[tactic(auto, using(crate::proofs::Drawn::auxiliary_tests))]
+pub fn auxiliary_fault(s: &[u8], structures: usize, f: Spot) -> Result<(), Refusal>
     requires { Lies s.now f }
     ensures { (letter : ℕ) (named : List (List ℕ)) → length named ≡ structures
         → fault_of result ≡ fault_at (auxiliary_fault named) s.now letter f }
 {
     let start = f.start;
-    let last = f.last;
     if f.len != 3 {
-        return Fault::Draws(3);
+        return Err(Refusal::BadLength);
     }
     if MAPS <= f.before {
-        return Fault::Draws(4);
+        return Err(Refusal::TooMany);
     }
     if 2 < s[start] {
-        return Fault::Draws(5);
+        return Err(Refusal::Undeclared);
     }
     if structures <= two(s, start + 1) {
-        return Fault::Draws(5);
+        return Err(Refusal::Undeclared);
     }
-    if class_falls(s, last, start) {
-        return Fault::Draws(6);
+    if class_falls(s, f.last, start) {
+        return Err(Refusal::NotAscending);
     }
-    Fault::Sound
+    Ok(())
 }
 
 // How many results a row has: none in an R field, one in an A field.
@@ -390,7 +394,7 @@ pub fn field_fault(
     structures: usize,
     letter: u8,
     f: Spot,
-) -> Fault
+) -> Result<(), Refusal>
     requires indexed { Indexed sig.now symbols.now counts }
     requires known { Known s.now index.now structures }
     requires le_structures { letter ≡ letter_r ⊎ letter ≡ letter_a ⊎ letter ≡ letter_v ⊎ letter ≡ letter_i → 1 ≤ structures }

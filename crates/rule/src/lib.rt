@@ -12,4 +12,5 @@ pub mod order;
 pub mod pass;
 pub mod reader;
 pub mod rows;
+pub mod search;
 pub mod sections;

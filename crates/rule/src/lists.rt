@@ -15,6 +15,7 @@ pub struct Els {
 }
 
 // The element at a place of a list.
+#[tactic(auto, using(crate::proofs::ListLaws::el_is))]
 pub fn el_at(s: &[u8], l: Els, i: usize) -> ElId
     requires els_inside { ElsInside s.now l }
     requires i_lt_count { i < l.count }
@@ -24,6 +25,7 @@ pub fn el_at(s: &[u8], l: Els, i: usize) -> ElId
 }
 
 // A list without its first n elements. The record is there for the contract: it bounds where the list ends.
+#[tactic(auto, using(crate::proofs::ListLaws::els_behind))]
 pub fn behind(s: &[u8], l: Els, n: usize) -> Els
     requires els_inside { ElsInside s.now l }
     requires n_le_count { n ≤ l.count }
@@ -37,6 +39,7 @@ pub fn behind(s: &[u8], l: Els, n: usize) -> Els
 }
 
 // The first n elements of a list.
+#[tactic(auto, using(crate::proofs::ListLaws::els_first))]
 pub fn first(s: &[u8], l: Els, n: usize) -> Els
     requires els_inside { ElsInside s.now l }
     requires n_le_count { n ≤ l.count }

@@ -9,14 +9,7 @@ use crate::ids::{RULE_INDEX, SECTION_K, SECTION_M};
 use crate::reader::bound;
 use records::fields::{Field, read_field, two};
 
-// The map between two structures, by the content of its field.
-#[derive(Clone, Copy)]
-pub enum MapFound {
-    At { start: usize, len: usize },
-    Nothing,
-}
-
-#[derive(Clone, Copy)]
+#[derive(Clone, Copy, Debug, PartialEq, Eq)]
 pub enum MorphismKind {
     If,
     SurjThen,
@@ -25,6 +18,7 @@ pub enum MorphismKind {
 }
 
 // An M or K field by its content: source and target.
+#[tactic(auto, using(crate::proofs::Saying::source_is, crate::proofs::Saying::kind_source_is))]
 pub fn source_at(s: &[u8], start: usize, len: usize) -> usize
     requires { (start + len ≤ length s.now) × (4 ≤ len) }
     ensures by_index { (letter : ℕ) → result ≡ (map_of (field_of s.now letter start len)).source }
@@ -33,6 +27,7 @@ pub fn source_at(s: &[u8], start: usize, len: usize) -> usize
     two(s, start)
 }
 
+#[tactic(auto, using(crate::proofs::Saying::target_is, crate::proofs::Saying::kind_target_is))]
 pub fn target_at(s: &[u8], start: usize, len: usize) -> usize
     requires { (start + len ≤ length s.now) × (4 ≤ len) }
     ensures by_index { (letter : ℕ) → result ≡ (map_of (field_of s.now letter start len)).target }
@@ -42,6 +37,7 @@ pub fn target_at(s: &[u8], start: usize, len: usize) -> usize
 }
 
 // How many pairs an M field has.
+#[tactic(auto, using(crate::proofs::Saying::pairs_are))]
 pub fn map_pairs(s: &[u8], start: usize, len: usize) -> usize
     requires { (start + len ≤ length s.now) × (4 ≤ len) }
     ensures { (letter : ℕ) → result ≡ length (map_of (field_of s.now letter start len)).pairs }
@@ -50,12 +46,12 @@ pub fn map_pairs(s: &[u8], start: usize, len: usize) -> usize
 }
 
 // The kind of a K field.
+#[tactic(auto, using(crate::proofs::Saying::kind_is, crate::proofs::Saying::kind_other))]
 pub fn kind_at(s: &[u8], start: usize, len: usize) -> MorphismKind
     requires { (start + len ≤ length s.now) × (5 ≤ len) }
     ensures { (letter : ℕ) → kind_is result ≡ (kind_of (field_of s.now letter start len)).kind }
 {
-    let b = s[start + 4];
-    match b {
+    match s[start + 4] {
         1 => MorphismKind::SurjThen,
         2 => MorphismKind::NonSurjThen,
         3 => MorphismKind::Noop,
@@ -64,6 +60,7 @@ pub fn kind_at(s: &[u8], start: usize, len: usize) -> MorphismKind
 }
 
 // An X field by its content: its class and its structure.
+#[tactic(auto, using(crate::proofs::Drawn::class_is))]
 pub fn class_at(s: &[u8], start: usize, len: usize) -> u8
     requires { (start + len ≤ length s.now) × (3 ≤ len) }
     ensures { (letter : ℕ) → result ≡ (auxiliary_of (field_of s.now letter start len)).class }
@@ -71,6 +68,7 @@ pub fn class_at(s: &[u8], start: usize, len: usize) -> u8
     s[start]
 }
 
+#[tactic(auto, using(crate::proofs::Saying::structure_number_is))]
 pub fn structure_at(s: &[u8], start: usize, len: usize) -> usize
     requires { (start + len ≤ length s.now) × (3 ≤ len) }
     ensures { (letter : ℕ) → result ≡ (auxiliary_of (field_of s.now letter start len)).structure }
@@ -78,30 +76,21 @@ pub fn structure_at(s: &[u8], start: usize, len: usize) -> usize
     two(s, start + 1)
 }
 
-// The map from one structure to another: the M fields are few, and stand in no order of their targets.
-pub fn find_map(s: &[u8], index: &[u16; RULE_INDEX], source: usize, target: usize) -> MapFound
+// The M field of the map from one structure to another: the M fields are few, and stand in no order of their targets.
+pub fn find_map(s: &[u8], index: &[u16; RULE_INDEX], source: usize, target: usize) -> Option<Field>
     requires { Ready s.now index.now }
     ensures { FindsMap result s.now (pairs_between (rule_at s.now).maps source target) }
 {
     let to = bound(index, SECTION_K);
     let mut at = bound(index, SECTION_M);
     while at < to {
-        let f = read_field(s, at);
-        let Field::Got {
-            letter: _,
-            start,
-            len,
-            next,
-        } = f
-        else {
-            return MapFound::Nothing;
-        };
-        if joins(s, start, len, source, target) {
-            return MapFound::At { start, len };
+        let f = read_field(s, at)?;
+        if joins(s, f.start, f.len, source, target) {
+            return Some(f);
         }
-        at = next;
+        at = f.next;
     }
-    MapFound::Nothing
+    None
 }
 
 // Is this the map from the one structure to the other?
@@ -110,8 +99,5 @@ fn joins(s: &[u8], start: usize, len: usize, source: usize, target: usize) -> bo
     ensures { (letter : ℕ) → result ≡ (eqb (map_of (field_of s.now letter start len)).source source
         && eqb (map_of (field_of s.now letter start len)).target target) }
 {
-    if source_at(s, start, len) != source {
-        return false;
-    }
-    target_at(s, start, len) == target
+    source_at(s, start, len) == source && target_at(s, start, len) == target
 }

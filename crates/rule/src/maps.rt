@@ -7,7 +7,8 @@ ghost use Rattle.rule.specs.Lookup.{Ready, rule_at};
 ghost use Rattle.rule.specs.MapFields.{pair_at, pairs_in, MapIn, Joins, image_is};
 
 use crate::ids::{ElId, RULE_INDEX};
-use crate::lookup::{MapFound, find_map, map_pairs};
+use crate::lookup::{find_map, map_pairs};
+use crate::search::search;
 use records::fields::num;
 
 // Where the pairs of a map stand in the rule, and how many there are.
@@ -17,20 +18,8 @@ pub struct Map {
     pub pairs: usize,
 }
 
-#[derive(Clone, Copy)]
-pub enum Image {
-    Of(ElId),
-    Nothing,
-}
-
-// An element's number as a place.
-fn place(e: ElId) -> usize
-    ensures { (result ≡ e.0) × (result < 65536) }
-{
-    e.0 as usize
-}
-
 // The key and the image of a pair.
+#[tactic(auto, using(crate::proofs::MapLaws::key_is))]
 pub fn pair_key(s: &[u8], m: Map, p: usize) -> ElId
     requires map_in { MapIn s.now m }
     requires p_lt_pairs { p < m.pairs }
@@ -39,6 +28,7 @@ pub fn pair_key(s: &[u8], m: Map, p: usize) -> ElId
     ElId(num(s, m.at + 4 * p))
 }
 
+#[tactic(auto, using(crate::proofs::MapLaws::image_is))]
 pub fn pair_image(s: &[u8], m: Map, p: usize) -> ElId
     requires map_in { MapIn s.now m }
     requires p_lt_pairs { p < m.pairs }
@@ -47,34 +37,13 @@ pub fn pair_image(s: &[u8], m: Map, p: usize) -> ElId
     ElId(num(s, m.at + 4 * p + 2))
 }
 
-// The image of a source element. Most maps take element after element, so the pair at the place that is its number comes first;
-// keys stand in ascending order, so the search halves what is left.
-pub fn image_of(s: &[u8], m: Map, e: ElId) -> Image
+// The image of a source element; keys stand in ascending order.
+pub fn image_of(s: &[u8], m: Map, e: ElId) -> Option<ElId>
     requires { MapIn s.now m }
     ensures { image_is result ≡ image_of (pairs_in s.now m) e.0 }
 {
-    let guess = place(e);
-    if guess < m.pairs {
-        let x = pair_key(s, m, guess);
-        if x.0 == e.0 {
-            return Image::Of(pair_image(s, m, guess));
-        }
-    }
-    let mut low: usize = 0;
-    let mut high = m.pairs;
-    while low < high {
-        let mid = (low + high) >> 1;
-        let x = pair_key(s, m, mid);
-        if x.0 == e.0 {
-            return Image::Of(pair_image(s, m, mid));
-        }
-        if x.0 < e.0 {
-            low = mid + 1;
-        } else {
-            high = mid;
-        }
-    }
-    Image::Nothing
+    let p = search(m.pairs, e.0, |p| pair_key(s, m, p).0)?;
+    Some(pair_image(s, m, p))
 }
 
 // Where the pairs of the map from a source to a target stand.
@@ -84,12 +53,11 @@ pub fn map_between(s: &[u8], index: &[u16; RULE_INDEX], source: usize, target: u
     ensures target_value_2 { or_default (pairs_between (rule_at s.now).maps source target) [] ≡ pairs_in s.now result }
     ensures map_in { MapIn s.now result × Joins s.now source target result }
 {
-    let map = find_map(s, index, source, target);
-    let MapFound::At { start, len } = map else {
+    let Some(f) = find_map(s, index, source, target) else {
         return Map { at: 0, pairs: 0 };
     };
     Map {
-        at: start + 4,
-        pairs: map_pairs(s, start, len),
+        at: f.start + 4,
+        pairs: map_pairs(s, f.start, f.len),
     }
 }

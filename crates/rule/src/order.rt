@@ -6,14 +6,8 @@ ghost use Rattle.definition.specs.Rule.{row_key};
 ghost use Rattle.records.specs.Places.{field_of};
 ghost use Rattle.rule.specs.Faults.{last_field, LastIn, spot_of};
 
+use records::fields::Field;
 use records::order::{less_bytes, less_numbers};
-
-// The last field of the same letter.
-#[derive(Clone, Copy)]
-pub enum Last {
-    Content { start: usize, len: usize },
-    Nothing,
-}
 
 // A field to be checked: its content, how many fields of its letter came before it, and the last of them.
 #[derive(Clone, Copy)]
@@ -21,10 +15,10 @@ pub struct Spot {
     pub start: usize,
     pub len: usize,
     pub before: usize,
-    pub last: Last,
+    pub last: Option<Field>,
 }
 
-pub fn spot_of(start: usize, len: usize, before: usize, last: Last) -> Spot
+pub fn spot_of(start: usize, len: usize, before: usize, last: Option<Field>) -> Spot
     ensures { result ≡ spot_of start len before last }
 {
     Spot {
@@ -35,76 +29,69 @@ pub fn spot_of(start: usize, len: usize, before: usize, last: Last) -> Spot
     }
 }
 
-// What is left of a length.
-pub fn minus(len: usize, cut: usize) -> usize
-    ensures { result ≡ len - cut }
-{
-    if len < cut {
-        return 0;
-    }
-    len - cut
-}
-
-fn least(a: usize, b: usize) -> usize
-    ensures { (result ≤ a) × (result ≤ b) × (result ≡ min a b) }
-{
-    if a < b {
-        return a;
-    }
-    b
-}
-
 // By the first numbers, so many of them.
-pub fn first_not_above(s: &[u8], last: Last, count: usize, start: usize, len: usize) -> bool
+pub fn first_not_above(
+    s: &[u8],
+    last: Option<Field>,
+    count: usize,
+    start: usize,
+    len: usize,
+) -> bool
     requires len_in_bounds { start + len ≤ length s.now }
     requires count_bound { count ≤ 2 }
     requires last_in { LastIn last (length s.now) }
     ensures { (letter : ℕ) → result ≡ not_above (λ (g : definition.Field). take count (numbers g.content))
         (last_field s.now letter last) (field_of s.now letter start len) }
 {
-    match last {
-        Last::Nothing => false,
-        Last::Content { start: a, len: m } => !less_numbers(
-            s,
-            a,
-            least(m, 2 * count),
-            start,
-            least(len, 2 * count),
-        ),
-    }
+    let Some(g) = last else {
+        return false;
+    };
+    let size = 2 * count;
+    !less_numbers(s, g.start, g.len.min(size), start, len.min(size))
 }
 
 // By all numbers but the results.
-pub fn row_not_above(s: &[u8], last: Last, results: usize, start: usize, len: usize) -> bool
+pub fn row_not_above(
+    s: &[u8],
+    last: Option<Field>,
+    results: usize,
+    start: usize,
+    len: usize,
+) -> bool
     requires len_in_bounds { start + len ≤ length s.now }
     requires results_bound { results ≤ 1 }
     requires last_in { LastIn last (length s.now) }
     ensures { (letter : ℕ)
         → result ≡ not_above (row_key results) (last_field s.now letter last) (field_of s.now letter start len) }
 {
-    match last {
-        Last::Nothing => false,
-        Last::Content { start: a, len: m } => {
-            !less_numbers(s, a, minus(m, 2 * results), start, minus(len, 2 * results))
-        }
-    }
+    let Some(g) = last else {
+        return false;
+    };
+    let cut = 2 * results;
+    !less_numbers(
+        s,
+        g.start,
+        g.len.saturating_sub(cut),
+        start,
+        len.saturating_sub(cut),
+    )
 }
 
 // By the name behind the first number.
-pub fn name_not_above(s: &[u8], last: Last, start: usize, len: usize) -> bool
+pub fn name_not_above(s: &[u8], last: Option<Field>, start: usize, len: usize) -> bool
     requires len_in_bounds { start + len ≤ length s.now }
     requires last_in { LastIn last (length s.now) }
     ensures { (letter : ℕ) → result ≡ not_above (λ (g : definition.Field). drop 2 g.content)
         (last_field s.now letter last) (field_of s.now letter start len) }
 {
-    match last {
-        Last::Nothing => false,
-        Last::Content { start: a, len: m } => !less_bytes(
-            s,
-            a + least(m, 2),
-            minus(m, 2),
-            start + least(len, 2),
-            minus(len, 2),
-        ),
-    }
+    let Some(g) = last else {
+        return false;
+    };
+    !less_bytes(
+        s,
+        g.start + g.len.min(2),
+        g.len.saturating_sub(2),
+        start + len.min(2),
+        len.saturating_sub(2),
+    )
 }

@@ -20,6 +20,7 @@ pub struct Passed {
 }
 
 // The place of a letter.
+#[tactic(auto, unfolding(crate::specs::Layout::place_of, definition::specs::Base::place_from))]
 fn place(letter: u8) -> usize
     ensures { result ≡ place_of letter }
 {
@@ -41,6 +42,7 @@ fn place(letter: u8) -> usize
 
 // May a letter stand directly behind another? N begins the record; S stands behind N or a structure;
 // any other behind an S or a letter that is no later than itself.
+#[tactic(auto, unfolding(crate::specs::Layout::may_follow))]
 fn may_follow(behind: usize, at: usize) -> bool
     ensures { result ≡ may_follow behind at }
 {
@@ -74,6 +76,7 @@ fn counted(structures: usize, at: usize) -> usize
 }
 
 // The section of a letter in the last of so many structures, or behind them.
+#[tactic(auto, unfolding(crate::specs::Layout::section_at))]
 fn section_of(structures: usize, at: usize) -> usize
     requires structures_le_structure_limit { (structures ≤ structure_limit) × (at ≤ place_x) }
     requires le_structures { place_n < at → 1 ≤ structures }
@@ -95,10 +98,8 @@ fn fill(index: &mut [u16; RULE_INDEX], section: usize, to: usize, at: usize)
     ensures by_index { (t : ℕ) → bound_at index.new to at t ≡ bound_at index.old section at t }
     ensures index_len_2 { length index.new ≡ rule_index }
 {
-    let mut i = section;
-    while i < to {
-        i += 1;
-        index[i] = at as u16;
+    for i in section..to {
+        index[i + 1] = at as u16;
     }
 }
 
@@ -134,8 +135,7 @@ pub fn pass(s: &[u8], index: &mut [u16; RULE_INDEX]) -> Passed
     let mut structures: usize = 0;
     let mut section: usize = 0;
     while at < s.len() {
-        let f = read_field(s, at);
-        let Field::Got { letter, next, .. } = f else {
+        let Some(Field { letter, next, .. }) = read_field(s, at) else {
             return ended(index, section, at, false, structures);
         };
         // A letter that may be repeated, so not N and not S, stays in its section.

@@ -4,7 +4,7 @@ ghost use Rattle.definition.specs.Letters.{letter_r, letter_a, letter_v, letter_
 ghost use Rattle.definition.specs.Limits.{structure_limit, rule_bytes};
 ghost use Rattle.definition.specs.Records as definition;
 ghost use Rattle.definition.specs.Rule.{named_elements, structure_fault, body_fault, structures_fault, named_in, read_rule};
-ghost use Rattle.signature.specs.Faults.{fault_of};
+ghost use Rattle.records.specs.Refusals.{fault_of};
 ghost use Rattle.signature.specs.Index.{signature_at, Indexed};
 ghost use Rattle.rule.specs.Layout.{sections, rule_index, place_s, section_from};
 ghost use Rattle.rule.specs.Elements.{element_numbers, numbers_in, Known};
@@ -31,24 +31,18 @@ use crate::ids::{
     LETTER_R, LETTER_V, LETTER_X, LETTERS, RULE_BYTES, RULE_INDEX, SECTION_A, SECTION_E, SECTION_I,
     SECTION_K, SECTION_M, SECTION_N, SECTION_R, SECTION_S, SECTION_V, SECTION_X,
 };
-use crate::order::{Last, spot_of};
+use crate::order::spot_of;
 use crate::pass::pass;
-use records::fields::{Field, place, read_field};
-use signature::faults::{Fault, drawn};
+use records::fields::{Field, read_field};
+use records::refusal::Refusal;
 use signature::ids::{Counts, INDEX};
-
-#[derive(Clone, Copy)]
-pub enum Reading {
-    Sound { structures: usize },
-    Refused(u8),
-}
 
 // Where a section starts.
 pub fn bound(index: &[u16; RULE_INDEX], section: usize) -> usize
     requires { section ≤ sections }
     ensures { result ≡ get_or index.now section 0 }
 {
-    place(index[section])
+    usize::from(index[section])
 }
 
 // The first fault of the fields of a section, front to back.
@@ -61,7 +55,7 @@ fn check_section(
     structures: usize,
     letter: u8,
     section: usize,
-) -> Fault
+) -> Result<(), Refusal>
     requires indexed { Indexed sig.now symbols.now counts }
     requires known { Known s.now index.now structures }
     requires section_lt_sections { section < sections }
@@ -72,22 +66,16 @@ fn check_section(
     let to = bound(index, section + 1);
     let mut at = bound(index, section);
     let mut count: usize = 0;
-    let mut last = Last::Nothing;
+    let mut last: Option<Field> = None;
     while at < to {
-        let f = read_field(s, at);
-        let Field::Got { start, len, .. } = f else {
-            return Fault::Draws(2);
-        };
-        let spot = spot_of(start, len, count, last);
-        let fault = field_fault(sig, symbols, counts, s, index, structures, letter, spot);
-        let Fault::Sound = fault else {
-            return fault;
-        };
+        let f = read_field(s, at).ok_or(Refusal::BadFields)?;
+        let spot = spot_of(f.start, f.len, count, last);
+        field_fault(sig, symbols, counts, s, index, structures, letter, spot)?;
         count += 1;
-        last = Last::Content { start, len };
-        at = start + len;
+        last = Some(f);
+        at = f.next;
     }
-    Fault::Sound
+    Ok(())
 }
 
 // The first fault of the E fields of structure k; their positions and their number go into the index.
@@ -100,7 +88,7 @@ fn check_elements(
     k: usize,
     from: usize,
     to: usize,
-) -> Fault
+) -> Result<(), Refusal>
     requires indexed { Indexed sig.now symbols.now counts }
     requires s_len_bound { length s.now ≤ rule_bytes }
     requires index_len { length index.old ≡ rule_index }
@@ -112,38 +100,29 @@ fn check_elements(
 {
     let mut at = from;
     let mut count: usize = 0;
-    let mut last = Last::Nothing;
+    let mut last: Option<Field> = None;
     while at < to {
-        let f = read_field(s, at);
-        let Field::Got { start, len, .. } = f else {
-            return Fault::Draws(2);
-        };
-        let spot = spot_of(start, len, count, last);
-        let fault = element_fault(sig, symbols, counts, s, from, to, spot);
-        let Fault::Sound = fault else {
-            return fault;
-        };
+        let f = read_field(s, at).ok_or(Refusal::BadFields)?;
+        let spot = spot_of(f.start, f.len, count, last);
+        element_fault(sig, symbols, counts, s, from, to, spot)?;
         index[ELEMENTS_FROM + FIELDS * k + count] = at as u16;
         count += 1;
-        last = Last::Content { start, len };
-        at = start + len;
+        last = Some(f);
+        at = f.next;
     }
     index[COUNTS_FROM + k] = count as u16;
-    Fault::Sound
+    Ok(())
 }
 
 // The first fault of the S field of structure k.
-fn check_head(s: &[u8], index: &[u16; RULE_INDEX], k: usize) -> Fault
+fn check_head(s: &[u8], index: &[u16; RULE_INDEX], k: usize) -> Result<(), Refusal>
     requires { k ≤ structure_limit }
     ensures result_value { (f : definition.Field)
         → HeadAt s.now (section_from index.now k place_s) f → fault_of result ≡ structure_fault k f }
     ensures below { Below result k }
 {
-    let f = read_field(s, bound(index, LETTERS * k + SECTION_S));
-    let Field::Got { len, .. } = f else {
-        return Fault::Draws(2);
-    };
-    structure_fault(len, k)
+    let f = read_field(s, bound(index, LETTERS * k + SECTION_S)).ok_or(Refusal::BadFields)?;
+    structure_fault(f.len, k)
 }
 
 // The first fault of the R, A, V and I fields of structure k, whose elements are known.
@@ -154,7 +133,7 @@ fn check_rest(
     s: &[u8],
     index: &[u16; RULE_INDEX],
     k: usize,
-) -> Fault
+) -> Result<(), Refusal>
     requires indexed { Indexed sig.now symbols.now counts }
     requires k_lt_structure_limit { k < structure_limit }
     requires known { Known s.now index.now (k + 1) }
@@ -162,65 +141,18 @@ fn check_rest(
         → element_numbers s.now index.now k ≡ named_elements body
         → fault_of result ≡ rest_fault (signature_at sig.now symbols.now counts) (named_elements body) body }
 {
-    let first = LETTERS * k;
-    let r = check_section(
-        sig,
-        symbols,
-        counts,
-        s,
-        index,
-        k + 1,
-        LETTER_R,
-        first + SECTION_R,
-    );
-    let Fault::Sound = r else {
-        return r;
-    };
+    let at = LETTERS * k;
+    let n = k + 1;
+    check_section(sig, symbols, counts, s, index, n, LETTER_R, at + SECTION_R)?;
     // Many structures have no A, V or I fields; then no section is gone into for them.
-    if bound(index, first + SECTION_A) == bound(index, first + BEHIND_I) {
-        return Fault::Sound;
+    if bound(index, at + SECTION_A) == bound(index, at + BEHIND_I) {
+        return Ok(());
     }
-    let a = check_section(
-        sig,
-        symbols,
-        counts,
-        s,
-        index,
-        k + 1,
-        LETTER_A,
-        first + SECTION_A,
-    );
-    let Fault::Sound = a else {
-        return a;
-    };
-    let v = check_section(
-        sig,
-        symbols,
-        counts,
-        s,
-        index,
-        k + 1,
-        LETTER_V,
-        first + SECTION_V,
-    );
-    let Fault::Sound = v else {
-        return v;
-    };
-    // Taken apart, not handed on whole: the processor waits where it reads two bytes back of which only one was just written.
-    let i = check_section(
-        sig,
-        symbols,
-        counts,
-        s,
-        index,
-        k + 1,
-        LETTER_I,
-        first + SECTION_I,
-    );
-    let Fault::Sound = i else {
-        return i;
-    };
-    Fault::Sound
+    check_section(sig, symbols, counts, s, index, n, LETTER_A, at + SECTION_A)?;
+    check_section(sig, symbols, counts, s, index, n, LETTER_V, at + SECTION_V)?;
+    // Not handed on whole: the processor waits where it reads two bytes back of which only one was just written.
+    check_section(sig, symbols, counts, s, index, n, LETTER_I, at + SECTION_I)?;
+    Ok(())
 }
 
 // The first fault of the fields of structure k behind its S.
@@ -231,7 +163,7 @@ fn check_body(
     s: &[u8],
     index: &mut [u16; RULE_INDEX],
     k: usize,
-) -> Fault
+) -> Result<(), Refusal>
     requires indexed { Indexed sig.now symbols.now counts }
     requires s_len_bound { length s.now ≤ rule_bytes }
     requires index_len { length index.old ≡ rule_index }
@@ -247,15 +179,9 @@ fn check_body(
     let section = LETTERS * k + SECTION_E;
     let from = bound(index, section);
     let to = bound(index, section + 1);
-    let e = check_elements(sig, symbols, counts, s, index, k, from, to);
-    let Fault::Sound = e else {
-        return e;
-    };
-    let r = check_rest(sig, symbols, counts, s, index, k);
-    let Fault::Sound = r else {
-        return r;
-    };
-    Fault::Sound
+    check_elements(sig, symbols, counts, s, index, k, from, to)?;
+    check_rest(sig, symbols, counts, s, index, k)?;
+    Ok(())
 }
 
 // The first fault of so many structures.
@@ -266,7 +192,7 @@ fn check_structures(
     s: &[u8],
     index: &mut [u16; RULE_INDEX],
     structures: usize,
-) -> Fault
+) -> Result<(), Refusal>
     requires indexed { Indexed sig.now symbols.now counts }
     requires s_len_bound { length s.now ≤ rule_bytes }
     requires index_len { length index.old ≡ rule_index }
@@ -278,19 +204,11 @@ fn check_structures(
     ensures all_stored { AllStored result s.now index.old index.new structures }
     ensures index_len_2 { length index.new ≡ rule_index }
 {
-    let mut k: usize = 0;
-    while k < structures {
-        let h = check_head(s, index, k);
-        let Fault::Sound = h else {
-            return h;
-        };
-        let b = check_body(sig, symbols, counts, s, index, k);
-        let Fault::Sound = b else {
-            return b;
-        };
-        k += 1;
+    for k in 0..structures {
+        check_head(s, index, k)?;
+        check_body(sig, symbols, counts, s, index, k)?;
     }
-    Fault::Sound
+    Ok(())
 }
 
 // The first fault of the M, K and X fields behind so many structures, whose elements are known.
@@ -301,25 +219,16 @@ fn check_tail(
     s: &[u8],
     index: &[u16; RULE_INDEX],
     known: usize,
-) -> Fault
+) -> Result<(), Refusal>
     requires indexed { Indexed sig.now symbols.now counts }
     requires known { Known s.now index.now known }
     ensures { (fs : List definition.Field) → Tailed s.now index.now fs
         → numbers_in s.now index.now known ≡ named_in fs → fault_of result ≡ tail_fault fs }
 {
-    let m = check_section(sig, symbols, counts, s, index, known, LETTER_M, SECTION_M);
-    let Fault::Sound = m else {
-        return m;
-    };
-    let k = check_section(sig, symbols, counts, s, index, known, LETTER_K, SECTION_K);
-    let Fault::Sound = k else {
-        return k;
-    };
-    let x = check_section(sig, symbols, counts, s, index, known, LETTER_X, SECTION_X);
-    let Fault::Sound = x else {
-        return x;
-    };
-    Fault::Sound
+    check_section(sig, symbols, counts, s, index, known, LETTER_M, SECTION_M)?;
+    check_section(sig, symbols, counts, s, index, known, LETTER_K, SECTION_K)?;
+    check_section(sig, symbols, counts, s, index, known, LETTER_X, SECTION_X)?;
+    Ok(())
 }
 
 // The rule's answer; where it is accepted, the index holds where its sections start and where its elements stand.
@@ -330,7 +239,7 @@ pub fn read_rule(
     counts: Counts,
     s: &[u8],
     index: &mut [u16; RULE_INDEX],
-) -> Reading
+) -> Result<usize, Refusal>
     requires indexed { Indexed sig.now symbols.now counts }
     requires index_len { length index.old ≡ rule_index }
     ensures result_value { rule_reading s.now result
@@ -339,24 +248,15 @@ pub fn read_rule(
     ensures index_len_unchanged { length index.new ≡ length index.old }
 {
     if RULE_BYTES < s.len() {
-        return Reading::Refused(1);
+        return Err(Refusal::TooLong);
     }
     let p = pass(s, index);
     let n = p.structures;
-    let h = check_section(sig, symbols, counts, s, index, 0, LETTER_N, SECTION_N);
-    let Fault::Sound = h else {
-        return Reading::Refused(drawn(h));
-    };
-    let b = check_structures(sig, symbols, counts, s, index, n);
-    let Fault::Sound = b else {
-        return Reading::Refused(drawn(b));
-    };
-    let x = check_tail(sig, symbols, counts, s, index, n);
-    let Fault::Sound = x else {
-        return Reading::Refused(drawn(x));
-    };
+    check_section(sig, symbols, counts, s, index, 0, LETTER_N, SECTION_N)?;
+    check_structures(sig, symbols, counts, s, index, n)?;
+    check_tail(sig, symbols, counts, s, index, n)?;
     if !p.whole {
-        return Reading::Refused(2);
+        return Err(Refusal::BadFields);
     }
-    Reading::Sound { structures: n }
+    Ok(n)
 }

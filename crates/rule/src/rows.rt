@@ -17,6 +17,7 @@ pub struct Row {
 }
 
 // The row at a position.
+#[tactic(auto, using(crate::proofs::RowReading::row_lies))]
 pub fn read_row(s: &[u8], at: usize) -> Row
     requires { RowStands s.now at }
     ensures { RowRead s.now at result }
@@ -33,6 +34,7 @@ pub fn read_row(s: &[u8], at: usize) -> Row
 }
 
 // The last element of a row: of an A, its result.
+#[tactic(auto, using(crate::proofs::RowReading::result_is))]
 pub fn row_result(s: &[u8], r: Row) -> ElId
     requires els_inside { ElsInside s.now r.els }
     requires le_count { 1 ≤ r.els.count }

@@ -17,6 +17,7 @@ pub struct Section {
 }
 
 // The fields of a letter of structure k, by the letter's place: one from E to I.
+#[tactic(auto, unfolding(crate::specs::Layout::section_from, crate::specs::Layout::section_to))]
 pub fn section_of(index: &[u16; RULE_INDEX], k: usize, place: usize) -> Section
     requires { (k < structure_limit) × (place_e ≤ place) × (place ≤ place_i) }
     ensures { (result.from ≡ section_from index.now k place) × (result.to ≡ section_to index.now k place) }
@@ -29,6 +30,7 @@ pub fn section_of(index: &[u16; RULE_INDEX], k: usize, place: usize) -> Section
 }
 
 // The names of structure k that have so many numbers before each: one in V, two in I.
+#[tactic(auto, unfolding(crate::specs::Layout::name_place))]
 pub fn name_section(index: &[u16; RULE_INDEX], k: usize, numbers: usize) -> Section
     requires { (k < structure_limit) × (1 ≤ numbers) × (numbers ≤ 2) }
     ensures { (result.from ≡ section_from index.now k (name_place numbers))
@@ -38,6 +40,7 @@ pub fn name_section(index: &[u16; RULE_INDEX], k: usize, numbers: usize) -> Sect
 }
 
 // The fields of M, K or X, by the letter's place.
+#[tactic(auto, using(crate::proofs::Saying::tail_run_at))]
 pub fn section_behind(s: &[u8], index: &[u16; RULE_INDEX], place: usize) -> Section
     requires ready { Ready s.now index.now }
     requires place_m_le_place { (place_m ≤ place) × (place ≤ place_x) }

@@ -7,8 +7,7 @@ use mathlib.Core.Bool.{Bool, true, false}
 use mathlib.Core.List.{List, [], ◌∷◌}
 use mathlib.Core.Path.{◌≡◌, refl, sym, ◌∙◌, ap}
 use lib.Dec.{eqb}
-use lib.ListN.{length, take, drop, length-append, drop_of_length-le}
-use lib.Seq.{length-take-le}
+use lib.ListN.{length, drop, length-append, drop_of_length-le}
 use borrow.Author.Tests.{eq-eqb, ne_eqb}
 use Rattle.definition.specs.Base.{pick, cons_if, keep, each, empty}
 use Rattle.definition.specs.Letters.{member}
@@ -32,7 +31,7 @@ use Rattle.rule.specs.Rows.{member_rows}
 use Rattle.laws.specs.Bytes.{statement_bytes}
 use Rattle.statements.specs.Said.{flagged, member_flag, said_by}
 use Rattle.statements.specs.Parts.{variable_by, chosen_statements, preds_by, funcs_by, members_said, types_said, element_statement, type_set_of}
-use Rattle.statements.specs.Equalities.{equality_of, equalities_among, TypedVars}
+use Rattle.statements.specs.Equalities.{equality_of, equalities_among}
 use Rattle.statements.specs.declared.masks.Masks.{Masks}
 use Rattle.group.proofs.Writing.{statement_long}
 use Rattle.statements.proofs.Elements.{statements_cons, statements_none, own_flag, parents_count, element_many, type_said, type_unsaid}
@@ -223,7 +222,7 @@ square_most zero = omega arith
 square_most (suc n) = rw (suc-mul n (suc n)) (omega arith)
 
 -- Those of n variables: half of n * n - n, so 5 bytes for each of these.
-among_long : (letter : ℕ) (types vs : List ℕ) → length (statement_bytes letter (equalities_among types vs)) ≡ 5 * (length vs * length vs - length vs)
+pub among_long : (letter : ℕ) (types vs : List ℕ) → length (statement_bytes letter (equalities_among types vs)) ≡ 5 * (length vs * length vs - length vs)
 unfolding equalities_among
 among_long letter types [] = rw statements_none refl
 among_long letter types (v ∷ vs) =
@@ -231,10 +230,3 @@ among_long letter types (v ∷ vs) =
     let b = among_long letter types vs in
     let m = square_most (length vs) in
     rw (statements_append, length-append, suc-mul (length vs) (suc (length vs)), mul-suc (length vs) (length vs)) (omega arith)
-
--- The same for the first variables of an array.
-pub firsts_long : {vars : List ℕ} {count size : ℕ} → TypedVars vars count size → (letter : ℕ) (types : List ℕ)
-    → length (statement_bytes letter (equalities_among types (take count vars))) ≡ 5 * (count * count - count)
-firsts_long {vars} {count} w letter types =
-    let n : length (take count vars) ≡ count = length-take-le count vars (omega (arith, w.long, w.few)) in
-    rw n at (among_long letter types (take count vars))

@@ -6,18 +6,17 @@ use mathlib.Core.Bool.{Bool, true, false}
 use mathlib.Core.List.{List, [], ◌∷◌, ◌++◌, append-nil}
 use mathlib.Core.Path.{◌≡◌, refl, sym, ◌∙◌, ap}
 use lib.ListN.{length, get_or, set, take, drop, length-append, drop_of_length-le}
-use lib.Seq.{drop-cons, get_or-take, length-take-le}
+use lib.Seq.{drop-cons}
 use Rattle.definition.specs.Base.{cons_if, keep, each, joined, empty, ◌∈◌}
 use Rattle.definition.specs.Group.{Statement}
 use Rattle.definition.specs.Letters.{member, type_set}
-use Rattle.definition.specs.Limits.{field_limit}
 use Rattle.definition.specs.Rows.{member_row, sort_rows, members, row_statement, type_sets}
 use Rattle.definition.specs.Rule.{Structure, Element}
 use Rattle.definition.specs.Writer.{statement_field, field_bytes, record_bytes}
 use Rattle.laws.proofs.ByteForm.{statements_append}
 use Rattle.laws.proofs.Lists.{each_append, length_each, get_d_each, mem_at}
 use Rattle.rule.specs.Elements.{count_at, element_at, element_numbers, Finds}
-use Rattle.rule.specs.declared.elements.Found.TheVariants.{At}
+use Rattle.std.proofs.Common.{Some, None}
 use Rattle.rule.proofs.Finding.{search_found}
 use Rattle.rule.specs.ElementFields.{element_in, elements_in, element_from, Within}
 use Rattle.rows.specs.Members.{member_in, Below}
@@ -25,7 +24,6 @@ use Rattle.rule.specs.declared.elements.Element as read
 use Rattle.records.proofs.Parts.{store_more}
 use Rattle.rule.proofs.ElementLaws.{no_element, element_is, parents_many, elements_on}
 use Rattle.rows.proofs.Kept.{members_are}
-use Rattle.rows.proofs.OrderLaws.{below_at}
 use Rattle.flags.specs.declared.Mask.{Mask}
 use Rattle.flags.specs.Flags.{places, flag_at}
 use Rattle.rule.specs.Structures.{structure_in, Laid, Stands}
@@ -72,7 +70,7 @@ module _ {s index : List ℕ} {k : ℕ} (w : Stands s index k) {i : ℕ} (h : i 
   element_mem : element_in s index k i ∈ st.elements
   element_mem = rw (← (element_get l i h)) (mem_at st.elements i no_element (rw (elements_are l) h))
 
-  found_own : Finds (At i) (element_in s index k i).number (element_numbers s index k)
+  found_own : Finds (Some i) (element_in s index k i).number (element_numbers s index k)
   found_own = let e : element_at s index k i ≡ (element_in s index k i).number = ap (λ (x : Element). x.number) (element_is l.elements i h) in
       search_found l.elements.elements _ i h e
 
@@ -143,9 +141,6 @@ module _ {s index : List ℕ} {k : ℕ} (w : Stands s index k) {count i : ℕ} (
   pub in_place : i < count_at index k
   in_place = rw (← c) h
 
-  pub few_places : i < places
-  few_places = let f = w.at.laid.elements.elements.few in omega arith
-
   pub elements_left : drop i (structure_in s k).elements ≡ element_in s index k i ∷ drop (i + 1) (structure_in s k).elements
   elements_left = rw w.at.laid.same (elements_on s index k i in_place)
 
@@ -180,67 +175,46 @@ module _ {s index : List ℕ} {k : ℕ} (w : Stands s index k) (letter : ℕ) (r
   unfolding types_from type_sets keep each statement_bytes record_bytes joined
   types_end h = let n = elements_are w.at.laid in rw (flagged_end mask (structure_in s k).elements i (omega arith))
 
-pub types_all : (letter : ℕ) (variable : ℕ → ℕ) (mask : Mask) (els : List Element)
-    → types_from letter variable mask els 0 ≡ statement_bytes letter (type_sets variable (flagged_from mask 0 els))
-unfolding types_from
-types_all letter variable mask els = refl
-
 -- The flagged member rows, from a place of their order on.
 unfoldable pub members_from : ℕ → Structure → List ℕ → Mask → ℕ → List ℕ
 members_from letter st row mask n = statement_bytes letter (each (row_statement (variable_by st row)) (keep (member_flag st mask) (drop n (members st))))
 
-pub members_all : (letter : ℕ) (st : Structure) (row : List ℕ) (mask : Mask)
-    → members_from letter st row mask 0 ≡ statement_bytes letter (each (row_statement (variable_by st row)) (keep (member_flag st mask) (members st)))
-unfolding members_from
-members_all letter st row mask = refl
+-- The places of the member rows' elements, in the rows' order; the n-th of them.
+module _ {s index : List ℕ} {k : ℕ} (w : Stands s index k) {order : List ℕ} (below : Below (count_at index k) order) {n i : ℕ}
+    (h : n < length order) (q : i ≡ get_or order n 0) where
+  pub order_below : i < count_at index k
+  order_below = rw q (below.each_below (get_or order n 0) (mem_at order n 0 h))
 
--- The order of the member rows: the places of their elements.
-pub record Ordered (s index : List ℕ) (k : ℕ) (order : List ℕ) (count : ℕ) : Type 0 where
-  pub long : length order ≡ field_limit
-  pub few : count ≤ field_limit
-  pub sorted : each (member_in s index k) (take count order) ≡ sort_rows (member_rows (elements_in s index k))
-  pub below : Below (count_at index k) (take count order)
-
-module _ {s index : List ℕ} {k : ℕ} (w : Stands s index k) {order : List ℕ} {count : ℕ} (o : Ordered s index k order count) (n : ℕ) (h : n < count) where
-  pub order_below : get_or order n 0 < count_at index k
-  order_below = below_at order n o.below h (omega (arith, o.long, o.few))
-
-  pub order_few : get_or order n 0 < places
+  pub order_few : i < places
   order_few = let f = w.at.laid.elements.elements.few in let b = order_below in omega arith
 
-module _ {s index : List ℕ} {k : ℕ} (w : Stands s index k) (letter : ℕ) (row : List ℕ) (mask : Mask) {order : List ℕ} {count : ℕ}
-    (o : Ordered s index k order count) where
-  in_order : members (structure_in s k) ≡ each (member_in s index k) (take count order)
-  in_order = members_are s index k (structure_in s k) w.at.laid.same ∙ sym o.sorted
+module _ {s index : List ℕ} {k : ℕ} (w : Stands s index k) (letter : ℕ) (row : List ℕ) (mask : Mask) (order : List ℕ)
+    (sorted : each (member_in s index k) order ≡ sort_rows (member_rows (elements_in s index k))) where
+  in_order : members (structure_in s k) ≡ each (member_in s index k) order
+  in_order = members_are s index k (structure_in s k) w.at.laid.same ∙ sym sorted
 
-  took : length (take count order) ≡ count
-  took = length-take-le count order (omega (arith, o.long, o.few))
+  many : length (members (structure_in s k)) ≡ length order
+  many = ap length in_order ∙ length_each (member_in s index k) order
 
-  many : length (members (structure_in s k)) ≡ count
-  many = ap length in_order ∙ length_each (member_in s index k) (take count order) ∙ took
+  pub members_end : {n : ℕ} → length order ≤ n → members_from letter (structure_in s k) row mask n ≡ []
+  unfolding members_from keep each statement_bytes record_bytes joined
+  members_end {n} h = let z = many in rw (drop_of_length-le (members (structure_in s k)) {i = n} (omega arith))
 
-  module _ (n : ℕ) where
-    pub members_end : count ≤ n → members_from letter (structure_in s k) row mask n ≡ []
-    unfolding members_from keep each statement_bytes record_bytes joined
-    members_end h = let z = many in rw (drop_of_length-le (members (structure_in s k)) {i = n} (omega arith))
+  module _ (below : Below (count_at index k) order) {n : ℕ} (h : n < length order) {i : ℕ} (q : i ≡ get_or order n 0) where
+    left : drop n (members (structure_in s k)) ≡ member_in s index k i ∷ drop (n + 1) (members (structure_in s k))
+    left =
+        let g : get_or (members (structure_in s k)) n (member_in s index k 0) ≡ member_in s index k i
+        = rw (in_order, q) (get_d_each (member_in s index k) order n 0 (member_in s index k 0) h) in
+        let m = many in
+        rw (add-one, ← g) (drop-cons (members (structure_in s k)) n (member_in s index k 0) (omega arith))
 
-    module _ (h : n < count) where
-      left : drop n (members (structure_in s k)) ≡ member_in s index k (get_or order n 0) ∷ drop (n + 1) (members (structure_in s k))
-      left =
-          let z = took in
-          let g : get_or (members (structure_in s k)) n (member_in s index k 0) ≡ member_in s index k (get_or order n 0)
-          = rw in_order (get_d_each (member_in s index k) (take count order) n 0 (member_in s index k 0) (omega arith)
-          ∙ ap (member_in s index k) (get_or-take count order n 0 h)) in
-          let m = many in
-          rw (add-one, ← g) (drop-cons (members (structure_in s k)) n (member_in s index k 0) (omega arith))
+    pub members_on : flag_at mask i ≡ true → members_from letter (structure_in s k) row mask n
+        ≡ field_bytes (statement_field letter (element_statement (variable_by (structure_in s k) row) member (element_in s index k i)))
+        ++ members_from letter (structure_in s k) row mask (n + 1)
+    unfolding members_from keep each row_statement member_in member_row element_statement
+    members_on f = rw (left, own_flag w (order_below w below h q) mask, f) (statements_cons letter _ _)
 
-      pub members_on : flag_at mask (get_or order n 0) ≡ true → members_from letter (structure_in s k) row mask n
-          ≡ field_bytes (statement_field letter (element_statement (variable_by (structure_in s k) row) member (element_in s index k (get_or order n 0)))) ++
-          members_from letter (structure_in s k) row mask (n + 1)
-      unfolding members_from keep each row_statement member_in member_row element_statement
-      members_on f = rw (left, own_flag w (order_below w o n h) mask, f) (statements_cons letter _ _)
-
-      pub members_pass : flag_at mask (get_or order n 0) ≡ false
-          → members_from letter (structure_in s k) row mask n ≡ members_from letter (structure_in s k) row mask (n + 1)
-      unfolding members_from keep
-      members_pass f = rw (left, own_flag w (order_below w o n h) mask, f)
+    pub members_pass : flag_at mask i ≡ false
+        → members_from letter (structure_in s k) row mask n ≡ members_from letter (structure_in s k) row mask (n + 1)
+    unfolding members_from keep
+    members_pass f = rw (left, own_flag w (order_below w below h q) mask, f)

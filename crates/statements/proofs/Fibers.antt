@@ -1,26 +1,24 @@
 -- The variables of the keys of an image, and their Equalities.
-use Prim.Native.Nat.{ℕ, ◌+◌, ◌≤◌, ◌<◌}
+use Prim.Native.Nat.{ℕ, ◌+◌, ◌-◌, ◌≤◌, ◌<◌}
 use native.Mathlib.Omega.{arith}
+use mathlib.Core.Bool.{true, false}
 use mathlib.Core.List.{List, [], ◌∷◌, ◌++◌, append-nil}
 use mathlib.Core.Path.{◌≡◌, refl, ◌∙◌, ap}
 use lib.Dec.{eqb}
-use lib.ListN.{length, get_or, set, take, drop, drop_of_length-le}
-use lib.Seq.{get_or-take, length-take-le, take_all}
-use borrow.Author.Tests.{eq-eqb, ne_eqb}
-use Rattle.definition.specs.Base.{keep, each, joined}
-use Rattle.definition.specs.Kinds.{Side, variable_in}
-use Rattle.definition.specs.Names.{numbers_of, variable_at, fiber}
+use lib.ListN.{length, get_or, set, take, drop, drop_of_length-le, length-set, length-drop}
+use lib.Seq.{take_all}
+use Rattle.definition.specs.Base.{keep, each, joined, ◌∈◌}
+use Rattle.definition.specs.Limits.{field_limit}
+use Rattle.definition.specs.Names.{numbers_of, fiber}
 use Rattle.definition.specs.Rule.{Pair}
 use Rattle.definition.specs.Writer.{statement_field, field_bytes, record_bytes}
 use Rattle.laws.proofs.ByteForm.{statements_append}
-use Rattle.laws.proofs.Lists.{each_append, length_each}
+use Rattle.laws.proofs.Lists.{each_append, length_each, mem_at}
 use Rattle.records.proofs.Link.{one_more}
 use Rattle.records.proofs.Lists.{keep_append}
-use Rattle.rule.specs.Elements.{count_at, element_at, element_numbers, Finds}
-use Rattle.rule.specs.declared.elements.Found.TheVariants.{At}
+use Rattle.rule.specs.Elements.{count_at, element_at, element_numbers}
 use Rattle.rule.proofs.Finding.{numbers_length, numbers_get}
-use Rattle.rows.specs.Kernel.{SideAt}
-use Rattle.rule.specs.MapFields.{pair_at, pairs_in, MapIn}
+use Rattle.rule.specs.MapFields.{pair_at, pairs_in, MapIn, KeysIn}
 use Rattle.rule.specs.declared.maps.Map.{Map}
 use Rattle.rule.proofs.MapLaws.{pairs_many}
 use Rattle.records.proofs.Parts.{take_more, store_more}
@@ -28,62 +26,62 @@ use Rattle.rule.specs.Structures.{structure_in, Laid}
 use Rattle.naming.proofs.Placed.{numbers_are}
 use Rattle.laws.specs.Bytes.{statement_bytes}
 use Rattle.rule.specs.Lookup.{no_pair}
-use Rattle.statements.specs.Equalities.{equality_of, equalities_among, equalities_over, TypedVars}
+use Rattle.statements.specs.Equalities.{equality_of, equalities_among, equalities_over}
 use Rattle.statements.proofs.Elements.{statements_cons, statements_none}
 
 -- The keys of an image, with one more pair.
 module _ (ps : List Pair) (q : Pair) (e : ℕ) where
-  more_same : q.image ≡ e → fiber (ps ++ (q ∷ [])) e ≡ fiber ps e ++ (q.key ∷ [])
+  more_same : true ≡ eqb q.image e → fiber (ps ++ (q ∷ [])) e ≡ fiber ps e ++ (q.key ∷ [])
   unfolding fiber keep each
-  more_same h = rw (keep_append (λ (p : Pair). eqb p.image e) ps (q ∷ []), each_append, eq-eqb _ _ h)
+  more_same h = rw (keep_append (λ (p : Pair). eqb p.image e) ps (q ∷ []), each_append, ← h)
 
-  more_other : (q.image ≡ e → ⊥) → fiber (ps ++ (q ∷ [])) e ≡ fiber ps e
+  more_other : false ≡ eqb q.image e → fiber (ps ++ (q ∷ [])) e ≡ fiber ps e
   unfolding fiber keep each
-  more_other h = rw (keep_append (λ (p : Pair). eqb p.image e) ps (q ∷ []), each_append, ne_eqb _ _ h, append-nil)
+  more_other h = rw (keep_append (λ (p : Pair). eqb p.image e) ps (q ∷ []), each_append, ← h, append-nil)
 
 -- The loop along the pairs: the variables of the keys of an image among the first of them.
-pub record FiberTo (s : List ℕ) (m : Map) (els row : List ℕ) (e : ℕ) (vars : List ℕ) (count p : ℕ) : Type 0 where
-  pub same : (side : Side) → SideAt els row side → take count vars ≡ each (variable_in side) (fiber (take p (pairs_in s m)) e)
+pub record FiberTo (variable : ℕ → ℕ) (s : List ℕ) (m : Map) (e : ℕ) (vars : List ℕ) (count p : ℕ) : Type 0 where
+  pub long : length vars ≡ field_limit
+  pub few : count ≤ p
+  pub same : take count vars ≡ each variable (fiber (take p (pairs_in s m)) e)
 
-pub fiber_start : (s : List ℕ) (m : Map) (els row : List ℕ) (e : ℕ) (vars : List ℕ) → FiberTo s m els row e vars 0 0
+pub fiber_start : (variable : ℕ → ℕ) (s : List ℕ) (m : Map) (e : ℕ) {vars : List ℕ} → length vars ≡ field_limit → FiberTo variable s m e vars 0 0
 unfolding fiber keep each
-fiber_start s m els row e vars = record { same = λ side t. refl }
+fiber_start variable s m e l = record { long = l; few = omega arith; same = refl }
 
-module _ {s : List ℕ} {m : Map} (h : MapIn s m) {els row : List ℕ} {e : ℕ} {vars : List ℕ} {count p : ℕ} (w : FiberTo s m els row e vars count p) where
-  pub fiber_end : m.pairs ≤ p → (side : Side) → SideAt els row side → take count vars ≡ each (variable_in side) (fiber (pairs_in s m) e)
-  fiber_end l side t = let n = pairs_many h in let a : take p (pairs_in s m) ≡ pairs_in s m = take_all p (pairs_in s m) (omega arith) in
-      rw a at (w.same side t)
+module _ {s : List ℕ} {m : Map} (h : MapIn s m) where
+  -- A pair's key is one of the keys.
+  pub key_in : {els : List ℕ} → KeysIn els (pairs_in s m) → {p e : ℕ} → p < m.pairs → e ≡ (pair_at s m p).key → e ∈ els
+  unfolding pair_at
+  key_in k {p} l q = let n = pairs_many h in rw q (k.named _ (mem_at (pairs_in s m) p no_pair (omega arith)))
 
-  module _ (l : p < m.pairs) where
-    on : take (p + 1) (pairs_in s m) ≡ take p (pairs_in s m) ++ (pair_at s m p ∷ [])
-    unfolding pair_at
-    on = let n = pairs_many h in take_more (pairs_in s m) p no_pair (omega arith)
+  module _ {variable : ℕ → ℕ} {e : ℕ} {vars : List ℕ} {count p : ℕ} (w : FiberTo variable s m e vars count p) where
+    pub fiber_end : m.pairs ≤ p → take count vars ≡ each variable (fiber (pairs_in s m) e)
+    fiber_end l = let n = pairs_many h in let a : take p (pairs_in s m) ≡ pairs_in s m = take_all p (pairs_in s m) (omega arith) in
+        rw a at w.same
 
-    pub fiber_pass : ((pair_at s m p).image ≡ e → ⊥) → FiberTo s m els row e vars count (p + 1)
-    fiber_pass d = record { same = λ side t. w.same side t ∙ rw (on, more_other (take p (pairs_in s m)) (pair_at s m p) e d) }
+    module _ (l : p < m.pairs) where
+      on : take (p + 1) (pairs_in s m) ≡ take p (pairs_in s m) ++ (pair_at s m p ∷ [])
+      unfolding pair_at
+      on = let n = pairs_many h in take_more (pairs_in s m) p no_pair (omega arith)
 
-    pub fiber_next : (pair_at s m p).image ≡ e → count < length vars → {k i : ℕ} → k ≡ (pair_at s m p).key → Finds (At i) k els
-        → FiberTo s m els row e (set vars count (get_or row i 0)) (count + 1) (p + 1)
-    unfolding each variable_at
-    fiber_next a b {k} {i} q f = record {
-      same = λ side t.
-          let v : get_or row i 0 ≡ variable_in side (pair_at s m p).key = t.variables i f.is.1 ∙ rw (← q, t.numbers, ← f.is.0) in
-          rw (store_more vars count (get_or row i 0) b, w.same side t, on, more_same (take p (pairs_in s m)) (pair_at s m p) e a, each_append, v);
-    }
+      pub fiber_pass : false ≡ eqb (pair_at s m p).image e → FiberTo variable s m e vars count (p + 1)
+      fiber_pass d = record {
+        long = w.long;
+        few = omega (arith, w.few);
+        same = w.same ∙ rw (on, more_other (take p (pairs_in s m)) (pair_at s m p) e d);
+      }
 
--- The first variables of an array, from one on.
-module _ {vars : List ℕ} {count size : ℕ} (w : TypedVars vars count size) where
-  pub firsts_on : (i : ℕ) → i < count → drop i (take count vars) ≡ get_or vars i 0 ∷ drop (i + 1) (take count vars)
-  firsts_on i l =
-      let a = w.long in let b = w.few in
-      let n : length (take count vars) ≡ count = length-take-le count vars (omega arith) in
-      one_more (take count vars) i (omega arith) ∙ rw (get_or-take count vars i 0 l)
-
-  pub firsts_end : (i : ℕ) → count ≤ i → drop i (take count vars) ≡ []
-  firsts_end i l =
-      let a = w.long in let b = w.few in
-      let n : length (take count vars) ≡ count = length-take-le count vars (omega arith) in
-      drop_of_length-le (take count vars) {i = i} (omega arith)
+      pub fiber_next : true ≡ eqb (pair_at s m p).image e → {k v : ℕ} → k ≡ (pair_at s m p).key → v ≡ variable k
+          → FiberTo variable s m e (set vars count v) (count + 1) (p + 1)
+      unfolding each
+      fiber_next a {k} {v} q i =
+          let room : count < length vars = omega (arith, h.few, w.few, w.long) in
+          record {
+            long = length-set vars count v ∙ w.long;
+            few = omega (arith, w.few);
+            same = rw (store_more vars count v room, w.same, on, more_same (take p (pairs_in s m)) (pair_at s m p) e a, each_append, i, q);
+          }
 
 -- Of one variable alone there is no Equality.
 equal_few : (types vs : List ℕ) → length vs ≤ 1 → equalities_among types vs ≡ []
@@ -107,31 +105,29 @@ unfoldable pub over_bytes : ℕ → (ℕ → ℕ) → List Pair → List ℕ →
 over_bytes letter variable pairs types els = statement_bytes letter (equalities_over variable pairs types els)
 
 module _ (letter : ℕ) (types : List ℕ) where
-  pub later_cons : (v w : ℕ) {vs ws : List ℕ} → ws ≡ w ∷ vs
-      → later_bytes letter types v ws ≡ field_bytes (statement_field letter (equality_of types v w)) ++ later_bytes letter types v vs
-  unfolding later_bytes each
-  later_cons v w e = rw e (statements_cons letter _ _)
+  -- A loop along the later variables, and one along the variables, each with those behind it, which are lent.
+  module _ (v : ℕ) (vs : List ℕ) (i : ℕ) where
+    pub later_on : i < length vs → later_bytes letter types v (drop i vs)
+        ≡ field_bytes (statement_field letter (equality_of types v (get_or vs i 0))) ++ later_bytes letter types v (drop (i + 1) vs)
+    unfolding later_bytes each
+    later_on h = rw (one_more vs i h) (statements_cons letter _ _)
 
-  pub later_all : (v : ℕ) (vs : List ℕ) → later_bytes letter types v vs ≡ statement_bytes letter (each (equality_of types v) vs)
-  unfolding later_bytes
-  later_all v vs = refl
+    pub later_end : length vs ≤ i → later_bytes letter types v (drop i vs) ≡ []
+    unfolding later_bytes each statement_bytes record_bytes joined
+    later_end h = rw (drop_of_length-le vs h)
 
-  pub later_none : (v : ℕ) {ws : List ℕ} → ws ≡ [] → later_bytes letter types v ws ≡ []
-  unfolding later_bytes each statement_bytes record_bytes joined
-  later_none v e = rw e
+  module _ (vs : List ℕ) (i : ℕ) where
+    pub among_on : i < length vs → among_bytes letter types (drop i vs)
+        ≡ statement_bytes letter (each (equality_of types (get_or vs i 0)) (take (length vs - (i + 1)) (drop (i + 1) vs)))
+        ++ among_bytes letter types (drop (i + 1) vs)
+    unfolding among_bytes equalities_among
+    among_on h =
+        let t : take (length vs - (i + 1)) (drop (i + 1) vs) ≡ drop (i + 1) vs = take_all _ _ (rw length-drop (omega arith)) in
+        rw (one_more vs i h, t) (statements_append letter (each (equality_of types (get_or vs i 0)) (drop (i + 1) vs)) _)
 
-  pub among_cons : (v : ℕ) {vs ws : List ℕ} → ws ≡ v ∷ vs
-      → among_bytes letter types ws ≡ statement_bytes letter (each (equality_of types v) vs) ++ among_bytes letter types vs
-  unfolding among_bytes equalities_among
-  among_cons v {vs} e = rw e (statements_append letter (each (equality_of types v) vs) (equalities_among types vs))
-
-  pub among_all : (vs : List ℕ) → among_bytes letter types vs ≡ statement_bytes letter (equalities_among types vs)
-  unfolding among_bytes
-  among_all vs = refl
-
-  pub among_none : {ws : List ℕ} → ws ≡ [] → among_bytes letter types ws ≡ []
-  unfolding among_bytes equalities_among each statement_bytes record_bytes joined
-  among_none e = rw e
+    pub among_end : length vs ≤ i → among_bytes letter types (drop i vs) ≡ []
+    unfolding among_bytes equalities_among each statement_bytes record_bytes joined
+    among_end h = rw (drop_of_length-le vs h)
 
   module _ {s index : List ℕ} {target : ℕ} (l : Laid s index target) (variable : ℕ → ℕ) (pairs : List Pair)
       {count j : ℕ} (c : count ≡ count_at index target) where
@@ -162,8 +158,3 @@ module _ (letter : ℕ) (types : List ℕ) where
     els_end h =
         let n : length (numbers_of (structure_in s target)) ≡ count_at index target = ap length (numbers_are l) ∙ numbers_length s index target in
         rw (drop_of_length-le (numbers_of (structure_in s target)) {i = j} (omega arith))
-
-pub over_all : (letter : ℕ) (variable : ℕ → ℕ) (pairs : List Pair) (types els : List ℕ)
-    → over_bytes letter variable pairs types els ≡ statement_bytes letter (equalities_over variable pairs types els)
-unfolding over_bytes
-over_all letter variable pairs types els = refl

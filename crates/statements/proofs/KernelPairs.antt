@@ -5,8 +5,8 @@ use mathlib.Core.List.Memᴰ
 use mathlib.Core.List.{List, [], ◌∷◌}
 use mathlib.Core.Path.{◌≡◌, refl, sym, ◌∙◌, ap}
 use lib.Dec.{eqb}
-use lib.ListN.{length, get_or, take}
-use lib.Seq.{get_or-take, length-take-le}
+use lib.ListN.{length, get_or}
+use lib.Seq.{get_or-take}
 use Rattle.definition.specs.Base.{keep, each, joined, ◌∈◌}
 use Rattle.definition.specs.Group.{Variable, Statement}
 use Rattle.definition.specs.Kinds.{Side, variable_in, type_in, kernel_variables, equalities}
@@ -20,7 +20,7 @@ use Rattle.laws.proofs.Lists.{mem_keep, mem_each, each_append, get_d_each, lengt
 use Rattle.rule.specs.Elements.{element_numbers}
 use Rattle.rule.proofs.Finding.{numbers_length}
 use Rattle.rows.specs.Kernel.{TypesOf, SideAt}
-use Rattle.rule.specs.MapFields.{pairs_in, KeysIn, Joins}
+use Rattle.rule.specs.MapFields.{pairs_in, Joins}
 use Rattle.rule.specs.declared.maps.Map.{Map}
 use Rattle.rule.specs.Structures.{structure_in, Laid}
 use Rattle.naming.specs.Variables.{GivenOut}
@@ -37,9 +37,6 @@ side_at {s} {index} {k} l row = record {
       sym (get_or-take (length (structure_in s k).elements) row i 0 n);
 }
 
-pub keys_in : {s index : List ℕ} {k : ℕ} {ps : List Pair} → Laid s index k → KeysIn (numbers_of (structure_in s k)) ps → KeysIn (element_numbers s index k) ps
-keys_in l w = rw (numbers_are l) at w
-
 pub keys_given : {s : List ℕ} {source target size : ℕ} {m : Map} {row : List ℕ} → Joins s source target m → GivenOut (structure_in s source) row size
     → KeysGiven s source m row size
 keys_given j g = record { keys = j.keys; given = g }
@@ -52,17 +49,16 @@ module _ {s : List ℕ} {m : Map} {source size : ℕ} {row : List ℕ} (j : Keys
       let a = mem_each (λ (p : Pair). p.key) (keep (λ (p : Pair). eqb p.image e) (pairs_in s m)) i in
       rw a.2 (j.given.below a.0.key (j.keys.named a.0 (mem_keep (λ (p : Pair). eqb p.image e) (pairs_in s m) a.1).0))
 
-  pub typed_vars : (e : ℕ) {vars : List ℕ} {count : ℕ} → length vars ≡ field_limit → count ≤ field_limit
-      → take count vars ≡ each (variable_in (side_in s source row)) (fiber (pairs_in s m) e) → TypedVars vars count size
-  typed_vars e {vars} {count} a b q = record { long = a; few = b; below = below }
+  pub typed_vars : (e : ℕ) {vars : List ℕ} → length vars ≤ field_limit
+      → vars ≡ each (variable_in (side_in s source row)) (fiber (pairs_in s m) e) → TypedVars vars size
+  typed_vars e {vars} f q = record { few = f; below = below }
     where
-      below : (i : ℕ) → i < count → get_or vars i 0 < size
+      below : (i : ℕ) → i < length vars → get_or vars i 0 < size
       below i l =
-          let n : length (take count vars) ≡ count = length-take-le count vars (omega arith) in
-          let k : length (take count vars) ≡ length (fiber (pairs_in s m) e) =
+          let k : length vars ≡ length (fiber (pairs_in s m) e) =
           ap length q ∙ length_each (variable_in (side_in s source row)) (fiber (pairs_in s m) e) in
           let v : get_or vars i 0 ≡ variable_in (side_in s source row) (get_or (fiber (pairs_in s m) e) i 0) =
-          sym (get_or-take count vars i 0 l) ∙ rw q (get_d_each (variable_in (side_in s source row)) (fiber (pairs_in s m) e) i 0 0 (omega arith)) in
+          rw q (get_d_each (variable_in (side_in s source row)) (fiber (pairs_in s m) e) i 0 0 (omega arith)) in
           rw v (fiber_below e (get_or (fiber (pairs_in s m) e) i 0) (mem_at (fiber (pairs_in s m) e) i 0 (omega arith)))
 
 -- The Equalities of pairs of keys.

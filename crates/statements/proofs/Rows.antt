@@ -5,7 +5,7 @@ use native.Mathlib.Decide.{ℕ_discrete}
 use mathlib.Core.Bool.{true, false}
 use mathlib.Core.List.Memᴰ
 use mathlib.Core.List.{List, [], ◌∷◌, ◌++◌}
-use mathlib.Core.Path.{◌≡◌, refl, ◌∙◌}
+use mathlib.Core.Path.{◌≡◌, ◌∙◌}
 use lib.ListN.{length, take, drop, length-append, take-append-drop}
 use lib.Seq.{length-take-le}
 use borrow.Author.Tests.{eq-eqb, ne_eqb}
@@ -32,7 +32,7 @@ use Rattle.rule.proofs.RowReading.{NextRow, next_row, row_stands, row_in}
 use Rattle.flags.specs.Flags.{flag_at}
 use Rattle.laws.specs.Bytes.{statement_bytes}
 use Rattle.statements.specs.Said.{flagged_from}
-use Rattle.statements.specs.Parts.{variable_by, NamedIn, rows_at, part_statement, chosen_statements, Chooses}
+use Rattle.statements.specs.Parts.{NamedIn, rows_at, part_statement, Chooses}
 use Rattle.statements.specs.declared.masks.Chosen.{Chosen}
 use Rattle.statements.proofs.Elements.{statements_cons, flagged_on, flagged_pass}
 
@@ -157,8 +157,3 @@ pub rows_end : {s : List ℕ} {st : Structure} {rows : List Row} {omitted field 
 unfolding rows_from flagged_from each statement_bytes record_bytes joined
 rows_end {rows = rows} {i = i} r h letter variable c =
     let e : drop i rows ≡ [] = r.same ∙ rw (run_end r.passed.run h) in rw e
-
-pub rows_all : (letter : ℕ) (st : Structure) (row : List ℕ) (c : Chosen)
-    → rows_from letter (variable_by st row) c (rows_at st c.place) 0 ≡ statement_bytes letter (chosen_statements st row c)
-unfolding rows_from chosen_statements
-rows_all letter st row c = refl

@@ -10,31 +10,26 @@ use Rattle.definition.specs.Names.{numbers_of, variable_at}
 use Rattle.definition.specs.Writer.{two_bytes}
 use Rattle.laws.proofs.Lists.{never, mem_has, length_each, get_d_each}
 use Rattle.rule.specs.Elements.{element_numbers, Finds}
-use Rattle.rule.specs.declared.elements.Found.TheVariants.{At, Nothing}
+use Rattle.std.proofs.Common.{Some, None}
 use Rattle.rule.proofs.Finding.{numbers_length}
 use Rattle.rule.specs.Lists.{els_in, ElsInside}
 use Rattle.rule.specs.Structures.{structure_in, Laid}
 use Rattle.rule.specs.declared.lists.Els.{Els}
-use Rattle.rule.proofs.ListLaws.{els_many, el_mem}
+use Rattle.rule.proofs.ListLaws.{els_many}
 use Rattle.naming.proofs.Placed.{elements_are, numbers_are}
 use Rattle.group.proofs.Writing.{vars_from, vars_on, vars_end}
-use Rattle.statements.specs.Parts.{variable_by, NamedIn}
+use Rattle.statements.specs.Parts.{variable_by}
 
 -- An element that was found: its variable stands in the row at its place. An element is found.
 module _ {s index : List ℕ} {k : ℕ} (l : Laid s index k) where
-  pub variable_found : {i e : ℕ} (row : List ℕ) → Finds (At i) e (element_numbers s index k) → get_or row i 0 ≡ variable_by (structure_in s k) row e
+  pub variable_found : {i e : ℕ} (row : List ℕ) → Finds (Some i) e (element_numbers s index k) → get_or row i 0 ≡ variable_by (structure_in s k) row e
   unfolding variable_at
   variable_found {i} {e} row f =
       let n : i < length (structure_in s k).elements = omega (arith, f.is.1, numbers_length s index k, elements_are l) in
       rw (numbers_are l, ← f.is.0) (sym (get_or-take (length (structure_in s k).elements) row i 0 n))
 
-  not_absent : {A : Type 0} {e : ℕ} → e ∈ numbers_of (structure_in s k) → Finds Nothing e (element_numbers s index k) → A
+  pub not_absent : {A : Type 0} {e : ℕ} → e ∈ numbers_of (structure_in s k) → Finds None e (element_numbers s index k) → A
   not_absent {e = e} m f = never (mem_has e (element_numbers s index k) (rw (numbers_are l) at m)) f.is
-
--- A loop along elements of the structure reads one: it is found.
-pub named_at : {s index : List ℕ} {k : ℕ} (l : Laid s index k) {els : Els} (w : ElsInside s els) {i : ℕ} (b : i < els.count)
-    {e : ℕ} (is : e ≡ get_or (els_in s els) i 0) {A : Type 0} → NamedIn (structure_in s k) (els_in s els) → Finds Nothing e (element_numbers s index k) → A
-named_at l w {i} b {e} is n f = not_absent l (n.named e (el_mem w i b is)) f
 
 -- The variables of elements, and their bytes.
 module _ {s : List ℕ} {els : Els} (w : ElsInside s els) (variable : ℕ → ℕ) where

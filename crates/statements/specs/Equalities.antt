@@ -1,5 +1,5 @@
 -- Equalities of the variables of keys.
-use Rattle.std.specs.Prelude.{List, [], ◌∷◌, ◌++◌, ◌≡◌, ℕ, ◌≤◌, ◌<◌, length, get_or}
+use Rattle.std.specs.Prelude.{List, [], ◌∷◌, ◌++◌, ℕ, ◌≤◌, ◌<◌, length, get_or}
 use Rattle.definition.specs.Base.{each, joined}
 use Rattle.definition.specs.Letters.{equality}
 use Rattle.definition.specs.Group.{Statement}
@@ -24,11 +24,10 @@ equalities_among types (v ∷ vs) = each (equality_of types v) vs ++ equalities_
 unfoldable pub equalities_over : (ℕ → ℕ) → List Pair → List ℕ → List ℕ → List Statement
 equalities_over variable pairs types els = joined (λ (e : ℕ). equalities_among types (each variable (fiber pairs e))) els
 
--- The first variables of an array, each of which has a place in the table of types.
-pub record TypedVars (vars : List ℕ) (count size : ℕ) : Type 0 where
-  pub long : length vars ≡ field_limit
-  pub few : count ≤ field_limit
-  pub below : (i : ℕ) → i < count → get_or vars i 0 < size
+-- Variables, no more than a structure has elements, each of which has a place in the table of types.
+pub record TypedVars (vars : List ℕ) (size : ℕ) : Type 0 where
+  pub few : length vars ≤ field_limit
+  pub below : (i : ℕ) → i < length vars → get_or vars i 0 < size
 
 -- A map's keys are elements of its source, whose variables have places in that table.
 pub record KeysGiven (s : List ℕ) (src : ℕ) (m : Map) (row : List ℕ) (size : ℕ) : Type 0 where

@@ -1,31 +1,30 @@
 // Equalities: one for each kernel pair of a map, of the variables of its two keys.
-ghost use Rattle.std.specs.Prelude.{List, ◌≡◌, ◌+◌, ◌≤◌, ◌<◌, length, get_or, take, drop};
+ghost use Rattle.std.specs.Prelude.{List, ◌≡◌, ◌≤◌, ◌<◌, length, take};
 ghost use Rattle.definition.specs.Base.{each};
 ghost use Rattle.definition.specs.Group.{Variable};
 ghost use Rattle.definition.specs.Kinds as definition;
 ghost use Rattle.definition.specs.Kinds.{Side, variable_in};
-ghost use Rattle.definition.specs.Limits.{structure_limit, field_limit};
-ghost use Rattle.definition.specs.Names.{fiber};
+ghost use Rattle.definition.specs.Limits.{field_limit};
+ghost use Rattle.definition.specs.Names.{numbers_of, fiber};
 ghost use Rattle.definition.specs.Signature.{Signature};
 ghost use Rattle.definition.specs.Writer.{statement_field, field_bytes};
 ghost use Rattle.records.specs.Buffer.{Put, count_limit};
-ghost use Rattle.rule.specs.Elements.{element_numbers, Elements};
-ghost use Rattle.rows.specs.Kernel.{TypesOf, SideAt};
+ghost use Rattle.rows.specs.Kernel.{TypesOf};
 ghost use Rattle.rows.specs.Morphisms.{source_in, target_in, pairs_by, Between};
 ghost use Rattle.rule.specs.MapFields.{pairs_in, MapIn, KeysIn};
-ghost use Rattle.rule.specs.Structures.{Stands};
+ghost use Rattle.rule.specs.Structures.{structure_in, Laid, Stands};
 ghost use Rattle.naming.specs.Variables.{GivenOut};
 ghost use Rattle.laws.specs.Bytes.{statement_bytes};
 ghost use Rattle.statements.specs.Structures.{side_in};
 ghost use Rattle.statements.specs.Equalities.{equality_of, equalities_among, TypedVars, KeysGiven};
 
+use crate::sections::var_of;
 use flags::flag;
 use group::statement::Statement;
 use group::write::put_statement;
-use records::fields::{place, short};
 use records::write::past;
 use rows::morphism::Morphism;
-use rule::elements::{Found, element_count, element_number, find_element};
+use rule::elements::{element_count, element_number};
 use rule::ids::{ElId, FIELDS, RULE_INDEX};
 use rule::maps::{Map, pair_image, pair_key};
 use signature::ids::EQUALITY;
@@ -38,16 +37,14 @@ fn put_equality(out: &mut [u8], from: usize, letter: u8, types: &[u8], v: u16, w
     requires { (from ≤ count_limit) × (v < length types.now) }
     ensures { Put out.old out.new (field_bytes (statement_field letter (equality_of types.now v w))) from result }
 {
-    let symbol = short(types[place(v)]);
-    let vars = [v, w, 0, 0, 0, 0, 0, 0];
     put_statement(
         out,
         from,
         letter,
         Statement {
             kind: EQUALITY,
-            symbol,
-            vars,
+            symbol: u16::from(types[usize::from(v)]),
+            vars: [v, w, 0, 0, 0, 0, 0, 0],
             count: EQUALITY_VARS,
         },
     )
@@ -70,51 +67,31 @@ fn fiber_vars(
     e: ElId,
 ) -> Fiber
     requires map_in { MapIn s.now m }
-    requires source_lt_structure_limit { source < structure_limit }
-    requires elements { Elements s.now index.now source }
-    requires keys_in { KeysIn (element_numbers s.now index.now source) (pairs_in s.now m) }
-    ensures vars_len { (length result.vars ≡ field_limit) × (result.count ≤ field_limit) }
-    ensures vars_value { (side : Side) → SideAt (element_numbers s.now index.now source) row.now side
-        → take result.count result.vars ≡ each (variable_in side) (fiber (pairs_in s.now m) e.0) }
+    requires laid { Laid s.now index.now source }
+    requires keys_in { KeysIn (numbers_of (structure_in s.now source)) (pairs_in s.now m) }
+    ensures count_le_field_limit { result.count ≤ field_limit }
+    ensures vars_value { take result.count result.vars
+        ≡ each (variable_in (side_in s.now source row.now)) (fiber (pairs_in s.now m) e.0) }
 {
     let mut vars = [0u16; FIELDS];
     let mut count: usize = 0;
-    let mut p: usize = 0;
-    while p < m.pairs {
-        let image = pair_image(s, m, p);
-        if image.0 == e.0 {
-            let f = find_element(s, index, source, pair_key(s, m, p));
-            let Found::At(i) = f else {
-                return Fiber { vars, count };
-            };
-            vars[count] = row[i];
+    for p in 0..m.pairs {
+        if pair_image(s, m, p) == e {
+            vars[count] = var_of(s, index, source, row, pair_key(s, m, p));
             count += 1;
         }
-        p += 1;
     }
     Fiber { vars, count }
 }
 
-// Equalities of a variable with each behind it.
-fn put_later(
-    out: &mut [u8],
-    from: usize,
-    letter: u8,
-    types: &[u8],
-    vars: &[u16; FIELDS],
-    count: usize,
-    i: usize,
-) -> usize
-    requires from_le_count_limit { (from ≤ count_limit) × (i < count) }
-    requires typed_vars { TypedVars vars.now count (length types.now) }
-    ensures { Put out.old out.new (statement_bytes letter (each (equality_of types.now (get_or vars.now i 0))
-        (drop (i + 1) (take count vars.now)))) from result }
+// Equalities of a variable with each of those behind it.
+fn put_later(out: &mut [u8], from: usize, letter: u8, types: &[u8], v: u16, later: &[u16]) -> usize
+    requires { (from ≤ count_limit) × (v < length types.now) }
+    ensures { Put out.old out.new (statement_bytes letter (each (equality_of types.now v) later.now)) from result }
 {
     let mut at = from;
-    let mut j = i + 1;
-    while j < count {
-        at = put_equality(out, at, letter, types, vars[i], vars[j]);
-        j += 1;
+    for w in later {
+        at = put_equality(out, at, letter, types, v, *w);
     }
     at
 }
@@ -123,28 +100,19 @@ fn put_later(
 const EQUALITY_SHARE: usize = 5;
 
 // Equalities of each two of some variables.
-fn put_among(
-    out: &mut [u8],
-    from: usize,
-    letter: u8,
-    types: &[u8],
-    vars: &[u16; FIELDS],
-    count: usize,
-) -> usize
+fn put_among(out: &mut [u8], from: usize, letter: u8, types: &[u8], vars: &[u16]) -> usize
     requires from_le_count_limit { from ≤ count_limit }
-    requires typed_vars { TypedVars vars.now count (length types.now) }
-    ensures { Put out.old out.new
-        (statement_bytes letter (equalities_among types.now (take count vars.now))) from result }
+    requires typed_vars { TypedVars vars.now (length types.now) }
+    ensures { Put out.old out.new (statement_bytes letter (equalities_among types.now vars.now)) from result }
 {
     // Nothing of them fits: their length is enough.
     if out.len() <= from {
-        return past(from, EQUALITY_SHARE * (count * count - count));
+        let n = vars.len();
+        return past(from, EQUALITY_SHARE * (n * n - n));
     }
     let mut at = from;
-    let mut i: usize = 0;
-    while i < count {
-        at = put_later(out, at, letter, types, vars, count, i);
-        i += 1;
+    for (i, v) in vars.iter().enumerate() {
+        at = put_later(out, at, letter, types, *v, &vars[i + 1..]);
     }
     at
 }
@@ -169,8 +137,7 @@ fn put_fiber(
         (each (variable_in (side_in s.now source row.now)) (fiber (pairs_in s.now m) e.0)))) from result }
 {
     let fiber = fiber_vars(s, index, source, row, m, e);
-    let vars = fiber.vars;
-    put_among(out, from, letter, types, &vars, fiber.count)
+    put_among(out, from, letter, types, &fiber.vars[..fiber.count])
 }
 
 // An Equality for each kernel pair, by image in the order of the target's elements; only one that is flagged is the image of several
@@ -195,15 +162,12 @@ pub fn put_equalities(
         from result }
     ensures upper_bound { result ≤ count_limit }
 {
-    let count = element_count(index, m.target);
     let mut at = from;
-    let mut j: usize = 0;
-    while j < count {
+    for j in 0..element_count(index, m.target) {
         if flag(m.merged, j) {
             let e = element_number(s, index, m.target, j);
             at = put_fiber(out, at, letter, s, index, m.source, row, m.map, types, e);
         }
-        j += 1;
     }
     at
 }

@@ -16,39 +16,7 @@ use rule::ids::RULE_INDEX;
 use rule::rows::read_row;
 use rule::sections::section_of;
 
-// Where the chosen rows of a structure end, along their section. Each counts as many variables as it has elements that are not left
-// out; none is looked up.
-fn section_length(
-    from: usize,
-    s: &[u8],
-    index: &[u16; RULE_INDEX],
-    k: usize,
-    chosen: Chosen,
-) -> usize
-    requires from_le_count_limit { (from ≤ count_limit) × Chooses chosen }
-    requires stands { Stands s.now index.now k }
-    ensures by_index { (letter : ℕ) (row : List ℕ)
-        → result ≡ capped (from + length (statement_bytes letter (chosen_statements (structure_in s.now k) row chosen))) }
-    ensures upper_bound { result ≤ count_limit }
-{
-    let section = section_of(index, k, chosen.place);
-    let end = section.to;
-    let mut field = section.from;
-    let mut at = from;
-    let mut i: usize = 0;
-    while field < end {
-        let r = read_row(s, field);
-        let els = r.els;
-        if flag(chosen.mask, i) {
-            at = counted(at, els.count - chosen.omitted);
-        }
-        i += 1;
-        field = r.next;
-    }
-    at
-}
-
-// Where the chosen rows of a structure end.
+// Where the chosen rows of a structure end. Each counts as many variables as it has elements that are not left out; none is looked up.
 pub fn rows_length(
     from: usize,
     s: &[u8],
@@ -66,17 +34,28 @@ pub fn rows_length(
     if none_set(chosen.mask) {
         return from;
     }
-    section_length(from, s, index, k, chosen)
+    let section = section_of(index, k, chosen.place);
+    let end = section.to;
+    let mut field = section.from;
+    let mut at = from;
+    let mut i: usize = 0;
+    // A while: the cursor moves by what each row says.
+    while field < end {
+        let r = read_row(s, field);
+        if flag(chosen.mask, i) {
+            at = counted(at, r.els.count - chosen.omitted);
+        }
+        i += 1;
+        field = r.next;
+    }
+    at
 }
 
 // The flags that an element goes by: with parents it has a member row, without any a TypeSet.
 fn flags_of(parents: usize, members: Mask, free: Mask) -> Mask
     ensures { result ≡ pick (eqb parents 0) free members }
 {
-    if parents == 0 {
-        return free;
-    }
-    members
+    if parents == 0 { free } else { members }
 }
 
 // Where the flagged member rows and the TypeSets of the flagged elements end. No order changes how long they are together, so the
@@ -97,20 +76,15 @@ fn elements_length(
     ensures upper_bound { result ≤ count_limit }
 {
     // No flag is set: nothing is said, and the elements need not be gone along.
-    if none_set(members) {
-        if none_set(free) {
-            return from;
-        }
+    if none_set(members) && none_set(free) {
+        return from;
     }
-    let n = element_count(index, k);
     let mut at = from;
-    let mut i: usize = 0;
-    while i < n {
+    for i in 0..element_count(index, k) {
         let e = read_element(s, index, k, i);
         if flag(flags_of(e.parents, members, free), i) {
             at = counted(at, e.parents + 1);
         }
-        i += 1;
     }
     at
 }

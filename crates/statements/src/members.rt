@@ -13,8 +13,7 @@ use crate::sections::vars_of;
 use flags::{Mask, flag, none_set};
 use group::statement::Statement;
 use group::write::{put_statement, put_statement_head};
-use records::fields::wide;
-use records::write::{past, put_num, rest_at};
+use records::write::{past, put_num};
 use rows::order::sorted_members;
 use rule::elements::{element_count, parents_of, read_element};
 use rule::ids::{FIELDS, RULE_INDEX};
@@ -41,20 +40,18 @@ fn put_element(
         (field_bytes (statement_field letter (element_said s.now index.now k row.now kind i))) from result }
 {
     let e = read_element(s, index, k, i);
-    let ty = e.ty;
     let parents = parents_of(e);
-    let n = parents.count;
     let mut vars = vars_of(s, index, k, row, parents);
-    vars[n] = row[i];
+    vars[parents.count] = row[i];
     put_statement(
         out,
         from,
         letter,
         Statement {
             kind,
-            symbol: ty.0,
+            symbol: e.ty.0,
             vars,
-            count: n + 1,
+            count: parents.count + 1,
         },
     )
 }
@@ -79,16 +76,13 @@ pub fn put_members(
     if none_set(mask) {
         return from;
     }
-    let m = sorted_members(s, index, k);
-    let order = m.order;
+    let members = sorted_members(s, index, k);
     let mut at = from;
-    let mut n: usize = 0;
-    while n < m.count {
-        let i = wide(order[n]);
+    for place in &members.order[..members.count] {
+        let i = usize::from(*place);
         if flag(mask, i) {
             at = put_element(out, at, letter, MEMBER, s, index, k, row, i);
         }
-        n += 1;
     }
     at
 }
@@ -122,7 +116,7 @@ fn put_type_set(
     if e.parents != 0 {
         return from;
     }
-    let rest = rest_at(from, out.len());
+    let rest = from.min(out.len());
     let len = write_type_set(&mut out[rest..], letter, e.ty, row[i]);
     past(from, len)
 }
@@ -148,14 +142,11 @@ pub fn put_type_sets(
     if none_set(mask) {
         return from;
     }
-    let count = element_count(index, k);
     let mut at = from;
-    let mut i: usize = 0;
-    while i < count {
+    for i in 0..element_count(index, k) {
         if flag(mask, i) {
             at = put_type_set(out, at, letter, s, index, k, row, i);
         }
-        i += 1;
     }
     at
 }

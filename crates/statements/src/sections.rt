@@ -1,7 +1,8 @@
 // The rows of a structure as statements.
 ghost use Rattle.std.specs.Prelude.{◌≡◌, ◌≤◌, take};
-ghost use Rattle.definition.specs.Base.{each};
+ghost use Rattle.definition.specs.Base.{each, ◌∈◌};
 ghost use Rattle.definition.specs.Limits.{column_limit};
+ghost use Rattle.definition.specs.Names.{numbers_of};
 ghost use Rattle.definition.specs.Writer.{statement_field, field_bytes};
 ghost use Rattle.records.specs.Buffer.{Put, count_limit};
 ghost use Rattle.rule.specs.Lists.{els_in, ElsInside};
@@ -13,15 +14,28 @@ use crate::lengths::rows_length;
 use crate::masks::Chosen;
 use flags::{flag, none_set};
 use group::write::put_statement_head;
-use records::write::{past, put_num, rest_at};
-use rule::elements::{Found, find_element};
-use rule::ids::{FIELDS, RULE_INDEX};
+use naming::variables::NO_VAR;
+use records::write::{past, put_num};
+use rule::elements::find_element;
+use rule::ids::{ElId, FIELDS, RULE_INDEX};
 use rule::lists::{Els, el_at, first};
 use rule::rows::read_row;
 use rule::sections::section_of;
 use signature::ids::COLUMNS;
 
-// The variables of elements; `row` has those of the structure's elements, by their places.
+// The variable of an element of a structure; `row` has those of all its elements, by their places.
+pub fn var_of(s: &[u8], index: &[u16; RULE_INDEX], k: usize, row: &[u16; FIELDS], e: ElId) -> u16
+    requires laid { Laid s.now index.now k }
+    requires named { e.0 ∈ numbers_of (structure_in s.now k) }
+    ensures { result ≡ variable_by (structure_in s.now k) row.now e.0 }
+{
+    let Some(i) = find_element(s, index, k, e) else {
+        return NO_VAR;
+    };
+    row[i]
+}
+
+// The variables of several, in their order.
 pub fn vars_of(
     s: &[u8],
     index: &[u16; RULE_INDEX],
@@ -34,16 +48,9 @@ pub fn vars_of(
     requires named_in { NamedIn (structure_in s.now k) (els_in s.now els) }
     ensures { take els.count result ≡ each (variable_by (structure_in s.now k) row.now) (els_in s.now els) }
 {
-    let count = els.count;
     let mut vars = [0u16; COLUMNS];
-    let mut i: usize = 0;
-    while i < count {
-        let f = find_element(s, index, k, el_at(s, els, i));
-        let Found::At(j) = f else {
-            return vars;
-        };
-        vars[i] = row[j];
-        i += 1;
+    for i in 0..els.count {
+        vars[i] = var_of(s, index, k, row, el_at(s, els, i));
     }
     vars
 }
@@ -66,16 +73,9 @@ fn write_row(
     ensures { Put out.old out.new
         (field_bytes (statement_field letter (row_said s.now k row.now kind symbol els))) 0 result }
 {
-    let count = els.count;
-    let mut at = put_statement_head(out, letter, kind, symbol, count);
-    let mut i: usize = 0;
-    while i < count {
-        let f = find_element(s, index, k, el_at(s, els, i));
-        let Found::At(j) = f else {
-            return at;
-        };
-        at = put_num(out, at, row[j]);
-        i += 1;
+    let mut at = put_statement_head(out, letter, kind, symbol, els.count);
+    for i in 0..els.count {
+        at = put_num(out, at, var_of(s, index, k, row, el_at(s, els, i)));
     }
     at
 }
@@ -99,7 +99,7 @@ fn put_row(
     ensures { Put out.old out.new
         (field_bytes (statement_field letter (row_said s.now k row.now kind symbol els))) from result }
 {
-    let rest = rest_at(from, out.len());
+    let rest = from.min(out.len());
     let len = write_row(
         &mut out[rest..],
         letter,
@@ -135,11 +135,11 @@ fn put_section(
     let mut field = section.from;
     let mut at = from;
     let mut i: usize = 0;
+    // A while: the cursor moves by what each row says.
     while field < end {
         let r = read_row(s, field);
-        let els = r.els;
         if flag(chosen.mask, i) {
-            let said = first(s, els, els.count - chosen.omitted);
+            let said = first(s, r.els, r.els.count - chosen.omitted);
             at = put_row(
                 out,
                 at,

@@ -1,22 +1,12 @@
 // Standard input and output for programs: a read that fails is told from the end of the input, and what fails is said on standard error.
 #![tactic(auto)]
 
-ghost use Rattle.std.specs.Prelude.{◌≡◌, ◌≤◌, ◌<◌, true, length, take, IfOk};
+ghost use Rattle.std.specs.Prelude.{◌≡◌, ◌≤◌, ◌<◌, true, length, take, IfOk, IfSome, Some};
 ghost use Rattle.std.specs.Io.KnownBytes.{Appends, Consumes, IsAtEnd};
-ghost use Rattle.streams.specs.Inputs.{Taken, Within};
-ghost use Rattle.streams.specs.declared.Input.TheVariants.{Read};
+ghost use Rattle.streams.specs.Inputs.{Taken};
 
 use std::io;
 use std::io::{Read, Write};
-
-// How a reading ended.
-#[derive(Clone, Copy)]
-pub enum Input {
-    // So many bytes stand at the front of the buffer: it is full, or the input has ended.
-    Read(usize),
-    // A read failed; what came before it is no whole input.
-    Failed,
-}
 
 // The system's words for a failure are at most so long; a longer text is cut.
 const WORDS: usize = 256;
@@ -60,21 +50,22 @@ pub fn fill<R: Read>(input: &mut R, buf: &mut [u8]) -> io::Result<usize>
     Ok(done)
 }
 
-// Fills the buffer from the reader as far as that goes. Where a read fails, standard error has a line: who reads, and the error.
+// Fills the buffer from the reader as far as that goes: so many bytes stand at its front, and it is full or the input has ended. Where a
+// read fails there is no whole input, and standard error has a line: who reads, and the error.
 pub fn read_full<E: Write, R: Read>(
     errors: &mut E,
     input: &mut R,
     buf: &mut [u8],
     who: &[u8],
-) -> Input
-    ensures within { Within result (length buf.new) }
+) -> Option<usize>
+    ensures within { IfSome result (λ n. n ≤ length buf.new) }
     ensures taken { Taken result (R.remaining input.old) (R.remaining input.new) buf.new }
 {
     match fill(input, buf) {
-        Ok(n) => Input::Read(n),
+        Ok(n) => Some(n),
         Err(error) => {
             tell(errors, who, error);
-            Input::Failed
+            None
         }
     }
 }
@@ -87,12 +78,9 @@ pub fn read_input<E: Write, R: Read>(
     who: &[u8],
 ) -> usize
     ensures within { result ≤ length buf.new }
-    ensures taken { 0 < result → Taken (Read result) (R.remaining input.old) (R.remaining input.new) buf.new }
+    ensures taken { 0 < result → Taken (Some result) (R.remaining input.old) (R.remaining input.new) buf.new }
 {
-    match read_full(errors, input, buf, who) {
-        Input::Read(n) => n,
-        Input::Failed => 0,
-    }
+    read_full(errors, input, buf, who).unwrap_or(0)
 }
 
 // Writes all of it, and answers whether it could. Where not, standard error has a line: who writes, and the error.
@@ -154,13 +142,13 @@ mod tests {
         assert!(rt;
             matches!(
                 read_full(&mut rt.stderr(), &mut input, &mut buf, b"test: bytes"),
-                Input::Read(4)
+                Some(4)
             )
         );
         assert!(rt;
             matches!(
                 read_full(&mut rt.stderr(), &mut input, &mut buf, b"test: bytes"),
-                Input::Read(2)
+                Some(2)
             )
         );
         assert_eq!(rt; buf, *b"efcd");
@@ -172,7 +160,7 @@ mod tests {
                     &mut buf,
                     b"test: a reader"
                 ),
-                Input::Failed
+                None
             )
         );
     }

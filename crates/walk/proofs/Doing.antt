@@ -11,8 +11,9 @@ use Rattle.definition.specs.Signature.{Signature}
 use Rattle.rows.specs.declared.morphism.Morphism.{Morphism}
 use Rattle.plan.specs.Table.{kind_in}
 use Rattle.kinds.specs.Steps.{IfDoes, SurjDoes, NonSurjDoes}
-use Rattle.kinds.specs.declared.step.Step.{Step}
-use Rattle.kinds.specs.declared.step.Step.TheVariants.{Adds, Refused}
+use Rattle.std.proofs.Common.{Result, Ok, Err}
+use Rattle.records.specs.declared.refusal.Refusal.{Refusal}
+use Rattle.statements.specs.declared.masks.Masks.{Masks}
 use Rattle.laws.specs.Steps.{own, conclusions}
 use Rattle.walk.specs.Tables.{own_by, concluded_by}
 use Rattle.walk.specs.Went.{Does}
@@ -35,35 +36,35 @@ number_other (suc (suc (suc zero))) a b h = inr cc
 number_other (suc (suc (suc (suc n)))) a b h = let z : ◌≡◌ {A = ℕ} 0 1 = cc in absurd (omega arith)
 
 module _ (sig : Signature) (table : List Variable) (s : List ℕ) (m : Morphism) (sourcevars targetvars : List ℕ) where
-  surj_form : (r : Step) → SurjDoes sig table s m sourcevars targetvars r → Does sig table s m sourcevars targetvars SurjThen r
+  surj_form : (r : Result Masks Refusal) → SurjDoes sig table s m sourcevars targetvars r → Does sig table s m sourcevars targetvars SurjThen r
   unfolding own conclusions own_by concluded_by
-  surj_form (Refused n) d = record { is = d.is }
-  surj_form (Adds masks) d = record { is = (d.is.0, (refl, ap (λ (x : List Statement). x ∷ []) d.is.1)) }
+  surj_form (Err n) d = record { is = d.is }
+  surj_form (Ok masks) d = record { is = (d.is.0, (refl, ap (λ (x : List Statement). x ∷ []) d.is.1)) }
 
-  pub surj_does : {n : ℕ} {k : MorphismKind} (r : Step) → SurjDoes sig table s m sourcevars targetvars r → n ≡ 1 → kind_in n ≡ some k
+  pub surj_does : {n : ℕ} {k : MorphismKind} (r : Result Masks Refusal) → SurjDoes sig table s m sourcevars targetvars r → n ≡ 1 → kind_in n ≡ some k
       → Does sig table s m sourcevars targetvars k r
   surj_does r d e h = rw (number_1 e h) (surj_form r d)
 
-  non_surj_form : (r : Step) → NonSurjDoes sig table s m sourcevars targetvars r → Does sig table s m sourcevars targetvars NonSurjThen r
+  non_surj_form : (r : Result Masks Refusal) → NonSurjDoes sig table s m sourcevars targetvars r → Does sig table s m sourcevars targetvars NonSurjThen r
   unfolding own_by concluded_by
-  non_surj_form (Refused n) d = record { is = d.is }
-  non_surj_form (Adds masks) d = record { is = (d.is.0, (d.is.1.0, d.is.1.1)) }
+  non_surj_form (Err n) d = record { is = d.is }
+  non_surj_form (Ok masks) d = record { is = (d.is.0, (d.is.1.0, d.is.1.1)) }
 
-  pub non_surj_does : {n : ℕ} {k : MorphismKind} (r : Step) → NonSurjDoes sig table s m sourcevars targetvars r → n ≡ 2 → kind_in n ≡ some k
+  pub non_surj_does : {n : ℕ} {k : MorphismKind} (r : Result Masks Refusal) → NonSurjDoes sig table s m sourcevars targetvars r → n ≡ 2 → kind_in n ≡ some k
       → Does sig table s m sourcevars targetvars k r
   non_surj_does r d e h = rw (number_2 e h) (non_surj_form r d)
 
-  if_form : (r : Step) → IfDoes sig table s m sourcevars targetvars If r → Does sig table s m sourcevars targetvars If r
+  if_form : (r : Result Masks Refusal) → IfDoes sig table s m sourcevars targetvars If r → Does sig table s m sourcevars targetvars If r
   unfolding own conclusions own_by concluded_by
-  if_form (Refused n) d = record { is = d.is }
-  if_form (Adds masks) d = record { is = (d.is.0, (d.is.1, refl)) }
+  if_form (Err n) d = record { is = d.is }
+  if_form (Ok masks) d = record { is = (d.is.0, (d.is.1, refl)) }
 
-  noop_form : (r : Step) → IfDoes sig table s m sourcevars targetvars Noop r → Does sig table s m sourcevars targetvars Noop r
+  noop_form : (r : Result Masks Refusal) → IfDoes sig table s m sourcevars targetvars Noop r → Does sig table s m sourcevars targetvars Noop r
   unfolding own conclusions own_by concluded_by
-  noop_form (Refused n) d = record { is = d.is }
-  noop_form (Adds masks) d = record { is = (d.is.0, (d.is.1, refl)) }
+  noop_form (Err n) d = record { is = d.is }
+  noop_form (Ok masks) d = record { is = (d.is.0, (d.is.1, refl)) }
 
-  pub if_does : (n : ℕ) {k : MorphismKind} (r : Step) → IfDoes sig table s m sourcevars targetvars If r → IfDoes sig table s m sourcevars targetvars Noop r
+  pub if_does : (n : ℕ) {k : MorphismKind} (r : Result Masks Refusal) → IfDoes sig table s m sourcevars targetvars If r → IfDoes sig table s m sourcevars targetvars Noop r
       → (n ≡ 1 → ⊥) → (n ≡ 2 → ⊥) → kind_in n ≡ some k → Does sig table s m sourcevars targetvars k r
   if_does n {k} r d e a b h = go (number_other n a b h)
     where

@@ -1,7 +1,6 @@
 -- The loop over all pairs: kinds as the table has them, and the walk's end.
 use Prim.Native.Nat.{ℕ, suc, ◌+◌, ◌-◌, ◌*◌, ◌≤◌, ◌<◌}
 use native.Mathlib.Omega.{arith}
-use native.Mathlib.Nat.{suc-mul}
 use mathlib.Core.Path.{◌≡◌, ap, sym, ◌∙◌}
 use mathlib.Core.List.{List, []}
 use lib.ListN.{length, get_or, set, replicate, length-replicate}
@@ -24,8 +23,8 @@ use Rattle.walk.specs.Left.{left_of, Going}
 use Rattle.walk.specs.Ended.{Ground, Finished}
 use Rattle.walk.specs.Went.{Kinded, whole_walk, GoingFrom, Went}
 use Rattle.walk.specs.declared.walk.Visit.{Visit}
-use Rattle.walk.specs.declared.walk.Walked.{Walked}
-use Rattle.walk.specs.declared.walk.Walked.TheVariants.{On, Refused}
+use Rattle.std.proofs.Common.{Ok}
+use Rattle.walk.specs.declared.walk.MapWalked.{MapWalked}
 use Rattle.plan.proofs.TableLaws.{kind_some, kind_none}
 use Rattle.walk.proofs.Grounds.{first_laid, first_rows}
 use Rattle.walk.proofs.Starting.{started}
@@ -78,12 +77,10 @@ unfoldable pub going_from : {sig : Signature} {s sources types : List ℕ} {mask
 going_from {vars = vars} e g = record { vars = vars; row = rw e.0; going = rw (e.0, e.1, e.2) g }
 
 -- What `walk_map` answered, where the walk goes on.
-pub went_further : {sig : Signature} {s sources types : List ℕ} {masks : List (List Held)} (vars : List (List ℕ)) (row : List ℕ)
-    {next u t source target : ℕ} → u ≡ source → t ≡ target
-    → (end : Walked) → Went end sig s (tables sources masks (set vars t row)) types next t u → end ≡ On
-    → Going sig s (tables sources masks (set vars target row)) types next target (source + 1)
-went_further vars row {source = source} p q On w e = let n : source + 1 ≡ suc source = omega arith in rw n (rw (p, q) at w.is)
-went_further vars row p q (Refused n) w e = let z : ◌≡◌ {A = ℕ} 0 1 = cc in absurd (omega arith)
+pub went_further : {sig : Signature} {s sources types : List ℕ} {masks : List (List Held)} (vars : List (List ℕ)) (m : MapWalked) {u t source target : ℕ}
+    → u ≡ source → t ≡ target → Went (Ok m) sig s sources masks vars types t u
+    → Going sig s (tables sources masks (set vars target m.vars)) types m.next target (source + 1)
+went_further vars m {source = source} p q w = let n : source + 1 ≡ suc source = omega arith in rw n (rw (p, q) at w.is)
 
 -- The next target.
 pub next_target : {sig : Signature} {s types : List ℕ} {tb : Tables} {next target n source : ℕ} → n ≡ length (rule_at s).structures → target < n → source ≡ n
@@ -116,11 +113,6 @@ ended_walk {sig} {s} {tb = tb} {next} {target} gr e a g =
       },
     )
 
--- There is a place for the type of each variable that structure 0 gives out.
-pub first_typed : {sig : Signature} {s index : List ℕ} (types : List ℕ) {n : ℕ} → Ground sig s index → n ≡ length (rule_at s).structures
-    → field_limit * n ≤ length types → field_limit ≤ length types
-first_typed types gr e h = let o = gr.some_one in omega arith
-
 -- The walk begins: of the structures only 0 is reached and has a row of variables.
 pub begin_walk : {sig : Signature} {s index : List ℕ} → Ground sig s index → {types types' row : List ℕ} {next n : ℕ} (size : ℕ) → types ≡ replicate size 0
     → n ≡ length (rule_at s).structures → field_limit * n ≤ length types → row ≡ row_of (numbered 0 (nothing_taken (structure_in s 0)))
@@ -137,13 +129,3 @@ begin_walk {sig} {s} gr {types} {types'} {next = next} size b a h e f c =
       walking = started sig s (first_rows gr) gr.some_one size (omega arith) g;
       rest = ap (walk_from sig (rule_at s) (initial_state (rule_at s))) (left_all s gr.once gr.some_one);
     })
-
--- What is left falls.
-rows_left : (n target : ℕ) → target < n → (n - target) * n ≡ (n - (target + 1)) * n + n
-rows_left n target h = let e : n - target ≡ suc (n - (target + 1)) = omega arith in rw e (suc-mul (n - (target + 1)) n)
-
-pub left_turn : (n target source : ℕ) → target < n → source < n → (n - (target + 1)) * n - 0 < (n - target) * n - source
-left_turn n target source h l = let e = rows_left n target h in omega arith
-
-pub left_step : (n target source : ℕ) → target < n → source < n → (n - target) * n - (source + 1) < (n - target) * n - source
-left_step n target source h l = let e = rows_left n target h in omega arith

@@ -8,7 +8,7 @@ use mathlib.Core.Option.{Option, none, some}
 use lib.ListN.{length, get_or, set}
 use lib.Seq.{sets}
 use Rattle.definition.specs.Base.{refused}
-use Rattle.definition.specs.Limits.{structure_limit, field_limit, variable_limit}
+use Rattle.definition.specs.Limits.{field_limit, variable_limit}
 use Rattle.definition.specs.Rule.{MorphismKind}
 use Rattle.definition.specs.Group.{Variable}
 use Rattle.definition.specs.Signature.{Signature}
@@ -32,16 +32,16 @@ use Rattle.naming.proofs.Reached.{images_taken}
 use Rattle.statements.specs.declared.masks.Masks.{Masks}
 use Rattle.plan.specs.Table.{kind_in}
 use Rattle.kinds.specs.Steps.{Reaches}
-use Rattle.kinds.specs.declared.step.Step.{Step}
-use Rattle.kinds.specs.declared.step.Step.TheVariants as step
 use Rattle.laws.specs.Numbering.{fresh}
-use Rattle.walk.specs.declared.walk.Walked.{Walked}
-use Rattle.walk.specs.declared.walk.Walked.TheVariants.{On, Refused}
+use Rattle.std.proofs.Common.{Result, Ok, Err}
+use Rattle.records.specs.Refusals.{number}
+use Rattle.records.specs.declared.refusal.Refusal.{Refusal}
+use Rattle.records.specs.declared.refusal.Refusal.TheVariants.{UnreachedSource, ReachedTarget}
 use Rattle.walk.specs.declared.walk.Visit.{Visit}
-use Rattle.walk.specs.Tables.{Tables, tables, unreached, source_at, row_at, masks_of, held_masks}
+use Rattle.walk.specs.Tables.{Tables, unreached, source_at, row_at, masks_of, held_masks}
 use Rattle.walk.specs.Walks.{Tie, Walking}
 use Rattle.walk.specs.Ended.{Ground}
-use Rattle.walk.specs.Went.{Ends, Met, GoingTo, Does, number_of, whole_walk, Went}
+use Rattle.walk.specs.Went.{Ends, Met, GoingTo, Does, whole_walk, Went}
 use Rattle.walk.proofs.Numbers.{source_read}
 use Rattle.walk.proofs.Reaching.{given_more}
 use Rattle.walk.proofs.Walkable.{Walkable}
@@ -71,9 +71,6 @@ module _ {sig : Signature} {s index types : List ℕ} {tb : Tables} {v : Visit} 
   abbrev target : ℕ
   target = v.morphism.target
 
-  pub inside : (source < structure_limit) × (target < structure_limit)
-  inside = let a = met.source_in in let b = met.target_in in let f = gr.few in (omega arith, omega arith)
-
   read_source : get_or tb.sources source 0 ≡ source_at tb source
   read_source = let a = met.source_in in let b = gr.few in source_read tb source g.walking.ties.sources_long (omega arith)
 
@@ -92,19 +89,18 @@ module _ {sig : Signature} {s index types : List ℕ} {tb : Tables} {v : Visit} 
   refused_24 h l = stop g met (has_target g.walking source met.kind (rw read_source at h) (rw read_target at l))
 
   -- What `ends` answered.
-  pub ends_stop : {tb' : Tables} {types' : List ℕ} {next' n : ℕ} (r : Walked) → Ends r tb.sources source target → r ≡ Refused n
-      → Went r sig s tb' types' next' target source
-  ends_stop On d e = let z : ◌≡◌ {A = ℕ} 0 1 = cc in absurd (omega arith)
-  ends_stop (Refused k) d e = record { is = go d.is }
+  pub ends_stop : {sources' types' : List ℕ} {masks' : List (List Held)} {vars' : List (List ℕ)} {r : Refusal} → Ends (Err r) tb.sources source target
+      → Went (Err r) sig s sources' masks' vars' types' target source
+  ends_stop {r = r} d = record { is = go d.is }
     where
-      go : ((k ≡ 23) × (unreached ≤ get_or tb.sources source 0)) ⊎ ((k ≡ 24) × (get_or tb.sources source 0 < unreached)
+      go : ((r ≡ UnreachedSource) × (unreached ≤ get_or tb.sources source 0)) ⊎ ((r ≡ ReachedTarget) × (get_or tb.sources source 0 < unreached)
           × (get_or tb.sources target 0 < unreached))
-          → whole_walk sig s ≡ refused k
+          → whole_walk sig s ≡ refused (number r)
       go (inl w) = rw w.0 (refused_23 w.1)
       go (inr w) = rw w.0 (refused_24 w.1 w.2)
 
-  pub walkable : (r : Walked) → Ends r tb.sources source target → r ≡ On → Walkable sig s index tb types v
-  walkable On d e = record {
+  pub walkable : {u : Unit {0}} → Ends (Ok u) tb.sources source target → Walkable sig s index tb types v
+  walkable d = record {
     ground = gr;
     met = met;
     going = g;
@@ -116,7 +112,6 @@ module _ {sig : Signature} {s index types : List ℕ} {tb : Tables} {v : Visit} 
       go : (source_at tb target ≡ unreached) ⊎ (source_at tb target < unreached) → source_at tb target ≡ unreached
       go (inl q) = q
       go (inr l) = let r = read_target in let f = d.is.1 in absurd (omega arith)
-  walkable (Refused n) d e = let z : ◌≡◌ {A = ℕ} 0 1 = cc in absurd (omega arith)
 
 -- What the parts of the code ask.
 module _ {sig : Signature} {s index types : List ℕ} {tb : Tables} {v : Visit} (o : Walkable sig s index tb types v) where
@@ -153,36 +148,32 @@ module _ {sig : Signature} {s index types : List ℕ} {tb : Tables} {v : Visit} 
       reaches = record { between = o.met.between; images = rw (a, ← (elements_are target_laid)) (images_taken o.met.between.joins given_read) }
 
       -- What `flatten_map` answered.
-      abbrev Answered : Step → Type 0
+      abbrev Answered : Result Masks Refusal → Type 0
       Answered r = (table : List Variable) (k : MorphismKind) → TypesOf table types → kind_in v.kind ≡ some k → Does sig table s m sourcevars targetvars k r
 
-      does : {r : Step} → Answered r → Does sig o.going.state.variables s m (row_at tb m.source) (row o) o.met.kind r
+      does : {r : Result Masks Refusal} → Answered r → Does sig o.going.state.variables s m (row_at tb m.source) (row o) o.met.kind r
       does d = rw (source_row, target_row) at (d _ _ o.going.walking.types_are o.met.said)
 
-      pub went_refused : {r : Step} {n k : ℕ} {tb' : Tables} {types' : List ℕ} {next' : ℕ} → Answered r → r ≡ step.Refused n → k ≡ number_of r
-          → Went (Refused k) sig s tb' types' next' m.target m.source
-      went_refused {r} {n} {k} d e f =
-          let d' : Does sig o.going.state.variables s m (row_at tb m.source) (row o) o.met.kind (step.Refused n) = rw e at (does d) in
-          let k_is : k ≡ n = f ∙ rw e in
-          record { is = rw k_is (stop o.going o.met (map_refused o d'.is)) }
+      pub went_refused : {r : Refusal} {sources' types' : List ℕ} {masks' : List (List Held)} {vars' : List (List ℕ)} → Answered (Err r)
+          → Went (Err r) sig s sources' masks' vars' types' m.target m.source
+      went_refused d = record { is = stop o.going o.met (map_refused o (does d).is) }
 
       fresh_is : {more count : ℕ} → more ≡ fresh (kept_in v.first count targetvars) → count ≡ count_at index m.target → v.first + more
           ≡ v.first + fresh (taken o)
       fresh_is e c = ap (λ (x : ℕ). v.first + x) (e ∙ rw (target_row, c, ← (elements_are target_laid)) (ap fresh (kept_row (below o) (long o))))
 
-      pub went_on : {r : Step} {masks : Masks} {sources' types' : List ℕ} {masks' : List (List Held)} {grown : List (List ℕ)} {more count next' : ℕ}
-          → Answered r → r ≡ step.Adds masks → more ≡ fresh (kept_in v.first count targetvars) → count ≡ count_at index m.target
+      pub went_on : {masks : Masks} {sources' types' : List ℕ} {masks' : List (List Held)} {more count : ℕ}
+          → Answered (Ok masks) → more ≡ fresh (kept_in v.first count targetvars) → count ≡ count_at index m.target
           → types' ≡ sets types v.first (types_of (new_in (target_in s m) v.first targetvars))
           → sources' ≡ set tb.sources m.target m.source → masks' ≡ set tb.masks m.target (held_masks masks m.merged)
-          → next' ≡ v.first + more → grown ≡ set tb.vars m.target targetvars
-          → Went On sig s (tables sources' masks' grown) types' next' m.target m.source
+          → Went (Ok (record { vars = targetvars; next = v.first + more })) sig s sources' masks' tb.vars types' m.target m.source
       unfolding row_at
-      went_on {masks = masks} d e f c y x q n g =
+      went_on {masks = masks} d f c y x q =
           let held = held_masks masks m.merged in
-          let d' : Does sig o.going.state.variables s m (row_at tb m.source) (row o) o.met.kind (step.Adds masks) = rw e at (does d) in
+          let d' = does d in
           let w = stepped o held (rw (mask_held m.merged) o.met.between.merged) (fresh_is f c) (rw target_row at y) in
           let h = masks_held masks m.merged in
           record {
-            is = rw (g, target_row, x, q, n) (go_on o.going o.met
+            is = rw (target_row, x, q) (go_on o.going o.met
                 (map_accepted o held d'.is.0 (rw h d'.is.1.0) (rw (h, mask_held masks.funcs) d'.is.1.1)) w);
           }

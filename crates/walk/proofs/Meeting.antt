@@ -1,9 +1,8 @@
 -- The map between two structures, as the walk comes to it.
-use mathlib.Core.Bool.{true}
 use mathlib.Core.List.{List, []}
 use mathlib.Core.Path.{◌≡◌, sym}
 use Prim.Native.Nat.{ℕ}
-use Rattle.definition.specs.Base.{or_default, given}
+use Rattle.definition.specs.Base.{or_default}
 use Rattle.definition.specs.Walk.{pairs_between}
 use Rattle.flags.specs.declared.Mask.{Mask}
 use Rattle.rule.specs.Lookup.{rule_at}
@@ -15,9 +14,6 @@ use Rattle.walk.specs.Tables.{pairs_on}
 use Rattle.walk.specs.Went.{Kinded, Met}
 
 module _ {s index : List ℕ} {source target number : ℕ} (k : Kinded s index source target number) where
-  pub mapped : given (pairs_between (rule_at s).maps source target) ≡ true
-  mapped = k.ground.mapped source target k.kind k.on
-
   pub target_laid : Laid s index target
   target_laid = (k.ground.sounds target k.target_in).laid
 

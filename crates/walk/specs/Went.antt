@@ -1,5 +1,5 @@
 -- What the walk's functions answer.
-use Rattle.std.specs.Prelude.{List, [], ◌⊎◌, ◌≡◌, ℕ, suc, ◌≤◌, ◌<◌, length, get_or}
+use Rattle.std.specs.Prelude.{List, [], ◌⊎◌, ◌≡◌, ℕ, suc, ◌≤◌, ◌<◌, Result, Ok, Err, length, get_or, set}
 use Rattle.std.proofs.Math.Option.{some}
 use Rattle.definition.specs.Base.{Outcome, refused}
 use Rattle.definition.specs.Rule.{MorphismKind}
@@ -7,6 +7,9 @@ use Rattle.definition.specs.Group.{Variable, Statement}
 use Rattle.definition.specs.Signature.{Signature}
 use Rattle.definition.specs.Kinds.{equalities}
 use Rattle.definition.specs.Walk.{State, walk_from, initial_state, walked_kinds}
+use Rattle.records.specs.Refusals.{number}
+use Rattle.records.specs.declared.refusal.Refusal.{Refusal}
+use Rattle.records.specs.declared.refusal.Refusal.TheVariants.{UnreachedSource, ReachedTarget}
 use Rattle.rule.specs.Lookup.{rule_at}
 use Rattle.rows.specs.Morphisms.{pairs_by, Between}
 use Rattle.rows.specs.declared.morphism.Morphism.{Morphism}
@@ -14,22 +17,19 @@ use Rattle.flags.specs.Flags.{Held}
 use Rattle.statements.specs.declared.masks.Masks.{Masks}
 use Rattle.plan.specs.Table.{kind_in}
 use Rattle.kinds.specs.Steps.{by, said, domains, StepAs}
-use Rattle.kinds.specs.declared.step.Step.{Step}
-use Rattle.kinds.specs.declared.step.Step.TheVariants as step
 use Rattle.laws.specs.Steps.{step_fault, own, conclusions}
 use Rattle.walk.specs.Tables.{Tables, tables, unreached, kind_on, pairs_on, own_by, concluded_by}
 use Rattle.walk.specs.Left.{Going}
 use Rattle.walk.specs.Ended.{Ground}
 use Rattle.walk.specs.declared.walk.Visit.{Visit}
-use Rattle.walk.specs.declared.walk.Walked.{Walked}
-use Rattle.walk.specs.declared.walk.Walked.TheVariants.{On, Refused}
+use Rattle.walk.specs.declared.walk.MapWalked.{MapWalked}
 
 -- 23 and 24, by the sources of the two structures.
-abbrev EndsAs : Walked → ℕ → ℕ → Type 0
-EndsAs On from to = (from < unreached) × (unreached ≤ to)
-EndsAs (Refused n) from to = ((n ≡ 23) × (unreached ≤ from)) ⊎ ((n ≡ 24) × (from < unreached) × (to < unreached))
+abbrev EndsAs : Result (Unit {0}) Refusal → ℕ → ℕ → Type 0
+EndsAs (Ok u) from to = (from < unreached) × (unreached ≤ to)
+EndsAs (Err r) from to = ((r ≡ UnreachedSource) × (unreached ≤ from)) ⊎ ((r ≡ ReachedTarget) × (from < unreached) × (to < unreached))
 
-pub record Ends (r : Walked) (sources : List ℕ) (source target : ℕ) : Type 0 where
+pub record Ends (r : Result (Unit {0}) Refusal) (sources : List ℕ) (source target : ℕ) : Type 0 where
   pub is : EndsAs r (get_or sources source 0) (get_or sources target 0)
 
 -- Two structures of an accepted rule, and the number of the kind between them.
@@ -57,16 +57,11 @@ module _ (sig : Signature) (table : List Variable) (s : List ℕ) (m : Morphism)
   abbrev eqs : List Statement
   eqs = by sig table s m sourcevars targetvars equalities
 
-  pub record Does (kind : MorphismKind) (r : Step) : Type 0 where
+  pub record Does (kind : MorphismKind) (r : Result Masks Refusal) : Type 0 where
     pub is : StepAs r (by sig table s m sourcevars targetvars step_fault kind) (λ (masks : Masks).
         (by sig table s m sourcevars targetvars (own sig) kind ≡ own_by (some kind) eqs (said s m targetvars masks))
         × (by sig table s m sourcevars targetvars conclusions kind
         ≡ concluded_by (some kind) masks.funcs eqs (said s m targetvars masks) (domains s m targetvars masks)))
-
--- The number of a refused step.
-abbrev pub number_of : Step → ℕ
-number_of (step.Adds masks) = 0
-number_of (step.Refused n) = n
 
 -- The whole walk.
 abbrev pub whole_walk : Signature → List ℕ → Outcome State
@@ -81,15 +76,11 @@ pub record GoingFrom (sig : Signature) (s sources : List ℕ) (masks : List (Lis
   pub row : sourcevars ≡ get_or vars v.morphism.source []
   pub going : GoingTo sig s (tables sources masks vars) types v
 
--- One map on, or the walk is refused.
-abbrev WentAs : Walked → Signature → List ℕ → Tables → List ℕ → ℕ → ℕ → ℕ → Type 0
-WentAs On sig s tb types next t u = Going sig s tb types next t (suc u)
-WentAs (Refused n) sig s tb types next t u = whole_walk sig s ≡ refused n
+-- One map on, with the variables of its target in the table, or the walk is refused.
+abbrev WentAs : Result MapWalked Refusal → Signature → List ℕ → List ℕ → List (List Held) → List (List ℕ) → List ℕ → ℕ → ℕ → Type 0
+WentAs (Ok m) sig s sources masks vars types t u = Going sig s (tables sources masks (set vars t m.vars)) types m.next t (suc u)
+WentAs (Err r) sig s sources masks vars types t u = whole_walk sig s ≡ refused (number r)
 
-pub record Went (r : Walked) (sig : Signature) (s : List ℕ) (tb : Tables) (types : List ℕ) (next t u : ℕ) : Type 0 where
-  pub is : WentAs r sig s tb types next t u
-
--- The number of a refused walk; 0 where it goes on.
-abbrev pub stop_in : Walked → ℕ
-stop_in On = 0
-stop_in (Refused n) = n
+pub record Went (r : Result MapWalked Refusal) (sig : Signature) (s sources : List ℕ) (masks : List (List Held)) (vars : List (List ℕ)) (types : List ℕ)
+    (t u : ℕ) : Type 0 where
+  pub is : WentAs r sig s sources masks vars types t u

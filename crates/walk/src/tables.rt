@@ -52,8 +52,7 @@ pub fn mask_at(masks: &[[Held; SORTS]; STRUCTURES], t: usize, sort: usize) -> Ma
     requires { (t < structure_limit) × (sort < sorts) }
     ensures { result ≡ mask_in (get_or masks.now t []) sort }
 {
-    let row = masks[t];
-    from_held(row[sort])
+    from_held(masks[t][sort])
 }
 
 // Those of all that it says.

@@ -1,5 +1,5 @@
 // The walk's step: one map.
-ghost use Rattle.std.specs.Prelude.{List, ◌≡◌, ◌≤◌, ◌<◌, length, set};
+ghost use Rattle.std.specs.Prelude.{List, ◌≡◌, ◌≤◌, ◌<◌, length};
 ghost use Rattle.std.proofs.Math.Option.{some};
 ghost use Rattle.std.proofs.lemmas.List.Edits.{sets};
 ghost use Rattle.definition.specs.Base.{each};
@@ -15,44 +15,37 @@ ghost use Rattle.rule.specs.Structures.{structure_in, Laid, SoundAt, ByteTypes};
 ghost use Rattle.naming.specs.Variables.{row_of, GivenOut, new_in};
 ghost use Rattle.plan.specs.Table.{kind_in};
 ghost use Rattle.kinds.specs.Steps.{Reaches};
-ghost use Rattle.walk.specs.Tables.{tables};
 ghost use Rattle.walk.specs.Ended.{Ground};
-ghost use Rattle.walk.specs.Went.{stop_in, Ends, Does, Kinded, Met, number_of, GoingFrom, Went};
+ghost use Rattle.walk.specs.Went.{Ends, Does, Kinded, Met, GoingFrom, Went};
 
 use crate::tables::{SORTS, UNREACHED, masks_row};
 use flags::Held;
 use kinds::morphisms::{flatten_if_arbitrary, flatten_non_surj_then, flatten_surj_then};
-use kinds::step::Step;
 use naming::assign::{assign_el_vars, initial_el_vars};
 use naming::types::type_variables;
 use naming::variables::fresh;
 use plan::table::{NON_SURJ_THEN, SURJ_THEN};
+use records::refusal::Refusal;
 use rows::kernel::merged_els;
 use rows::morphism::Morphism;
 use rule::elements::element_count;
 use rule::ids::{FIELDS, RULE_INDEX, STRUCTURES};
 use rule::maps::map_between;
 use signature::ids::{Counts, INDEX};
+use statements::masks::Masks;
 
-// The walk goes on, or is refused.
-#[derive(Clone, Copy)]
-pub enum Walked {
-    On,
-    Refused(u8),
-}
-
-// 23: the source has no statements yet; 24: the target already has statements.
-fn ends(sources: &[u8; STRUCTURES], source: usize, target: usize) -> Walked
+// Refused where the source has no statements yet, or the target already has statements.
+fn ends(sources: &[u8; STRUCTURES], source: usize, target: usize) -> Result<(), Refusal>
     requires { (source < structure_limit) × (target < structure_limit) }
     ensures { Ends result sources.now source target }
 {
     if sources[source] >= UNREACHED {
-        return Walked::Refused(23);
+        return Err(Refusal::UnreachedSource);
     }
     if sources[target] < UNREACHED {
-        return Walked::Refused(24);
+        return Err(Refusal::ReachedTarget);
     }
-    Walked::On
+    Ok(())
 }
 
 // A map that the walk has come to: its kind, and the first variable that it may give out.
@@ -102,7 +95,7 @@ fn flatten_map(
     sourcevars: [u16; FIELDS],
     targetvars: [u16; FIELDS],
     types: &[u8],
-) -> Step
+) -> Result<Masks, Refusal>
     requires indexed { Indexed sig.now symbols.now counts }
     requires sound_at { SoundAt (signature_at sig.now symbols.now counts) s.now index.now v.morphism.target }
     requires reaches { Reaches s.now index.now v.morphism targetvars v.first }
@@ -111,33 +104,20 @@ fn flatten_map(
         → Does (signature_at sig.now symbols.now counts) table s.now v.morphism sourcevars targetvars k result }
 {
     let m = v.morphism;
-    if v.kind == SURJ_THEN {
-        return flatten_surj_then(s, index, m, sourcevars, targetvars, v.first, types);
-    }
-    if v.kind == NON_SURJ_THEN {
-        return flatten_non_surj_then(s, index, m, targetvars, v.first);
-    }
-    flatten_if_arbitrary(
-        sig, symbols, counts, s, index, m, sourcevars, targetvars, v.first, types,
-    )
-}
-
-// The number of a refused step.
-fn number(r: Step) -> u8
-    ensures { result ≡ number_of r }
-{
-    match r {
-        Step::Adds(_) => 0,
-        Step::Refused(n) => n,
+    match v.kind {
+        SURJ_THEN => flatten_surj_then(s, index, m, sourcevars, targetvars, v.first, types),
+        NON_SURJ_THEN => flatten_non_surj_then(s, index, m, targetvars, v.first),
+        _ => flatten_if_arbitrary(
+            sig, symbols, counts, s, index, m, sourcevars, targetvars, v.first, types,
+        ),
     }
 }
 
-// What a map's step hands back: the variables of the target's elements, the next one to be given out, and whether the walk goes on.
+// What a map's step hands back: the variables of the target's elements, and the next one to be given out.
 #[derive(Clone, Copy)]
 pub struct MapWalked {
     pub vars: [u16; FIELDS],
     pub next: u16,
-    pub end: Walked,
 }
 
 // A map walked, from the variables of its source: the target gets its variables, its source and its masks.
@@ -152,46 +132,25 @@ pub fn walk_map(
     sources: &mut [u8; STRUCTURES],
     masks: &mut [[Held; SORTS]; STRUCTURES],
     types: &mut [u8],
-) -> MapWalked
+) -> Result<MapWalked, Refusal>
     requires indexed { Indexed sig.now symbols.now counts × Ground (signature_at sig.now symbols.now counts) s.now index.now }
     requires met { Met s.now index.now v }
     requires going_from { GoingFrom (signature_at sig.now symbols.now counts) s.now sources.old masks.old sourcevars types.old v }
     ensures { (g : GoingFrom (signature_at sig.now symbols.now counts) s.now sources.old masks.old sourcevars
-        types.old v) → Went result.end (signature_at sig.now symbols.now counts) s.now
-        (tables sources.new masks.new (set g.vars v.morphism.target result.vars)) types.new result.next
+        types.old v) → Went result (signature_at sig.now symbols.now counts) s.now sources.new masks.new g.vars types.new
         v.morphism.target v.morphism.source }
 {
     let m = v.morphism;
     let first = v.first;
-    let e = ends(sources, m.source, m.target);
-    let Walked::On = e else {
-        return MapWalked {
-            vars: sourcevars,
-            next: first,
-            end: e,
-        };
-    };
-    let targetvars = assign_el_vars(sourcevars, s, index, m.source, m.target, m.map, first);
-    let r = flatten_map(
-        sig, symbols, counts, s, index, v, sourcevars, targetvars, types,
-    );
-    let Step::Adds(added) = r else {
-        return MapWalked {
-            vars: targetvars,
-            next: first,
-            end: Walked::Refused(number(r)),
-        };
-    };
+    ends(sources, m.source, m.target)?;
+    let vars = assign_el_vars(sourcevars, s, index, m.source, m.target, m.map, first);
+    let added = flatten_map(sig, symbols, counts, s, index, v, sourcevars, vars, types)?;
     let target = m.target;
-    type_variables(types, s, index, target, targetvars, first);
+    type_variables(types, s, index, target, vars, first);
     sources[target] = m.source as u8;
     masks[target] = masks_row(added, m.merged);
-    let next = first + fresh(targetvars, element_count(index, target), first);
-    MapWalked {
-        vars: targetvars,
-        next,
-        end: Walked::On,
-    }
+    let next = first + fresh(vars, element_count(index, target), first);
+    Ok(MapWalked { vars, next })
 }
 
 // The variables of structure 0, with their types.
@@ -205,14 +164,4 @@ pub fn first_row(types: &mut [u8], s: &[u8], index: &[u16; RULE_INDEX]) -> [u16;
     let row = initial_el_vars(s, index);
     type_variables(types, s, index, 0, row, 0);
     row
-}
-
-// The number of a refused walk; 0 where it goes on.
-pub fn stopped(end: Walked) -> u8
-    ensures { result ≡ stop_in end }
-{
-    match end {
-        Walked::On => 0,
-        Walked::Refused(n) => n,
-    }
 }

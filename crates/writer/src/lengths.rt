@@ -19,7 +19,7 @@ use group::ids::FIELD_HEAD;
 use naming::writer::rule_name_length;
 use records::write::past;
 use rule::ids::{FIELDS, RULE_INDEX, STRUCTURES};
-use walk::tables::{SORTS, UNREACHED, place};
+use walk::tables::{SORTS, UNREACHED};
 
 // Where what a structure says ends, behind what its source says.
 fn own_length(
@@ -42,9 +42,8 @@ fn own_length(
         (own_at e.sig e.state.variables s.now (tables sources.now masks.now vars.now) t)) from result }
     ensures upper_bound { result ≤ count_limit }
 {
-    let mut nothing = [0u8; 0];
     put_own(
-        &mut nothing,
+        &mut [],
         from,
         s,
         index,
@@ -62,10 +61,7 @@ fn name_length(from: usize, s: &[u8], count: u16) -> usize
     requires { (from ≤ count_limit) × Headed s.now }
     ensures { Put [] [] (field_bytes (name_field s.now count)) from result }
 {
-    past(
-        from,
-        FIELD_HEAD + records::fields::place(rule_name_length(s, count)),
-    )
+    past(from, FIELD_HEAD + usize::from(rule_name_length(s, count)))
 }
 
 // Where a rule's statements end; those of its premise have so many bytes.
@@ -93,9 +89,8 @@ fn body_length(
         → Put [] [] (body_bytes e.state.slots (tables sources.now masks.now vars.now) t conclusion) from result }
     ensures upper_bound { result ≤ count_limit }
 {
-    let mut nothing = [0u8; 0];
     put_conclusion(
-        &mut nothing,
+        &mut [],
         past(from, before),
         s,
         index,
@@ -131,10 +126,9 @@ pub fn rules_length(
     lengths[0] = own_length(0, s, index, kinds, sources, masks, vars, types, 0);
     let mut at = from;
     let mut count: u16 = 0;
-    let mut t: usize = 1;
-    while t < n {
+    for t in 1..n {
         if sources[t] < UNREACHED {
-            let before = lengths[place(sources[t])];
+            let before = lengths[usize::from(sources[t])];
             if emits(kinds, sources, masks, t) {
                 let named = name_length(at, s, count);
                 at = body_length(
@@ -144,7 +138,6 @@ pub fn rules_length(
             }
             lengths[t] = own_length(before, s, index, kinds, sources, masks, vars, types, t);
         }
-        t += 1;
     }
     at
 }

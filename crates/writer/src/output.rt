@@ -11,8 +11,9 @@ use crate::lengths::rules_length;
 use crate::rules::put_rules;
 use crate::variables::put_all_variables;
 use flags::Held;
-use group::write::put_group_head;
+use group::ids::LETTER_G;
 use naming::writer::{group_name_length, put_group_name};
+use records::write::put_field_head;
 use rule::ids::{FIELDS, RULE_INDEX, STRUCTURES};
 use walk::tables::SORTS;
 
@@ -35,7 +36,7 @@ pub fn put_group(
         → Put out.old out.new (group_bytes_of (group_left (rule_at s.now) e.state)) 0 result }
     ensures upper_bound { result ≤ count_limit }
 {
-    let head = put_group_head(out, 0, group_name_length(s));
+    let head = put_field_head(out, 0, LETTER_G, group_name_length(s));
     let named = put_group_name(out, head, s);
     let varied = put_all_variables(out, named, s, index, n, sources, vars);
     // Nothing of the rules fits: they are only counted.

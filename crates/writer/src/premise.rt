@@ -18,7 +18,7 @@ use rule::ids::{FIELDS, RULE_INDEX, STRUCTURES};
 use rule::maps::map_between;
 use statements::equalities::put_equalities;
 use statements::writer::put_said;
-use walk::tables::{MERGED, SORTS, mask_at, masks_at, place};
+use walk::tables::{MERGED, SORTS, mask_at, masks_at};
 
 // The number of the kind by which a structure was reached; structure 0 was reached by none.
 pub fn reached_by(
@@ -32,8 +32,7 @@ pub fn reached_by(
     if t == 0 {
         return NO_KIND;
     }
-    let source = place(sources[t]);
-    kinds[source][t]
+    kinds[usize::from(sources[t])][t]
 }
 
 // Equality per kernel pair of the map that reached a structure. Most maps have none, and need not be looked up.
@@ -63,7 +62,7 @@ fn put_map_equalities(
     if none_set(merged) {
         return from;
     }
-    let source = place(sources[t]);
+    let source = usize::from(sources[t]);
     let map = map_between(s, index, source, t);
     let m = Morphism {
         source,
@@ -169,7 +168,7 @@ pub fn put_premise(
     if t == 0 {
         return put_own(out, from, s, index, kinds, sources, masks, vars, types, 0);
     }
-    let source = place(sources[t]);
+    let source = usize::from(sources[t]);
     let at = put_premise(
         out, from, s, index, kinds, sources, masks, vars, types, source,
     );

@@ -15,13 +15,13 @@ ghost use Rattle.writer.specs.Rules.{name_field, body_bytes};
 
 use crate::premise::{put_both, put_premise, reached_by};
 use flags::{Held, none_set};
-use group::ids::LETTER_H;
-use group::write::put_rule_head;
+use group::ids::{LETTER_H, LETTER_U};
 use naming::writer::{put_rule_name, rule_name_length};
 use plan::table::{NON_SURJ_THEN, SURJ_THEN};
+use records::write::put_field_head;
 use rule::ids::{FIELDS, RULE_INDEX, STRUCTURES};
 use statements::writer::put_domains;
-use walk::tables::{FUNCS, SORTS, UNREACHED, mask_at, place};
+use walk::tables::{FUNCS, SORTS, UNREACHED, mask_at};
 
 // Does the map that reached a structure emit a rule? SurjThen does; NonSurjThen does where it has a new element.
 pub fn emits(
@@ -90,7 +90,7 @@ fn put_name_field(out: &mut [u8], from: usize, s: &[u8], count: u16) -> usize
     requires { (from ≤ count_limit) × Headed s.now }
     ensures { Put out.old out.new (field_bytes (name_field s.now count)) from result }
 {
-    let head = put_rule_head(out, from, rule_name_length(s, count));
+    let head = put_field_head(out, from, LETTER_U, rule_name_length(s, count));
     put_rule_name(out, head, s, count)
 }
 
@@ -118,7 +118,7 @@ fn put_body(
         → Put out.old out.new (body_bytes e.state.slots (tables sources.now masks.now vars.now) t conclusion) from result }
     ensures upper_bound { result ≤ count_limit }
 {
-    let source = place(sources[t]);
+    let source = usize::from(sources[t]);
     let said = put_premise(
         out, from, s, index, kinds, sources, masks, vars, types, source,
     );
@@ -147,16 +147,12 @@ pub fn put_rules(
 {
     let mut at = from;
     let mut k: u16 = 0;
-    let mut t: usize = 1;
-    while t < n {
-        if sources[t] < UNREACHED {
-            if emits(kinds, sources, masks, t) {
-                let named = put_name_field(out, at, s, k);
-                at = put_body(out, named, s, index, kinds, sources, masks, vars, types, t);
-                k += 1;
-            }
+    for t in 1..n {
+        if sources[t] < UNREACHED && emits(kinds, sources, masks, t) {
+            let named = put_name_field(out, at, s, k);
+            at = put_body(out, named, s, index, kinds, sources, masks, vars, types, t);
+            k += 1;
         }
-        t += 1;
     }
     at
 }

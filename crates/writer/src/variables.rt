@@ -28,12 +28,10 @@ pub fn put_all_variables(
 {
     let mut at = from;
     let mut number: u16 = 0;
-    let mut t: usize = 0;
-    while t < n {
+    for t in 0..n {
         if sources[t] < UNREACHED {
             at = put_variables(out, at, s, index, t, &vars[t], &mut number);
         }
-        t += 1;
     }
     at
 }

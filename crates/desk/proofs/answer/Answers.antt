@@ -25,7 +25,7 @@ module _ (P : List ℕ → Type 0) where
           let none : ys ≡ [] = end (omega (arith, size)) in
           subst (λ l. P (desk_of l)) (sym (took ∙ ap (λ l. take n buffer ++ l) none ∙ append-nil (take n buffer))) p
 
-pub returns-in-Read : goal.returns-in-Read
-returns-in-Read g c p =
-    all_or_enough (Appends _ _) _ _ c.read_full.new.buf c.in-Read.n (search rules) c.in-Read.ensures.within c.in-Read.ensures.taken.0
-    c.in-Read.ensures.taken.1 (c.print_answer.ensures.answer p) (c.print_answer.ensures.front p)
+pub returns-in-Some : goal.returns-in-Some
+returns-in-Some g c p =
+    all_or_enough (Appends _ _) _ _ c.read_full.new.buf c.in-Some.n (search rules) c.in-Some.ensures.within c.in-Some.ensures.taken.0
+    c.in-Some.ensures.taken.1 (c.print_answer.ensures.answer p) (c.print_answer.ensures.front p)

@@ -1,99 +1,61 @@
--- The loop keeps that the walk is under way (`Going`): at each pair it is passed by (`skip`) or walked (`went_further`), and behind the
--- last one of a target comes the next (`next_target`). Behind the last pair the tables are those of the walk's end.
-use mathlib.Core.Path.{◌∙◌}
-use Prim.Native.Nat.{◌+◌}
+-- Both loops keep that the walk is under way (`Going`): at each pair it is passed by (`skip`) or walked (`went_further`), and behind the
+-- last one of a target comes the next (`next_target`). Behind the last target the tables are those of the walk's end.
+use Rattle.std.proofs.Common.{arith}
+use Rattle.std.proofs.lemmas.Result.{err_from_is_err_and}
 use Rattle.signature.specs.Index.{signature_at}
-use Rattle.walk.specs.Tables.{tables}
-use Rattle.walk.specs.Left.{Going}
 use Rattle.walk.proofs.Grounds.{first_laid, byte_types}
 use Rattle.walk.proofs.Ending.{Standing, skip, kinded, going_from, went_further, next_target, ended_walk, begin_walk}
-use Rattle.walk.proofs.Ending.{left_step}
 use Rattle.flatten.proofs.Writing.{refused_at_once, walk_stopped, ending, ended_writes}
-use borrow.Author.Rules.{rules}
-use native.Mathlib.Omega.{arith}
-use Rattle.flatten.proofs.entry.flatten_morphisms.Goals.{At-loop-v, Joined-kind-lt-NO_KIND, else-kind-lt-NO_KIND, then-kind-lt-NO_KIND+in-On}
+use Rattle.flatten.proofs.entry.flatten_morphisms.Goals.{In-loop-source, then-kind-lt-NO_KIND+in_ok-m, else-kind-lt-NO_KIND}
 use Rattle.flatten.proofs.entry.flatten_morphisms.Goals as goal
 
 -- Where the walk stands.
-abbrev At : At-loop-v → Type 0
-At c = let a = c.args in Standing (signature_at a.sig.now a.symbols.now a.counts) a.s.now a.index.now a.kinds.now a.n c.loop-v.target c.loop-v.source
-
-stands : (c : At-loop-v) → At c
+stands : (c : In-loop-source)
+    → (let a = c.args in Standing (signature_at a.sig.now a.symbols.now a.counts) a.s.now a.index.now a.kinds.now a.n c.loop-target.target c.loop-source.source)
 stands c = record {
   ground = c.requires.indexed.1;
   counted = c.requires.n_value.0;
   tabled = c.requires.n_value.1;
-  target_in = c.loop-v.invariant.0;
-  source_in = c.loop-v.invariant.1;
+  target_in = c.loop-target-test.true;
+  source_in = c.loop-source-test.true;
 }
-
--- Behind the pair, walked or passed by.
-abbrev Behind : Joined-kind-lt-NO_KIND → Type 0
-Behind c = let a = c.args in let j = c.if-kind-lt-NO_KIND in
-    Going (signature_at a.sig.now a.symbols.now a.counts) a.s.now (tables j.sources j.masks j.vars) j.types j.next c.loop-v.target (c.loop-v.source + 1)
-
-behind : (c : Joined-kind-lt-NO_KIND)
-    → (let a = c.args in Standing (signature_at a.sig.now a.symbols.now a.counts) a.s.now a.index.now a.kinds.now a.n c.loop-v.target c.loop-v.source)
-    → Behind c
-unfolding going_from
-behind c a = elim c.if-kind-lt-NO_KIND.branch [
-  | then-kind-lt-NO_KIND+in-On w ↦ let e = w.meet_map-v.ensures.source_value in let l = c.loop-v in
-      rw (w.types-is, w.vars-is, w.sources-is, w.masks-is, w.next-is)
-      (went_further l.vars w.walk_map-r.result.vars e.0 e.1 _ (w.walk_map-r.ensures (going_from e l.invariant.3)) w.in-On.is)
-  | else-kind-lt-NO_KIND w ↦ rw (w.types-is, w.vars-is, w.sources-is, w.masks-is, w.next-is)
-      (skip a w.if-kind-lt-NO_KIND.false c.loop-v.invariant.3)
-]
 
 pub first_row-requires-clause-laid : goal.first_row-requires-clause-laid
 first_row-requires-clause-laid c = let g = c.requires.indexed.1 in (first_laid g, byte_types g _ g.some_one)
 
-pub loop-v-init : goal.loop-v-init
-loop-v-init c =
-    let u = c.requires.untyped in let g = c.requires.indexed.1 in let e = c.requires.n_value.0 in let h = g.some_one in (
-      omega arith,
-      omega arith,
-      search rules,
-      rw (c.initial_matching_stmts.ensures, u.1)
-          (begin_walk g u.0.size u.0.zeros e u.0.enough c.first_row.ensures.value c.first_row.ensures.types_after c.element_count-next.ensures),
-    )
+pub loop-target-init : goal.loop-target-init
+loop-target-init c =
+    let u = c.requires.untyped in let g = c.requires.indexed.1 in
+    rw (c.initial_matching_stmts.ensures, u.1)
+    (begin_walk g u.0.size u.0.zeros c.requires.n_value.0 u.0.enough c.first_row.ensures.value c.first_row.ensures.types_after c.element_count-next.ensures)
 
 pub meet_map-v-requires : goal.meet_map-v-requires
-meet_map-v-requires c = kinded (stands (goal.at.meet_map-v-requires c).At-loop-v) c.if-kind-lt-NO_KIND.true
+meet_map-v-requires c = kinded (stands (goal.at.meet_map-v-requires c).In-loop-source) c.if-kind-lt-NO_KIND.true
 
-pub returns-in_default : goal.returns-in_default
-returns-in_default c =
-    refused_at_once _
-    (walk_stopped _ _ _ _ (c.walk_map-r.ensures (going_from c.meet_map-v.ensures.source_value c.loop-v.invariant.3)) c.in_default.is c.stopped.ensures)
+pub returns-in_err-m : goal.returns-in_err-m
+returns-in_err-m c =
+    let p = err_from_is_err_and c.from_residual.result c.from_residual.ensures.1 in
+    rw (p.1, p.2) (refused_at_once _ (walk_stopped _ _ _ (c.in_err-m.ensures (going_from c.meet_map-v.ensures.source_value c.loop-source.invariant))))
 
-pub loop-v-preserved-else-target-n : goal.loop-v-preserved-else-target-n
-loop-v-preserved-else-target-n c =
-    let a = stands (goal.at.loop-v-preserved-else-target-n c).At-loop-v in let h = a.target_in in let k = a.source_in in let d = c.if-target-n.false in (
-      omega arith,
-      omega arith,
-      c.if-kind-lt-NO_KIND.auto.types ∙ c.loop-v.invariant.2,
-      next_target a.counted h c.if-source-n.true (behind (goal.at.loop-v-preserved-else-target-n c).Joined-kind-lt-NO_KIND a),
-    )
+pub loop-source-preserved : goal.loop-source-preserved
+unfolding going_from
+loop-source-preserved c = elim c.if-kind-lt-NO_KIND.branch [
+  | then-kind-lt-NO_KIND+in_ok-m w ↦ let e = w.meet_map-v.ensures.source_value in let l = c.loop-source in
+      rw (w.types-is, w.vars-is, w.sources-is, w.masks-is, w.next-is)
+      (went_further l.vars _ e.0 e.1 (w.in_ok-m.ensures (going_from e l.invariant)))
+  | else-kind-lt-NO_KIND w ↦ rw (w.types-is, w.vars-is, w.sources-is, w.masks-is, w.next-is)
+      (skip (stands (goal.at.loop-source-preserved c).In-loop-source) w.if-kind-lt-NO_KIND.false c.loop-source.invariant)
+]
 
-pub loop-v-smaller : goal.loop-v-smaller
-loop-v-smaller c = left_step _ _ _ c.loop-v.invariant.0 c.loop-v.invariant.1
-
-pub loop-v-preserved : goal.loop-v-preserved
-loop-v-preserved c =
-    let a = stands (goal.at.loop-v-preserved c).At-loop-v in let k = a.source_in in let d = c.if-source-n.false in (
-      a.target_in,
-      omega arith,
-      c.if-kind-lt-NO_KIND.auto.types ∙ c.loop-v.invariant.2,
-      behind (goal.at.loop-v-preserved c).Joined-kind-lt-NO_KIND a,
-    )
+pub loop-target-preserved : goal.loop-target-preserved
+loop-target-preserved c = next_target c.requires.n_value.0 c.loop-target-test.true (omega arith) c.loop-source.invariant
 
 pub write_group-requires-clause-ended : goal.write_group-requires-clause-ended
 write_group-requires-clause-ended c =
-    let a = stands (goal.at.write_group-requires-clause-ended c).At-loop-v in
-    ending (ended_walk a.ground a.counted c.if-target-n.true
-    (next_target a.counted a.target_in c.if-source-n.true (behind (goal.at.write_group-requires-clause-ended c).Joined-kind-lt-NO_KIND a))) a.ground a.tabled
+    let g = c.requires.indexed.1 in
+    ending (ended_walk g c.requires.n_value.0 (omega arith) c.loop-target.invariant) g c.requires.n_value.1
 
 pub returns : goal.returns
 returns c =
-    let a = stands (goal.at.returns c).At-loop-v in
-    ended_writes _ _ _ (ended_walk a.ground a.counted c.if-target-n.true
-    (next_target a.counted a.target_in c.if-source-n.true (behind (goal.at.returns c).Joined-kind-lt-NO_KIND a))) a.ground a.tabled c.write_group.ensures
+    let g = c.requires.indexed.1 in
+    ended_writes _ _ _ (ended_walk g c.requires.n_value.0 (omega arith) c.loop-target.invariant) g c.requires.n_value.1 c.write_group.ensures

@@ -4,4 +4,4 @@ use Rattle.group.proofs.write.put_variable_head.Goals as goal
 
 pub returns : goal.returns
 unfolding variable_head
-returns c = rw (← c.place.ensures.0) (then c.put_field_head-head.ensures c.put_num.ensures)
+returns c = then c.put_field_head-head.ensures c.put_num.ensures

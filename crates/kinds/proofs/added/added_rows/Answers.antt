@@ -1,44 +1,28 @@
-use borrow.Author.Rules.{rules}
-use Rattle.kinds.proofs.New.{pred_rows_lem, func_rows_lem, preds_new, funcs_new, adds_preds, adds_funcs, adds_members, adds_all}
+use Rattle.std.proofs.lemmas.Result.{err_from_is_err_and}
+use Rattle.kinds.proofs.New.{preds_new, funcs_new, adds_preds, adds_funcs, adds_members, adds_all}
 use Rattle.kinds.proofs.added.added_rows.Goals as goal
 
-pub new_section-p-requires : goal.new_section-p-requires
-new_section-p-requires c =
-    let w = c.requires in record {
-      between = (w, search rules);
-      section_rows = pred_rows_lem w.source_at;
-      section_rows_2 = pred_rows_lem w.target_at;
-    }
-
-pub returns-in_default : goal.returns-in_default
-returns-in_default c =
+pub returns-in_err-new_section : goal.returns-in_err-new_section
+returns-in_err-new_section c =
     let w = c.requires in
-    adds_preds w (preds_new w c.new_section-p.ensures) _ c.in_default.is
+    let p = err_from_is_err_and c.from_residual.result c.from_residual.ensures.1 in
+    rw (p.1, p.2) (adds_preds w (preds_new w c.in_err-new_section.ensures) _)
 
-pub new_section-f-requires : goal.new_section-f-requires
-new_section-f-requires c =
-    let w = c.requires in record {
-      between = (w, search rules);
-      section_rows = func_rows_lem w.source_at;
-      section_rows_2 = func_rows_lem w.target_at;
-    }
-
-pub returns-in_default-f : goal.returns-in_default-f
-returns-in_default-f c =
+pub returns-in_err-new_section-2 : goal.returns-in_err-new_section-2
+returns-in_err-new_section-2 c =
     let w = c.requires in
-    adds_funcs w (preds_new w c.new_section-p.ensures) _ (funcs_new w c.new_section-f.ensures) c.in-Of.is c.in_default-f.is
+    let r = c.from_residual-in_err-new_section-2 in
+    let p = err_from_is_err_and r.result r.ensures.1 in
+    rw (p.1, p.2) (adds_funcs w (preds_new w c.in_ok-new_section.ensures) (funcs_new w c.in_err-new_section-2.ensures) _)
 
-pub new_unmarked-e-requires : goal.new_unmarked-e-requires
-new_unmarked-e-requires c = c.requires
-
-pub returns-in_default-e : goal.returns-in_default-e
-returns-in_default-e c =
+pub returns-in_err-new_unmarked : goal.returns-in_err-new_unmarked
+returns-in_err-new_unmarked c =
     let w = c.requires in
-    adds_members w (preds_new w c.new_section-p.ensures) _ (funcs_new w c.new_section-f.ensures) c.in-Of.is
-    c.new_unmarked-e.ensures c.in-Of-f.is c.in_default-e.is
+    let r = c.from_residual-in_err-new_unmarked in
+    let p = err_from_is_err_and r.result r.ensures.1 in
+    rw (p.1, p.2) (adds_members w (preds_new w c.in_ok-new_section.ensures) (funcs_new w c.in_ok-new_section-2.ensures) c.in_err-new_unmarked.ensures)
 
 pub returns : goal.returns
 returns c =
     let w = c.requires in
-    adds_all w (preds_new w c.new_section-p.ensures) _ (funcs_new w c.new_section-f.ensures) c.in-Of.is
-    c.new_unmarked-e.ensures c.in-Of-f.is c.in-Of-e.is
+    adds_all w (preds_new w c.in_ok-new_section.ensures) (funcs_new w c.in_ok-new_section-2.ensures) c.in_ok-new_unmarked.ensures

@@ -1,16 +1,13 @@
-use Prim.Native.Nat.{ℕ, ◌-◌}
+use Prim.Native.Nat.{ℕ}
 use mathlib.Core.Bool.{Bool}
 use mathlib.Core.List.{List}
 use mathlib.Core.Path.{◌≡◌}
-use lib.ListN.{length}
+use lib.ListN.{length, take}
 use Rattle.definition.specs.Base.{each, given}
 use Rattle.naming.specs.Variables.{kept_in}
-use Rattle.kinds.proofs.Fresh.{Finding}
+use Rattle.kinds.specs.Elements.{News}
 use Rattle.kinds.proofs.elements.new_elements.Given as goal
 
 abbrev pub invariant-loop-i : goal.invariant-loop-i
 invariant-loop-i l =
-    (p : ℕ → Bool) (els : List ℕ) → l.count ≡ length els → each given (kept_in l.first l.count l.targetvars) ≡ each p els → Finding p els l.count l.found l.i
-
-abbrev pub decreases-loop-i : goal.decreases-loop-i
-decreases-loop-i l = l.count - l.i
+    (p : ℕ → Bool) (els : List ℕ) → l.count ≡ length els → each given (kept_in l.first l.count l.targetvars) ≡ each p els → News l.new p (take l.i els)

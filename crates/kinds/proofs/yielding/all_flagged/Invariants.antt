@@ -1,4 +1,4 @@
-use Prim.Native.Nat.{ℕ, ◌-◌, ◌≤◌}
+use Prim.Native.Nat.{ℕ}
 use mathlib.Core.Bool.{Bool}
 use mathlib.Core.Path.{◌≡◌}
 use lib.ListN.{take}
@@ -10,8 +10,5 @@ use Rattle.kinds.proofs.yielding.all_flagged.Given as goal
 
 abbrev pub invariant-loop-j : goal.invariant-loop-j
 invariant-loop-j l =
-    (l.j ≤ l.count) × ((p : ℕ → Bool) → take (count_at l.index l.k) l.flags ≡ each p (element_numbers l.s l.index l.k)
-    → ((e : ℕ) → e ∈ els_in l.s l.l → e ∈ element_numbers l.s l.index l.k) → all p (els_in l.s l.l) ≡ all_from p (els_in l.s l.l) l.j)
-
-abbrev pub decreases-loop-j : goal.decreases-loop-j
-decreases-loop-j l = l.count - l.j
+    (p : ℕ → Bool) → take (count_at l.index l.k) l.flags ≡ each p (element_numbers l.s l.index l.k)
+    → ((e : ℕ) → e ∈ els_in l.s l.l → e ∈ element_numbers l.s l.index l.k) → all p (els_in l.s l.l) ≡ all_from p (els_in l.s l.l) l.j

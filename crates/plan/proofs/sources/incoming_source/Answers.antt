@@ -1,7 +1,6 @@
 use Rattle.plan.proofs.SourceLaws.{source_here, source_behind, source_none}
 use Rattle.plan.proofs.Scanning.{asking, asked_end, answered, passed, maps_from, values_bad, values_inside, values_long}
 use mathlib.Core.Path.{◌∙◌, sym}
-use native.Mathlib.Omega.{arith}
 use Rattle.plan.proofs.sources.incoming_source.Goals as goal
 
 pub loop-at-init : goal.loop-at-init
@@ -14,25 +13,22 @@ returns-in_default c =
 
 pub target_at-requires : goal.target_at-requires
 target_at-requires c =
-    let g = sym c.read_field-f.ensures.value ∙ c.in-Got.is in
+    let g = sym c.read_field-f.ensures.value ∙ c.in-Some.is in
     (values_inside c.loop-at.invariant.values c.loop-at-test.true g, values_long c.loop-at.invariant.values c.loop-at-test.true g)
 
 pub source_at-requires : goal.source_at-requires
 source_at-requires c =
-    let g = sym c.read_field-f.ensures.value ∙ c.in-Got.is in
+    let g = sym c.read_field-f.ensures.value ∙ c.in-Some.is in
     (values_inside c.loop-at.invariant.values c.loop-at-test.true g, values_long c.loop-at.invariant.values c.loop-at-test.true g)
 
 pub returns-then-target_at-target : goal.returns-then-target_at-target
 returns-then-target_at-target c =
-    sym (answered c.loop-at.invariant c.loop-at-test.true (sym c.read_field-f.ensures.value ∙ c.in-Got.is)
+    sym (answered c.loop-at.invariant c.loop-at-test.true (sym c.read_field-f.ensures.value ∙ c.in-Some.is)
     (source_here _ _ (c.target_at.ensures.by_index _) (c.source_at.ensures.by_index _) c.if-target_at-target.true))
-
-pub loop-at-smaller : goal.loop-at-smaller
-loop-at-smaller c = let a = rw c.in-Got.is at c.read_field-f.ensures.ahead in omega arith
 
 pub loop-at-preserved : goal.loop-at-preserved
 loop-at-preserved c =
-    passed c.loop-at.invariant c.loop-at-test.true (sym c.read_field-f.ensures.value ∙ c.in-Got.is)
+    passed c.loop-at.invariant c.loop-at-test.true (sym c.read_field-f.ensures.value ∙ c.in-Some.is)
     (source_behind _ _ (c.target_at.ensures.by_index _) c.if-target_at-target.false)
 
 pub returns : goal.returns

@@ -3,7 +3,6 @@ use Rattle.plan.proofs.Scanning.{asking, asked_end, answered, passed, auxiliarie
 use Rattle.definition.specs.Walk.{unmapped_auxiliary}
 use Rattle.definition.specs.Base.{any}
 use mathlib.Core.Path.{◌∙◌, sym}
-use native.Mathlib.Omega.{arith}
 use Rattle.plan.proofs.sources.unmapped_auxiliary.Goals as goal
 
 pub loop-at-init : goal.loop-at-init
@@ -16,24 +15,19 @@ returns-in_default c =
 
 pub structure_at-requires : goal.structure_at-requires
 structure_at-requires c =
-    let g = sym c.read_field-f.ensures.value ∙ c.in-Got.is in
+    let g = sym c.read_field-f.ensures.value ∙ c.in-Some.is in
     (values_inside c.loop-at.invariant.values c.loop-at-test.true g, values_long c.loop-at.invariant.values c.loop-at-test.true g)
 
-pub returns-in_default-source : goal.returns-in_default-source
+pub returns-then-is_none : goal.returns-then-is_none
 unfolding unmapped_auxiliary
-returns-in_default-source c =
-    sym (answered c.loop-at.invariant c.loop-at-test.true (sym c.read_field-f.ensures.value ∙ c.in-Got.is)
-    (unmapped_here _ _ (c.structure_at.ensures _) c.incoming_source-source.ensures c.in_default-source.is))
-
-pub loop-at-smaller : goal.loop-at-smaller
-loop-at-smaller c =
-    let a = rw c.in-Got.is at
-    c.read_field-f.ensures.ahead in omega arith
+returns-then-is_none c =
+    sym (answered c.loop-at.invariant c.loop-at-test.true (sym c.read_field-f.ensures.value ∙ c.in-Some.is)
+    (unmapped_here _ _ _ (c.structure_at.ensures _) c.incoming_source.ensures c.if-is_none.ensures))
 
 pub loop-at-preserved : goal.loop-at-preserved
 loop-at-preserved c =
-    passed c.loop-at.invariant c.loop-at-test.true (sym c.read_field-f.ensures.value ∙ c.in-Got.is)
-    (unmapped_behind _ _ (c.structure_at.ensures _) c.incoming_source-source.ensures c.in-At.is)
+    passed c.loop-at.invariant c.loop-at-test.true (sym c.read_field-f.ensures.value ∙ c.in-Some.is)
+    (unmapped_behind _ _ _ (c.structure_at.ensures _) c.incoming_source.ensures c.if-is_none.ensures)
 
 pub returns : goal.returns
 unfolding unmapped_auxiliary any

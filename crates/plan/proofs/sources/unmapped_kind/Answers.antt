@@ -19,29 +19,26 @@ returns-in_default c =
 
 pub source_at-requires : goal.source_at-requires
 source_at-requires c =
-    let v = c.loop-at.invariant.values in let g = sym c.read_field-f.ensures.value ∙ c.in-Got.is in
+    let v = c.loop-at.invariant.values in let g = sym c.read_field-f.ensures.value ∙ c.in-Some.is in
     let l = values_long v c.loop-at-test.true g in (values_inside v c.loop-at-test.true g, omega arith)
 
 pub target_at-requires : goal.target_at-requires
 target_at-requires c =
-    let v = c.loop-at.invariant.values in let g = sym c.read_field-f.ensures.value ∙ c.in-Got.is in
+    let v = c.loop-at.invariant.values in let g = sym c.read_field-f.ensures.value ∙ c.in-Some.is in
     let l = values_long v c.loop-at-test.true g in (values_inside v c.loop-at-test.true g, omega arith)
 
 pub returns-in_default-map : goal.returns-in_default-map
 unfolding unmapped_kind
 returns-in_default-map c =
-    sym (answered c.loop-at.invariant c.loop-at-test.true (sym c.read_field-f.ensures.value ∙ c.in-Got.is)
+    sym (answered c.loop-at.invariant c.loop-at-test.true (sym c.read_field-f.ensures.value ∙ c.in-Some.is)
     (no_map_here _ _ (c.source_at.ensures.by_index_2 _) (c.target_at.ensures.by_index_2 _)
     c.find_map-map.ensures c.in_default-map.is))
 
-pub loop-at-smaller : goal.loop-at-smaller
-loop-at-smaller c = let a = rw c.in-Got.is at c.read_field-f.ensures.ahead in omega arith
-
 pub loop-at-preserved : goal.loop-at-preserved
 loop-at-preserved c =
-    passed c.loop-at.invariant c.loop-at-test.true (sym c.read_field-f.ensures.value ∙ c.in-Got.is)
+    passed c.loop-at.invariant c.loop-at-test.true (sym c.read_field-f.ensures.value ∙ c.in-Some.is)
     (no_map_behind _ _ (c.source_at.ensures.by_index_2 _) (c.target_at.ensures.by_index_2 _)
-    c.find_map-map.ensures c.in-At.is)
+    c.find_map-map.ensures c.in-Some.is)
 
 pub returns : goal.returns
 unfolding unmapped_kind any

@@ -2,10 +2,10 @@
 -- (`Completing`). An X adds the kind of its class, at its structure and that structure's lowest source (`complete_next`); with none left
 -- `done` is complete (`complete_end`). Each X can be read, so the early return is never reached (`values_bad`).
 use Rattle.plan.proofs.Storing.{complete_start, complete_end, complete_named, complete_next}
+use Rattle.plan.proofs.SourceLaws.{lowest_is}
 use Rattle.rule.proofs.SoundParts.{lowest_below}
 use Rattle.plan.proofs.Scanning.{auxiliaries_from, values_bad, values_inside, values_long}
 use mathlib.Core.Path.{◌∙◌, sym}
-use native.Mathlib.Omega.{arith}
 use Rattle.plan.proofs.table.complete.Goals as goal
 
 pub loop-at-init : goal.loop-at-init
@@ -18,30 +18,25 @@ returns-in_default c =
 
 pub structure_at-target-requires : goal.structure_at-target-requires
 structure_at-target-requires c =
-    let g = sym c.read_field-f.ensures.value ∙ c.in-Got.is in
+    let g = sym c.read_field-f.ensures.value ∙ c.in-Some.is in
     (values_inside c.loop-at.invariant.values c.loop-at-test.true g, values_long c.loop-at.invariant.values c.loop-at-test.true g)
 
 pub class_at-requires : goal.class_at-requires
 class_at-requires c =
-    let g = sym c.read_field-f.ensures.value ∙ c.in-Got.is in
+    let g = sym c.read_field-f.ensures.value ∙ c.in-Some.is in
     (values_inside c.loop-at.invariant.values c.loop-at-test.true g, values_long c.loop-at.invariant.values c.loop-at-test.true g)
 
 pub add-requires : goal.add-requires
 add-requires c = (
-  lowest_below c.requires.ready _ c.lowest_source-source.ensures,
-  complete_named c.loop-at.invariant c.loop-at-test.true (sym c.read_field-f.ensures.value ∙ c.in-Got.is)
+  lowest_below c.requires.ready _ (lowest_is _ c.incoming_source.ensures c.unwrap_or-source.ensures),
+  complete_named c.loop-at.invariant c.loop-at-test.true (sym c.read_field-f.ensures.value ∙ c.in-Some.is)
       (c.structure_at-target.ensures _),
 )
 
-pub loop-at-smaller : goal.loop-at-smaller
-loop-at-smaller c =
-    let a = rw c.in-Got.is at
-    c.read_field-f.ensures.ahead in omega arith
-
 pub loop-at-preserved : goal.loop-at-preserved
 loop-at-preserved c =
-    complete_next c.loop-at.invariant c.loop-at-test.true (sym c.read_field-f.ensures.value ∙ c.in-Got.is)
-    (c.structure_at-target.ensures _) c.lowest_source-source.ensures (c.class_at.ensures _)
+    complete_next c.loop-at.invariant c.loop-at-test.true (sym c.read_field-f.ensures.value ∙ c.in-Some.is)
+    (c.structure_at-target.ensures _) (lowest_is _ c.incoming_source.ensures c.unwrap_or-source.ensures) (c.class_at.ensures _)
     c.auxiliary_kind.ensures c.add.ensures
 
 pub returns : goal.returns

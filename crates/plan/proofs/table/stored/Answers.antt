@@ -18,30 +18,27 @@ returns-in_default c =
 
 pub kind_at-requires : goal.kind_at-requires
 kind_at-requires c =
-    let g = sym c.read_field-f.ensures.value ∙ c.in-Got.is in
+    let g = sym c.read_field-f.ensures.value ∙ c.in-Some.is in
     (values_inside c.loop-at.invariant.values c.loop-at-test.true g, values_long c.loop-at.invariant.values c.loop-at-test.true g)
 
 pub source_at-requires : goal.source_at-requires
 source_at-requires c =
-    let v = c.loop-at.invariant.values in let g = sym c.read_field-f.ensures.value ∙ c.in-Got.is in
+    let v = c.loop-at.invariant.values in let g = sym c.read_field-f.ensures.value ∙ c.in-Some.is in
     let l = values_long v c.loop-at-test.true g in (values_inside v c.loop-at-test.true g, omega arith)
 
 pub target_at-requires : goal.target_at-requires
 target_at-requires c =
-    let v = c.loop-at.invariant.values in let g = sym c.read_field-f.ensures.value ∙ c.in-Got.is in
+    let v = c.loop-at.invariant.values in let g = sym c.read_field-f.ensures.value ∙ c.in-Some.is in
     let l = values_long v c.loop-at-test.true g in (values_inside v c.loop-at-test.true g, omega arith)
 
 pub add-requires : goal.add-requires
 add-requires c =
-    store_named c.loop-at.invariant c.loop-at-test.true (sym c.read_field-f.ensures.value ∙ c.in-Got.is)
+    store_named c.loop-at.invariant c.loop-at-test.true (sym c.read_field-f.ensures.value ∙ c.in-Some.is)
     (c.source_at.ensures.by_index_2 _) (c.target_at.ensures.by_index_2 _)
-
-pub loop-at-smaller : goal.loop-at-smaller
-loop-at-smaller c = let a = rw c.in-Got.is at c.read_field-f.ensures.ahead in omega arith
 
 pub loop-at-preserved : goal.loop-at-preserved
 loop-at-preserved c =
-    store_next c.loop-at.invariant c.loop-at-test.true (sym c.read_field-f.ensures.value ∙ c.in-Got.is)
+    store_next c.loop-at.invariant c.loop-at-test.true (sym c.read_field-f.ensures.value ∙ c.in-Some.is)
     (c.source_at.ensures.by_index_2 _) (c.target_at.ensures.by_index_2 _)
     (c.kind_number-kind.ensures ∙ ap some (c.kind_at.ensures _)) c.add.ensures
 

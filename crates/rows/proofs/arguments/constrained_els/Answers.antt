@@ -1,25 +1,6 @@
 use mathlib.Core.List.{[]}
-use borrow.Author.Rules.{rules}
 use Rattle.rows.proofs.ArgumentLaws.{marks_none, constrained_say}
 use Rattle.rows.proofs.arguments.constrained_els.Goals as goal
-
-pub mark_rows-requires : goal.mark_rows-requires
-mark_rows-requires c =
-    let e = c.section_of-preds.ensures in record {
-      indexed = c.requires.indexed;
-      k_lt_structure_limit = (c.requires.k_lt_structure_limit, search rules);
-      elements = c.requires.elements;
-      rows_known = rw (e.0, e.1) c.requires.rows_known;
-    }
-
-pub mark_rows-requires-2 : goal.mark_rows-requires-2
-mark_rows-requires-2 c =
-    let e = c.section_of-funcs.ensures in record {
-      indexed = c.requires.indexed;
-      k_lt_structure_limit = (c.requires.k_lt_structure_limit, c.mark_rows.ensures.flags_len);
-      elements = c.requires.elements;
-      rows_known = rw (e.0, e.1) c.requires.rows_known_2;
-    }
 
 pub returns : goal.returns
 returns c =

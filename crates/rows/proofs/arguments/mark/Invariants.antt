@@ -1,4 +1,4 @@
-use Prim.Native.Nat.{ℕ, ◌-◌, ◌≤◌}
+use Prim.Native.Nat.{ℕ}
 use mathlib.Core.Path.{◌≡◌}
 use mathlib.Core.List.{List, ◌++◌}
 use lib.ListN.{length, take}
@@ -10,9 +10,6 @@ use Rattle.rows.proofs.arguments.mark.Given as goal
 
 abbrev pub invariant-loop-j : goal.invariant-loop-j
 invariant-loop-j l =
-    (length l.flags ≡ places) × (l.j ≤ l.l.count)
+    (length l.flags ≡ places)
     × ((seen : List ℕ) → Marks l.initial.flags (element_numbers l.s l.index l.k) seen
     → Marks l.flags (element_numbers l.s l.index l.k) (seen ++ take l.j (els_in l.s l.l)))
-
-abbrev pub decreases-loop-j : goal.decreases-loop-j
-decreases-loop-j l = l.l.count - l.j

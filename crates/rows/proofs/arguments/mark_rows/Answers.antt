@@ -1,5 +1,4 @@
 -- The loop along a section: after each row its arguments are marked with those of the rows before it.
-use native.Mathlib.Omega.{arith}
 use mathlib.Core.Path.{◌∙◌, ap}
 use lib.ListN.{length}
 use Rattle.signature.specs.Index.{signature_at}
@@ -9,32 +8,6 @@ use Rattle.rows.proofs.arguments.mark_rows.Goals as goal
 
 pub loop-at-init : goal.loop-at-init
 loop-at-init c = (c.requires.k_lt_structure_limit.1, λ fs r. along_start r, λ seen fs r m. marking_start r m)
-
-pub returns : goal.returns
-returns c =
-    record {
-      by_index = λ seen fs r m. marking_end (c.loop-at.invariant.2 seen fs r m) c.loop-at-test.false;
-      flags_len = c.loop-at.invariant.0;
-    }
-
-pub row_parents-parents-requires : goal.row_parents-parents-requires
-row_parents-parents-requires c =
-    let k = c.requires.rows_known in
-    let h = known_here k (c.loop-at.invariant.1 _ k.rows.run) c.loop-at-test.true c.read_row-row.ensures in record {
-      indexed = c.requires.indexed;
-      declared = c.symbol_of.ensures.declared c.args.counts h.named;
-    }
-
-pub mark-requires : goal.mark-requires
-mark-requires c =
-    record {
-      k_lt_structure_limit = (c.requires.k_lt_structure_limit.0, c.loop-at.invariant.0);
-      els_inside = c.behind.ensures.els_inside_2.0;
-      elements = c.requires.elements;
-    }
-
-pub loop-at-smaller : goal.loop-at-smaller
-loop-at-smaller c = omega (arith, c.read_row-row.ensures.ahead)
 
 pub loop-at-preserved : goal.loop-at-preserved
 loop-at-preserved c =
@@ -52,10 +25,17 @@ read_row-row-requires c =
     let k = c.requires.rows_known.rows in
     row_stands k (c.loop-at.invariant.1 _ k.run).passed c.loop-at-test.true
 
-pub behind-requires : goal.behind-requires
-behind-requires c =
-    let k = c.requires.rows_known in let q = c.read_row-row.ensures in
-    let h = known_here k (c.loop-at.invariant.1 _ k.rows.run) c.loop-at-test.true q in record {
-      els_inside = q.inside;
-      n_le_count = rw (c.row_parents-parents.ensures, c.symbol_of.ensures.result_value) h.parents;
-    }
+pub row_parents-parents-requires-clause-declared : goal.row_parents-parents-requires-clause-declared
+row_parents-parents-requires-clause-declared c =
+    let k = c.requires.rows_known in
+    let h = known_here k (c.loop-at.invariant.1 _ k.rows.run) c.loop-at-test.true c.read_row-row.ensures in
+    c.symbol_of.ensures.declared c.args.counts h.named
+
+pub behind-requires-clause-n_le_count : goal.behind-requires-clause-n_le_count
+behind-requires-clause-n_le_count c =
+    let k = c.requires.rows_known in
+    let h = known_here k (c.loop-at.invariant.1 _ k.rows.run) c.loop-at-test.true c.read_row-row.ensures in
+    rw (c.row_parents-parents.ensures, c.symbol_of.ensures.result_value) h.parents
+
+pub returns-clause-by_index : goal.returns-clause-by_index
+returns-clause-by_index c = λ seen fs r m. marking_end (c.loop-at.invariant.2 seen fs r m) c.loop-at-test.false

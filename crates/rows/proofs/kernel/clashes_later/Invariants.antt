@@ -1,4 +1,4 @@
-use Prim.Native.Nat.{ℕ, ◌+◌, ◌-◌}
+use Prim.Native.Nat.{ℕ, ◌+◌}
 use mathlib.Core.Path.{◌≡◌}
 use Rattle.definition.specs.Rule.{Pair}
 use Rattle.rows.specs.Kernel.{KeyTypes}
@@ -8,6 +8,3 @@ use Rattle.rows.proofs.kernel.clashes_later.Given as goal
 abbrev pub invariant-loop-q : goal.invariant-loop-q
 invariant-loop-q l =
     (type : Pair → ℕ) → KeyTypes l.s l.m l.vars l.types type → later_from type l.s l.m l.p (l.p + 1) ≡ later_from type l.s l.m l.p l.q
-
-abbrev pub decreases-loop-q : goal.decreases-loop-q
-decreases-loop-q l = l.m.pairs - l.q

@@ -1,9 +1,5 @@
-use Prim.Native.Nat.{◌-◌}
 use Rattle.rows.proofs.Ascending.{Climbs}
 use Rattle.rows.proofs.kernel.images_ascend.Given as goal
 
 abbrev pub invariant-loop-p : goal.invariant-loop-p
 invariant-loop-p l = Climbs l.s l.m l.last.0 l.p
-
-abbrev pub decreases-loop-p : goal.decreases-loop-p
-decreases-loop-p l = l.m.pairs - l.p

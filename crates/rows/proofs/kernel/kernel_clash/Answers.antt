@@ -1,17 +1,6 @@
-use mathlib.Core.Path.{refl, sym, ◌∙◌}
+use mathlib.Core.Path.{sym, ◌∙◌}
 use Rattle.rows.proofs.KernelLaws.{keys_on, keys_end, later_all, types_of, clash_is}
 use Rattle.rows.proofs.kernel.kernel_clash.Goals as goal
-
-pub loop-p-init : goal.loop-p-init
-loop-p-init c = λ type f. refl
-
-pub clashes_later-requires : goal.clashes_later-requires
-clashes_later-requires c =
-    record {
-      map_in = c.requires.map_in;
-      p_lt_pairs = c.loop-p-test.true;
-      typed = c.requires.typed;
-    }
 
 pub returns-then-clashes_later : goal.returns-then-clashes_later
 returns-then-clashes_later c =

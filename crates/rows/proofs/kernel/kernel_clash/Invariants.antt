@@ -1,4 +1,4 @@
-use Prim.Native.Nat.{ℕ, ◌-◌}
+use Prim.Native.Nat.{ℕ}
 use mathlib.Core.Path.{◌≡◌}
 use Rattle.definition.specs.Rule.{Pair}
 use Rattle.rows.specs.Kernel.{KeyTypes}
@@ -7,6 +7,3 @@ use Rattle.rows.proofs.kernel.kernel_clash.Given as goal
 
 abbrev pub invariant-loop-p : goal.invariant-loop-p
 invariant-loop-p l = (type : Pair → ℕ) → KeyTypes l.s l.m l.vars l.types type → keys_from type l.s l.m 0 ≡ keys_from type l.s l.m l.p
-
-abbrev pub decreases-loop-p : goal.decreases-loop-p
-decreases-loop-p l = l.m.pairs - l.p

@@ -1,4 +1,3 @@
-use Prim.Native.Nat.{◌-◌, ◌≤◌}
 use mathlib.Core.Path.{◌≡◌}
 use lib.ListN.{length}
 use Rattle.definition.specs.Limits.{field_limit}
@@ -11,8 +10,5 @@ use Rattle.rows.proofs.kernel.key_vars.Given as goal
 
 abbrev pub invariant-loop-p : goal.invariant-loop-p
 invariant-loop-p l =
-    (length l.vars ≡ field_limit) × (l.p ≤ l.m.pairs)
+    (length l.vars ≡ field_limit)
     × ((source : Side) → SideAt (element_numbers l.s l.index l.k) l.row source → KeysDone source (pairs_in l.s l.m) l.vars l.p)
-
-abbrev pub decreases-loop-p : goal.decreases-loop-p
-decreases-loop-p l = l.m.pairs - l.p

@@ -1,4 +1,3 @@
-use Prim.Native.Nat.{◌-◌, ◌≤◌}
 use mathlib.Core.Path.{◌≡◌}
 use lib.ListN.{length}
 use Rattle.flags.specs.Flags.{places}
@@ -8,7 +7,4 @@ use Rattle.rows.proofs.kernel.merged_els.Given as goal
 
 abbrev pub invariant-loop-p : goal.invariant-loop-p
 invariant-loop-p l =
-    (length l.seen ≡ places) × (length l.merged ≡ places) × (l.p ≤ l.m.pairs) × Several l.s l.m (element_numbers l.s l.index l.target) l.seen l.merged l.p
-
-abbrev pub decreases-loop-p : goal.decreases-loop-p
-decreases-loop-p l = l.m.pairs - l.p
+    (length l.seen ≡ places) × (length l.merged ≡ places) × Several l.s l.m (element_numbers l.s l.index l.target) l.seen l.merged l.p

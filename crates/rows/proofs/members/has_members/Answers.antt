@@ -1,30 +1,16 @@
-use mathlib.Core.Path.{refl, sym, ◌∙◌}
+use mathlib.Core.Path.{sym, ◌∙◌}
 use Rattle.rows.proofs.MemberLaws.{some_here, some_later, some_end}
 use Rattle.rows.proofs.members.has_members.Goals as goal
 
-pub loop-i-init : goal.loop-i-init
-loop-i-init c = (c.element_count-count.ensures, refl)
-
-pub read_element-e-requires : goal.read_element-e-requires
-read_element-e-requires c =
-    record {
-      k_lt_structure_limit = (c.requires.k_lt_structure_limit, rw (← c.loop-i.invariant.0) c.loop-i-test.true);
-      elements_at = c.requires.elements_at;
-    }
-
-pub returns-then-e-ne0 : goal.returns-then-e-ne0
-returns-then-e-ne0 c =
-    sym (c.loop-i.invariant.1
-    ∙ some_here c.read_element-e.ensures.within _ _ _ c.read_element-e.ensures.result_value
-    (rw (← c.loop-i.invariant.0) c.loop-i-test.true) c.if-e-ne0.true)
+pub returns-then-read_element-ne0 : goal.returns-then-read_element-ne0
+returns-then-read_element-ne0 c =
+    let e = c.read_element.ensures in
+    sym (c.loop-i.invariant ∙ some_here e.within _ _ _ e.result_value (rw c.element_count-i-end.ensures at c.loop-i-test.true) c.if-read_element-ne0.true)
 
 pub loop-i-preserved : goal.loop-i-preserved
-loop-i-preserved c = (
-  c.loop-i.invariant.0,
-  c.loop-i.invariant.1
-      ∙ some_later c.read_element-e.ensures.within _ _ _ c.read_element-e.ensures.result_value
-      (rw (← c.loop-i.invariant.0) c.loop-i-test.true) c.if-e-ne0.false,
-)
+loop-i-preserved c =
+    let e = c.read_element.ensures in
+    c.loop-i.invariant ∙ some_later e.within _ _ _ e.result_value (rw c.element_count-i-end.ensures at c.loop-i-test.true) c.if-read_element-ne0.false
 
 pub returns : goal.returns
-returns c = sym (c.loop-i.invariant.1 ∙ some_end _ _ _ _ c.loop-i.invariant.0 c.loop-i-test.false)
+returns c = sym (c.loop-i.invariant ∙ some_end _ _ _ _ c.element_count-i-end.ensures c.loop-i-test.false)

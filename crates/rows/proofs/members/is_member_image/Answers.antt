@@ -1,6 +1,6 @@
 use Rattle.definition.specs.Rows.{member_row}
 use Rattle.rows.proofs.TableLaws.{search_start, search_other, search_differs, search_hit, search_end}
-use Rattle.rows.proofs.members.is_member_image.Goals.{else-symbols-i, then-symbols-i+else-same_member}
+use Rattle.rows.proofs.members.is_member_image.Goals.{else-symbols-i-via-else-symbols-i, else-symbols-i-via-then-symbols-i+else-same_member}
 use Rattle.rows.proofs.members.is_member_image.Goals as goal
 
 pub loop-i-init : goal.loop-i-init
@@ -16,11 +16,12 @@ returns-then-same_member c =
 pub loop-i-preserved : goal.loop-i-preserved
 unfolding member_row
 loop-i-preserved c =
-    let loop_test_said = c.loop-i-test.true in
-    λ columns qs h n a d. elim c.if-symbols-i.branch [
-      | then-symbols-i+else-same_member w ↦ search_differs (c.loop-i.invariant columns qs h n a d) loop_test_said w.if-symbols-i.true d
-          w.same_member.ensures w.if-same_member.false
-      | else-symbols-i w ↦ search_other (c.loop-i.invariant columns qs h n a d) loop_test_said w.if-symbols-i.false
+    λ columns qs h n a d.
+    let t = c.loop-i.invariant columns qs h n a d in
+    let l = c.loop-i-test.true in
+    elim c.else-symbols-i.branch [
+      | else-symbols-i-via-then-symbols-i+else-same_member w ↦ search_differs t l w.if-symbols-i.true d w.same_member.ensures w.if-same_member.false
+      | else-symbols-i-via-else-symbols-i w ↦ search_other t l w.if-symbols-i.false
     ]
 
 pub returns : goal.returns

@@ -1,4 +1,4 @@
-use Prim.Native.Nat.{ℕ, ◌+◌, ◌-◌}
+use Prim.Native.Nat.{ℕ, ◌+◌}
 use mathlib.Core.List.{List}
 use mathlib.Core.Path.{◌≡◌}
 use lib.ListN.{length}
@@ -15,6 +15,3 @@ abbrev pub invariant-loop-i : goal.invariant-loop-i
 invariant-loop-i l =
     (columns : ℕ → ℕ) (qs : List Row) → Held l.symbols l.els 0 qs → l.images ≡ length qs → Alike member columns qs → l.e.parents + 1 ≡ columns l.e.ty.0
     → Searching columns (member_row (element_from l.s l.e)) qs l.symbols l.els l.i l.images
-
-abbrev pub decreases-loop-i : goal.decreases-loop-i
-decreases-loop-i l = l.images - l.i

@@ -1,8 +1,7 @@
-use Prim.Native.Nat.{◌-◌}
+use Prim.Native.Nat.{◌≤◌}
 use mathlib.Core.Path.{◌≡◌}
 use lib.ListN.{length}
 use Rattle.definition.specs.Limits.{field_limit}
-use Rattle.rule.specs.Elements.{count_at}
 use Rattle.rows.specs.Table.{table_size}
 use Rattle.rule.specs.MapFields.{pairs_in}
 use Rattle.rows.proofs.MemberLaws.{Filling}
@@ -10,8 +9,5 @@ use Rattle.rows.proofs.members.mapped_members.Given as goal
 
 abbrev pub invariant-loop-i : goal.invariant-loop-i
 invariant-loop-i l =
-    (length l.symbols ≡ field_limit) × (length l.els ≡ table_size) × (l.count ≡ count_at l.index l.k)
+    (length l.symbols ≡ field_limit) × (length l.els ≡ table_size) × (l.n ≤ l.i)
     × Filling (pairs_in l.s l.m) l.s l.index l.k l.i l.n l.symbols l.els
-
-abbrev pub decreases-loop-i : goal.decreases-loop-i
-decreases-loop-i l = l.count - l.i

@@ -1,20 +1,13 @@
-use native.Mathlib.Omega.{arith}
-use mathlib.Core.Path.{sym, ◌∙◌}
 use borrow.Author.Rules.{rules}
+use borrow.Author.Tests.{ne_eqb}
+use mathlib.Core.Path.{sym, ◌∙◌}
 use Rattle.rows.proofs.MemberLaws.{last_differs, last_same}
 use Rattle.rows.proofs.members.same_member.Goals as goal
 
 pub returns-then-els-at : goal.returns-then-els-at
-returns-then-els-at c = sym (last_differs c.requires.within _ _ (search rules) c.if-els-at.true)
+returns-then-els-at c =
+    rw (c.parents_of.ensures.by_index _, c.parents_of.ensures.count_value) at c.same_elements.ensures
+    ∙ sym (last_same c.requires.within _ _ (search rules) c.if-els-at.true)
 
-pub same_elements-requires : goal.same_elements-requires
-same_elements-requires c =
-    let w = c.requires.within in record {
-      els_inside = c.parents_of.ensures.by_index_2 _ w;
-      count_bound = (omega (arith, c.parents_of.ensures.count_value, w.few), c.requires.column_limit_bound.1);
-    }
-
-pub returns : goal.returns
-returns c =
-    let w = c.requires.within in
-    rw (c.parents_of.ensures.by_index _, c.parents_of.ensures.count_value) at c.same_elements.ensures ∙ sym (last_same w _ _ (search rules) c.if-els-at.false)
+pub returns-else-els-at : goal.returns-else-els-at
+returns-else-els-at c = ne_eqb _ _ c.if-els-at.false ∙ sym (last_differs c.requires.within _ _ (search rules) c.if-els-at.false)

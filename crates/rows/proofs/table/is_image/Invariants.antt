@@ -1,4 +1,4 @@
-use Prim.Native.Nat.{ℕ, ◌-◌}
+use Prim.Native.Nat.{ℕ}
 use mathlib.Core.List.{List}
 use mathlib.Core.Path.{◌≡◌}
 use lib.ListN.{length}
@@ -12,6 +12,3 @@ abbrev pub invariant-loop-i : goal.invariant-loop-i
 invariant-loop-i l =
     (kind : ℕ) (columns : ℕ → ℕ) (qs : List Row) → Held l.symbols l.els 0 qs → l.images ≡ length qs → Alike kind columns qs
     → l.row.els.count ≡ columns l.row.symbol → Searching columns (row_from l.s kind l.row) qs l.symbols l.els l.i l.images
-
-abbrev pub decreases-loop-i : goal.decreases-loop-i
-decreases-loop-i l = l.images - l.i

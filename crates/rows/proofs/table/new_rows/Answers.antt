@@ -1,49 +1,30 @@
 -- The loop along a section: the first i flags tell which rows are new, and no flag stands above them.
 use Prim.Native.Nat.{◌<◌}
-use native.Mathlib.Omega.{arith}
 use mathlib.Core.Bool.{not}
 use mathlib.Core.Path.{sym, ◌∙◌, ap}
 use Rattle.laws.proofs.Lists.{length_each}
 use Rattle.flags.specs.Flags.{places}
-use Rattle.flags.proofs.Words.{above_none, above_set, above_clear, flags_start, flags_set, flags_clear}
-use Rattle.rows.proofs.Turns.{new_at, row_columns, flags_end, alike_images}
-use Rattle.rule.proofs.RowFields.{passed_start}
+use Rattle.flags.proofs.Words.{above_set, above_clear, flags_set, flags_clear}
+use Rattle.rows.proofs.Turns.{row_fits, new_at, row_columns, flags_end, alike_images}
 use Rattle.rule.proofs.RowReading.{row_stands, next_row}
-use borrow.Author.Rules.{rules}
 use Rattle.rows.proofs.table.new_rows.Goals.{else-not-is_image, then-not-is_image}
 use Rattle.rows.proofs.table.new_rows.Goals as goal
 
-pub loop-at-init : goal.loop-at-init
-loop-at-init c = (above_none 0, λ fs r. passed_start r, λ kind columns pairs sources fs h r a. record { flags = flags_start _ })
-
 pub read_row-row-requires : goal.read_row-row-requires
-read_row-row-requires c = let p = c.requires.rows_from in row_stands p (c.loop-at.invariant.1 _ p.run) c.loop-at-test.true
+read_row-row-requires c = let w = c.requires.rows_from in row_stands w (c.loop-at.invariant.1 _ w.run) c.loop-at-test.true
 
 pub with_flag-mask-requires : goal.with_flag-mask-requires
-with_flag-mask-requires c = (
-  (let few : c.loop-at.i < places = let p = c.requires.rows_from in
-      let n = next_row (c.loop-at.invariant.1 _ p.run) c.loop-at-test.true c.read_row-row.ensures in
-      omega (arith, n.inside, p.few) in few),
-  c.loop-at.invariant.0,
-)
-
-pub overflow_add-i : goal.overflow_add-i
-overflow_add-i c =
-    let h : c.loop-at.i < places = let p = c.requires.rows_from in
-    let n = next_row (c.loop-at.invariant.1 _ p.run) c.loop-at-test.true c.read_row-row.ensures in
-    omega (arith, n.inside, p.few) in search rules
-
-pub loop-at-smaller : goal.loop-at-smaller
-loop-at-smaller c = let q = c.read_row-row.ensures in omega (arith, q.ahead)
+with_flag-mask-requires c =
+    let w = c.requires.rows_from in
+    (row_fits w (c.loop-at.invariant.1 _ w.run) c.loop-at-test.true c.read_row-row.ensures, c.loop-at.invariant.0)
 
 pub loop-at-preserved : goal.loop-at-preserved
 loop-at-preserved c =
-    let l : c.loop-at.i < places = let p = c.requires.rows_from in
-    let n = next_row (c.loop-at.invariant.1 _ p.run) c.loop-at-test.true c.read_row-row.ensures in
-    omega (arith, n.inside, p.few) in
+    let w = c.requires.rows_from in
     let q = c.read_row-row.ensures in
     let g = c.loop-at-test.true in
-    let v = c.loop-at.invariant in (
+    let v = c.loop-at.invariant in
+    let l : c.loop-at.i < places = row_fits w (v.1 _ w.run) g q in (
       elim c.if-not-is_image.branch [
         | then-not-is_image w ↦ rw (w.mask-is, w.with_flag-mask.ensures) (above_set _ _ l v.0)
         | else-not-is_image w ↦ rw w.mask-is (above_clear _ _ l v.0)

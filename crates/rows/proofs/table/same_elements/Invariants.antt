@@ -1,4 +1,3 @@
-use Prim.Native.Nat.{◌-◌}
 use mathlib.Core.Path.{◌≡◌}
 use lib.ListN.{drop}
 use Rattle.definition.specs.Base.{same_list}
@@ -9,6 +8,3 @@ use Rattle.rows.proofs.table.same_elements.Given as goal
 abbrev pub invariant-loop-j : goal.invariant-loop-j
 invariant-loop-j l =
     same_list (els_in l.s l.l) (stretch l.els l.at l.l.count) ≡ same_list (drop l.j (els_in l.s l.l)) (drop l.j (stretch l.els l.at l.l.count))
-
-abbrev pub decreases-loop-j : goal.decreases-loop-j
-decreases-loop-j l = l.l.count - l.j

@@ -4,13 +4,10 @@ use Rattle.records.specs.Places.{stretch}
 use Rattle.definition.specs.Records.{numbers}
 use Rattle.definition.specs.Base.{has}
 use mathlib.Core.Path.{◌≡◌}
-use Prim.Native.Nat.{ℕ, ◌-◌, ◌/◌}
+use Prim.Native.Nat.{ℕ}
 use Rattle.rule.proofs.elements.elements_named.Given as goal
 
 abbrev pub invariant-loop-i : goal.invariant-loop-i
 invariant-loop-i l =
-    (l.count ≡ l.len / 2) × (all_from (λ (e : ℕ). has e (element_numbers l.s l.index l.k)) (numbers (stretch l.s l.start l.len)) 0
-    ≡ all_from (λ (e : ℕ). has e (element_numbers l.s l.index l.k)) (numbers (stretch l.s l.start l.len)) l.i)
-
-abbrev pub decreases-loop-i : goal.decreases-loop-i
-decreases-loop-i l = l.count - l.i
+    all_from (λ (e : ℕ). has e (element_numbers l.s l.index l.k)) (numbers (stretch l.s l.start l.len)) 0
+    ≡ all_from (λ (e : ℕ). has e (element_numbers l.s l.index l.k)) (numbers (stretch l.s l.start l.len)) l.i

@@ -2,18 +2,8 @@
 -- (`pairs_no`); a pair of elements leaves it to those behind it (`pairs_on`); none left is true (`pairs_end`).
 use Rattle.rule.proofs.PairLaws.{pairs_start, pairs_no, pairs_on, pairs_end}
 use Rattle.rule.specs.Faults.{pair_named}
-use mathlib.Core.Path.{refl, sym, ◌∙◌}
+use mathlib.Core.Path.{sym, ◌∙◌}
 use Rattle.rule.proofs.faults.pairs_named.Goals as goal
-
-pub loop-i-init : goal.loop-i-init
-loop-i-init c = refl
-
-pub has_element-requires : goal.has_element-requires
-has_element-requires c =
-    record {
-      k_lt_structure_limit = c.requires.source_lt_structure_limit.0;
-      elements = c.requires.elements;
-    }
 
 pub returns-then-not-has_element : goal.returns-then-not-has_element
 unfolding pair_named
@@ -22,20 +12,12 @@ returns-then-not-has_element c =
     ∙ pairs_no _ _ _ c.requires.source_lt_structure_limit.2 _ _ c.loop-i-test.true
     (rw (rw c.num.ensures at (sym c.has_element.ensures ∙ c.if-not-has_element.true))))
 
-pub has_element-requires-in-loop-i : goal.has_element-requires-in-loop-i
-has_element-requires-in-loop-i c =
-    record {
-      k_lt_structure_limit = c.requires.source_lt_structure_limit.1;
-      elements = c.requires.elements_2;
-    }
-
 pub returns-then-not-has_element-2 : goal.returns-then-not-has_element-2
 unfolding pair_named
 returns-then-not-has_element-2 c =
     sym (pairs_start _ _ _ _ ∙ c.loop-i.invariant ∙ pairs_no _ _ _ c.requires.source_lt_structure_limit.2 _ _ c.loop-i-test.true
     (rw (
-      rw c.num.ensures at
-          (sym c.has_element.ensures ∙ c.if-not-has_element.false),
+      rw c.num.ensures at (sym c.has_element.ensures ∙ c.if-not-has_element.false),
       rw c.num-in-loop-i.ensures at (sym c.has_element-in-loop-i.ensures ∙ c.if-not-has_element-2.true),
     )))
 
@@ -44,8 +26,7 @@ unfolding pair_named
 loop-i-preserved c =
     c.loop-i.invariant ∙ pairs_on _ _ _ c.requires.source_lt_structure_limit.2 _ _ c.loop-i-test.true
     (rw (
-      rw c.num.ensures at
-          (sym c.has_element.ensures ∙ c.if-not-has_element.false),
+      rw c.num.ensures at (sym c.has_element.ensures ∙ c.if-not-has_element.false),
       rw c.num-in-loop-i.ensures at (sym c.has_element-in-loop-i.ensures ∙ c.if-not-has_element-2.false),
     ))
 

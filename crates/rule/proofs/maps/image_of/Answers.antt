@@ -1,41 +1,18 @@
-use native.Mathlib.Omega.{arith}
 use mathlib.Core.Option.{some}
-use mathlib.Core.Path.{sym, ◌∙◌, ap}
-use Rattle.rule.proofs.MapLaws.{between_all, between_up, between_down, found, not_found}
+use mathlib.Core.Path.{ap, ◌∙◌}
+use borrow.Author.Rules.{rules}
+use Rattle.rule.proofs.MapLaws.{keys_are, found, not_found}
 use Rattle.rule.proofs.maps.image_of.Goals as goal
 
-pub returns-then-x-e : goal.returns-then-x-e
-returns-then-x-e c =
-    ap some c.pair_image.ensures
-    ∙ found c.requires _ _ c.if-guess-m.true (sym c.pair_key-x.ensures ∙ c.if-x-e.true)
+pub returns-in_err-p : goal.returns-in_err-p
+returns-in_err-p c =
+    rw c.from_residual.ensures
+    (not_found c.requires (rw c.in_err-p.was at (c.search.ensures _ (keys_are c.requires (λ i x h p. search rules)))))
 
-pub loop-low-init : goal.loop-low-init
-loop-low-init c = between_all _ _ _
-
-pub pair_key-x-requires-in-loop-low : goal.pair_key-x-requires-in-loop-low
-pair_key-x-requires-in-loop-low c =
-    record {
-      map_in = c.requires;
-      p_lt_pairs = omega (arith, c.loop-low.invariant.within);
-    }
-
-pub pair_image-requires-then-x-e-2 : goal.pair_image-requires-then-x-e-2
-pair_image-requires-then-x-e-2 c =
-    record {
-      map_in = c.requires;
-      p_lt_pairs = omega (arith, c.loop-low.invariant.within);
-    }
-
-pub returns-then-x-e-2 : goal.returns-then-x-e-2
-returns-then-x-e-2 c =
-    ap some c.pair_image-then-x-e-2.ensures
-    ∙ found c.requires _ _ (omega (arith, c.loop-low.invariant.within)) (sym c.pair_key-x-in-loop-low.ensures ∙ c.if-x-e-2.true)
-
-pub loop-low-preserved-then-x-e-3 : goal.loop-low-preserved-then-x-e-3
-loop-low-preserved-then-x-e-3 c = between_up c.requires c.loop-low.invariant _ (omega arith) (rw c.pair_key-x-in-loop-low.ensures at c.if-x-e-3.true)
-
-pub loop-low-preserved : goal.loop-low-preserved
-loop-low-preserved c = between_down c.requires c.loop-low.invariant _ (omega arith) (rw (← c.pair_key-x-in-loop-low.ensures) (omega arith))
+pub pair_image-requires-clause-p_lt_pairs : goal.pair_image-requires-clause-p_lt_pairs
+pair_image-requires-clause-p_lt_pairs c = (rw c.in_ok-p.was at (c.search.ensures _ (keys_are c.requires (λ i x h p. search rules)))).is.0
 
 pub returns : goal.returns
-returns c = not_found c.requires c.loop-low.invariant c.loop-low-test.false
+returns c =
+    ap some c.pair_image.ensures
+    ∙ found c.requires (rw c.in_ok-p.was at (c.search.ensures _ (keys_are c.requires (λ i x h p. search rules))))

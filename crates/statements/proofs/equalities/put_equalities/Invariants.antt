@@ -1,4 +1,3 @@
-use Prim.Native.Nat.{◌-◌, ◌≤◌}
 use lib.ListN.{drop}
 use Rattle.definition.specs.Kinds.{variable_in}
 use Rattle.definition.specs.Names.{numbers_of}
@@ -10,10 +9,6 @@ use Rattle.statements.proofs.equalities.put_equalities.Given as goal
 
 abbrev pub invariant-loop-j : goal.invariant-loop-j
 invariant-loop-j l =
-    (l.j ≤ l.count)
-    × Writing l.initial.out l.out l.from l.at (over_bytes l.letter (variable_in (side_in l.s l.m.source l.row)) (pairs_by l.s l.m) l.types
+    Writing l.initial.out l.out l.from l.at (over_bytes l.letter (variable_in (side_in l.s l.m.source l.row)) (pairs_by l.s l.m) l.types
     (numbers_of (target_in l.s l.m)))
     (over_bytes l.letter (variable_in (side_in l.s l.m.source l.row)) (pairs_by l.s l.m) l.types (drop l.j (numbers_of (target_in l.s l.m))))
-
-abbrev pub decreases-loop-j : goal.decreases-loop-j
-decreases-loop-j l = l.count - l.j

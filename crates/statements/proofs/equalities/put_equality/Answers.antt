@@ -3,4 +3,4 @@ use Rattle.statements.proofs.equalities.put_equality.Goals as goal
 
 pub returns : goal.returns
 unfolding equality_of
-returns c = rw (c.short-symbol.ensures.0, c.place.ensures.0) at c.put_statement.ensures
+returns c = rw (c.from-2.ensures, c.from.ensures) at c.put_statement.ensures

@@ -1,4 +1,4 @@
-use Prim.Native.Nat.{ℕ, ◌-◌, ◌≤◌}
+use Prim.Native.Nat.{ℕ, ◌≤◌}
 use mathlib.Core.List.{List}
 use Rattle.records.specs.Buffer.{count_limit}
 use Rattle.rule.specs.Structures.{structure_in}
@@ -7,10 +7,7 @@ use Rattle.statements.proofs.lengths.elements_length.Given as goal
 
 abbrev pub invariant-loop-i : goal.invariant-loop-i
 invariant-loop-i l =
-    (l.i ≤ l.n) × (l.at ≤ count_limit)
+    (l.at ≤ count_limit)
     × ((letter : ℕ) (row : List ℕ)
     → Counting l.from l.at (elements_size letter (structure_in l.s l.k) row l.members l.free 0)
     (elements_size letter (structure_in l.s l.k) row l.members l.free l.i))
-
-abbrev pub decreases-loop-i : goal.decreases-loop-i
-decreases-loop-i l = l.n - l.i

@@ -6,17 +6,10 @@ use borrow.Author.Rules.{rules}
 use native.Mathlib.Omega.{arith}
 use Rattle.statements.proofs.members.put_element.Goals as goal
 
-pub vars_of-vars-requires : goal.vars_of-vars-requires
-vars_of-vars-requires c =
-    record {
-      laid = c.requires.stands.at.laid;
-      els_inside = (
-        c.parents_of-parents.ensures.by_index_2 _ c.read_element-e.ensures.within,
-        omega (arith, c.parents_of-parents.ensures.count_value, c.read_element-e.ensures.within.few),
-      );
-      named_in = parents_named c.requires.stands c.requires.from_le_count_limit.1 c.read_element-e.ensures.result_value
-          c.read_element-e.ensures.within (c.parents_of-parents.ensures.by_index _);
-    }
+pub vars_of-vars-requires-clause-named_in : goal.vars_of-vars-requires-clause-named_in
+vars_of-vars-requires-clause-named_in c =
+    parents_named c.requires.stands c.requires.from_le_count_limit.1 c.read_element-e.ensures.result_value
+    c.read_element-e.ensures.within (c.parents_of-parents.ensures.by_index _)
 
 pub returns : goal.returns
 returns c =

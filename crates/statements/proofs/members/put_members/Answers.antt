@@ -1,74 +1,38 @@
--- `order` has the places of the member rows in their order (`Ordered`); of the flagged rows' bytes those from the n-th row on are left
+-- `order` has the places of the member rows in their order; of the flagged rows' bytes those from some row on are left
 -- (`Writing`, `members_from`). A row with its flag is put (`members_on`), one without is passed (`members_pass`); behind the last nothing is
 -- left (`members_end`). Where no flag is set nothing is to be said (`members_none`).
 use Rattle.statements.proofs.Unsaid.{unsaid, members_none}
-use Rattle.statements.proofs.Elements.{members_on, members_pass, members_end, members_all, order_below, order_few}
+use Rattle.statements.proofs.Elements.{members_on, members_pass, members_end, members_from, order_below, order_few}
 use Rattle.records.proofs.Tail.{begin, wrote, passed, finish}
-use mathlib.Core.Path.{sym, ◌∙◌}
+use mathlib.Core.Path.{sym}
 use borrow.Author.Rules.{rules}
-use native.Mathlib.Omega.{arith}
 use Rattle.statements.proofs.members.put_members.Goals.{else-flag, then-flag}
 use Rattle.statements.proofs.members.put_members.Goals as goal
 
 pub returns-then-none_set : goal.returns-then-none_set
-returns-then-none_set c = unsaid _ _ (members_none _ _ _ (sym c.none_set.ensures ∙ c.if-none_set.true)) (search rules)
+returns-then-none_set c = unsaid _ _ (members_none _ _ _ (sym c.if-none_set.ensures)) c.requires.from_le_count_limit
 
-pub sorted_members-m-requires : goal.sorted_members-m-requires
-sorted_members-m-requires c =
-    record {
-      k_lt_structure_limit = c.requires.stands.at.laid.few;
-      elements_at = c.requires.stands.at.laid.elements;
-    }
-
-pub loop-n-init : goal.loop-n-init
-loop-n-init c = (
-  record {
-    long = search rules;
-    few = c.sorted_members-m.ensures.count_le_field_limit.0;
-    sorted = c.sorted_members-m.ensures.order_value;
-    below =
-        c.sorted_members-m.ensures.count_le_field_limit.1;
-  },
-  search rules,
-  begin _ _ (search rules),
-)
-
-pub bounds-order-n : goal.bounds-order-n
-bounds-order-n c = let o = c.loop-n.invariant.0 in omega (arith, o.few, c.loop-n-test.true)
+pub loop-place-init : goal.loop-place-init
+loop-place-init c = begin _ _ c.requires.from_le_count_limit
 
 pub flag-requires : goal.flag-requires
-flag-requires c = rw c.wide-i.ensures.0 (order_few c.requires.stands c.loop-n.invariant.0 _ c.loop-n-test.true)
+flag-requires c = order_few c.requires.stands c.sorted_members-members.ensures.count_le_field_limit.1 c.loop-place-test.true c.from-i.ensures
 
-pub put_element-at-requires : goal.put_element-at-requires
-put_element-at-requires c =
-    let o = c.loop-n.invariant.0 in record {
-      from_le_count_limit = (search rules, rw c.wide-i.ensures.0 (order_below c.requires.stands o _ c.loop-n-test.true));
-      stands = c.requires.stands;
-    }
+pub put_element-at-requires-clause-from_le_count_limit : goal.put_element-at-requires-clause-from_le_count_limit
+put_element-at-requires-clause-from_le_count_limit c =
+    (search rules, order_below c.requires.stands c.sorted_members-members.ensures.count_le_field_limit.1 c.loop-place-test.true c.from-i.ensures)
 
-pub loop-n-preserved : goal.loop-n-preserved
-loop-n-preserved c =
-    let inv = c.loop-n.invariant in
+pub loop-place-preserved : goal.loop-place-preserved
+loop-place-preserved c =
+    let w = c.requires.stands in let o = c.sorted_members-members.ensures in let l = c.loop-place-test.true in let q = c.from-i.ensures in
     elim c.if-flag.branch [
-      | then-flag w ↦ (
-        inv.0,
-        search rules,
-        rw (w.out-is, w.at-is) (wrote inv.2
-            (rw c.wide-i.ensures.0 (members_on c.requires.stands _ _ _ inv.0 _ c.loop-n-test.true
-            (rw c.wide-i.ensures.0 at (sym c.flag.ensures ∙ w.if-flag.true)))) w.put_element-at.ensures),
-      )
-      | else-flag w ↦ (
-        inv.0,
-        search rules,
-        rw (w.out-is, w.at-is) (passed inv.2 (members_pass c.requires.stands _ _ _ inv.0 _ c.loop-n-test.true
-            (rw c.wide-i.ensures.0 at (sym c.flag.ensures ∙ w.if-flag.false)))),
-      )
+      | then-flag x ↦ rw (x.out-is, x.at-is) (wrote c.loop-place.invariant
+          (members_on w _ _ _ _ o.order_value o.count_le_field_limit.1 l q (sym x.if-flag.ensures)) x.put_element-at.ensures)
+      | else-flag x ↦ rw (x.out-is, x.at-is) (passed c.loop-place.invariant
+          (members_pass w _ _ _ _ o.order_value o.count_le_field_limit.1 l q (sym x.if-flag.ensures)))
     ]
 
-pub shape_of-out : goal.shape_of-out
-shape_of-out c = c.loop-n.invariant.2.put.long
-
 pub returns : goal.returns
+unfolding members_from
 returns c =
-    rw (← (members_all _ _ _ _))
-    (finish c.loop-n.invariant.2 (members_end c.requires.stands _ _ _ c.loop-n.invariant.0 _ c.loop-n-test.false))
+    finish c.loop-place.invariant (members_end c.requires.stands _ _ _ _ c.sorted_members-members.ensures.order_value c.loop-place-test.false)

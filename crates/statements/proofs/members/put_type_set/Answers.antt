@@ -10,5 +10,5 @@ returns-then-e-ne0 c =
 pub returns : goal.returns
 returns c =
     rw (type_said c.requires.stands c.requires.from_le_count_limit.1 c.read_element-e.ensures.result_value c.read_element-e.ensures.within _ _
-    c.if-e-ne0.false) (lent c.rest_at-rest.ensures c.write_type_set-len.ensures c.past.ensures
+    c.if-e-ne0.false) (lent c.min-rest.ensures c.write_type_set-len.ensures c.past.ensures
     c.requires.from_le_count_limit.0)

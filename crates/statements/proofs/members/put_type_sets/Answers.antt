@@ -1,43 +1,24 @@
 use Rattle.statements.proofs.Unsaid.{unsaid, types_none}
-use Rattle.statements.proofs.Elements.{types_on, types_pass, types_end, types_all, few_places}
+use Rattle.statements.proofs.Elements.{types_on, types_pass, types_end, types_from}
 use Rattle.records.proofs.Tail.{begin, wrote, passed, finish}
-use mathlib.Core.Path.{sym, ◌∙◌}
-use borrow.Author.Rules.{rules}
+use mathlib.Core.Path.{sym}
 use Rattle.statements.proofs.members.put_type_sets.Goals.{else-flag, then-flag}
 use Rattle.statements.proofs.members.put_type_sets.Goals as goal
 
 pub returns-then-none_set : goal.returns-then-none_set
-returns-then-none_set c = unsaid _ _ (types_none _ _ _ (sym c.none_set.ensures ∙ c.if-none_set.true) _) (search rules)
+returns-then-none_set c = unsaid _ _ (types_none _ _ _ (sym c.if-none_set.ensures) _) c.requires.from_le_count_limit
 
 pub loop-i-init : goal.loop-i-init
-loop-i-init c = (search rules, begin _ _ (search rules))
-
-pub flag-requires : goal.flag-requires
-flag-requires c = few_places c.requires.stands c.element_count-count.ensures c.loop-i-test.true
+loop-i-init c = begin _ _ c.requires.from_le_count_limit
 
 pub loop-i-preserved : goal.loop-i-preserved
 loop-i-preserved c =
+    let w = c.requires.stands in let n = c.element_count-i-end.ensures in let l = c.loop-i-test.true in
     elim c.if-flag.branch [
-      | then-flag w ↦ (
-        search rules,
-        rw (w.out-is, w.at-is) (wrote c.loop-i.invariant.1
-            (types_on c.requires.stands _ _ _
-            c.element_count-count.ensures c.loop-i-test.true (sym c.flag.ensures ∙ w.if-flag.true))
-            w.put_type_set-at.ensures),
-      )
-      | else-flag w ↦ (
-        search rules,
-        rw (w.out-is, w.at-is)
-            (passed c.loop-i.invariant.1
-            (types_pass c.requires.stands _ _ _
-            c.element_count-count.ensures c.loop-i-test.true (sym c.flag.ensures ∙ w.if-flag.false))),
-      )
+      | then-flag x ↦ rw (x.out-is, x.at-is) (wrote c.loop-i.invariant (types_on w _ _ _ n l (sym x.if-flag.ensures)) x.put_type_set-at.ensures)
+      | else-flag x ↦ rw (x.out-is, x.at-is) (passed c.loop-i.invariant (types_pass w _ _ _ n l (sym x.if-flag.ensures)))
     ]
 
-pub shape_of-out : goal.shape_of-out
-shape_of-out c = c.loop-i.invariant.1.put.long
-
 pub returns : goal.returns
-returns c =
-    rw (← (types_all _ _ _ _))
-    (finish c.loop-i.invariant.1 (types_end c.requires.stands _ _ _ c.element_count-count.ensures c.loop-i-test.false))
+unfolding types_from
+returns c = finish c.loop-i.invariant (types_end c.requires.stands _ _ _ c.element_count-i-end.ensures c.loop-i-test.false)

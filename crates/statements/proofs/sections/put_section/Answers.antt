@@ -1,18 +1,13 @@
 -- The loop stands at a row of the section (Rowing) and has written the rows before it (Writing); a row that is read is written or passed,
 -- and the next stands behind it.
-use Prim.Native.Nat.{◌≤◌}
-use mathlib.Core.Path.{sym, ◌∙◌}
-use Rattle.definition.specs.Limits.{column_limit}
+use Rattle.statements.specs.Parts.{chosen_statements}
+use mathlib.Core.Path.{sym}
 use Rattle.records.proofs.Tail.{begin, wrote, passed, finish}
-use Rattle.statements.proofs.Rows.{rowing, row_here, row_few, row_wide, row_named, row_next, rows_on, rows_pass, rows_end, rows_all}
+use Rattle.statements.proofs.Rows.{rowing, row_here, row_few, row_wide, row_named, row_next, rows_on, rows_pass, rows_end, rows_from}
 use borrow.Author.Rules.{rules}
 use native.Mathlib.Omega.{arith}
 use Rattle.statements.proofs.sections.put_section.Goals.{else-flag, then-flag}
 use Rattle.statements.proofs.sections.put_section.Goals as goal
-
-pub section_of-section-requires : goal.section_of-section-requires
-section_of-section-requires c =
-    (c.requires.stands.at.laid.few, omega (arith, c.requires.from_le_count_limit.1.least), omega (arith, c.requires.from_le_count_limit.1.most))
 
 pub loop-field-init : goal.loop-field-init
 loop-field-init c = (
@@ -26,30 +21,12 @@ read_row-r-requires c = row_here c.loop-field.invariant.0 c.loop-field-test.true
 pub flag-requires : goal.flag-requires
 flag-requires c = let few = row_few c.loop-field.invariant.0 c.loop-field-test.true c.read_row-r.ensures in omega arith
 
-pub overflow_sub-els : goal.overflow_sub-els
-overflow_sub-els c = row_wide c.loop-field.invariant.0 c.loop-field-test.true c.read_row-r.ensures
+pub overflow_sub-r : goal.overflow_sub-r
+overflow_sub-r c = row_wide c.loop-field.invariant.0 c.loop-field-test.true c.read_row-r.ensures
 
-pub first-said-requires : goal.first-said-requires
-first-said-requires c =
-    record {
-      els_inside = c.read_row-r.ensures.inside;
-      n_le_count = omega arith;
-    }
-
-pub put_row-at-requires : goal.put_row-at-requires
-put_row-at-requires c =
-    let r = c.loop-field.invariant.0 in let h = c.loop-field-test.true in let q = c.read_row-r.ensures in
-    let few : c.first-said.result.count ≤ column_limit = omega (arith, c.first-said.ensures.els_inside_2.1, q.few) in record {
-      from_le_count_limit = (search rules, c.first-said.ensures.els_inside_2.0, few);
-      laid = c.requires.stands.at.laid;
-      named_in = row_named r h q c.first-said.ensures.result_value;
-    }
-
-pub overflow_add-i : goal.overflow_add-i
-overflow_add-i c = let few = row_few c.loop-field.invariant.0 c.loop-field-test.true c.read_row-r.ensures in omega arith
-
-pub loop-field-smaller : goal.loop-field-smaller
-loop-field-smaller c = let a = c.read_row-r.ensures.ahead in omega arith
+pub put_row-at-requires-clause-named_in : goal.put_row-at-requires-clause-named_in
+put_row-at-requires-clause-named_in c =
+    row_named c.loop-field.invariant.0 c.loop-field-test.true c.read_row-r.ensures c.first-said.ensures.result_value
 
 pub loop-field-preserved : goal.loop-field-preserved
 loop-field-preserved c =
@@ -58,13 +35,11 @@ loop-field-preserved c =
       row_next r h q,
       elim c.if-flag.branch [
         | then-flag w ↦ rw (w.out-is, w.at-is) (wrote done
-            (rows_on r h q _ _ _ (sym c.flag.ensures ∙ w.if-flag.true) w.first-said.ensures.result_value) w.put_row-at.ensures)
-        | else-flag w ↦ rw (w.out-is, w.at-is) (passed done (rows_pass r h q _ _ _ (sym c.flag.ensures ∙ w.if-flag.false)))
+            (rows_on r h q _ _ _ (sym w.if-flag.ensures) w.first-said.ensures.result_value) w.put_row-at.ensures)
+        | else-flag w ↦ rw (w.out-is, w.at-is) (passed done (rows_pass r h q _ _ _ (sym w.if-flag.ensures)))
       ],
     )
 
-pub shape_of-out : goal.shape_of-out
-shape_of-out c = c.loop-field.invariant.1.put.long
-
 pub returns : goal.returns
-returns c = rw (← (rows_all _ _ _ _)) (finish c.loop-field.invariant.1 (rows_end c.loop-field.invariant.0 c.loop-field-test.false _ _ _))
+unfolding rows_from chosen_statements
+returns c = finish c.loop-field.invariant.1 (rows_end c.loop-field.invariant.0 c.loop-field-test.false _ _ c.args.chosen)

@@ -1,31 +1,17 @@
--- The loop has the variables of the first i elements (Filling); each element is one of the structure's, so it is found.
-use Rattle.rule.proofs.ElementLaws.{found_few}
-use Rattle.group.proofs.Values.{filling, fill_next, filled}
-use Rattle.statements.proofs.Variables.{named_at, variable_found, els_said, els_said_at}
-use borrow.Author.Rules.{rules}
-use native.Mathlib.Omega.{arith}
+-- The loop has the variables of the first i elements (Filling).
+use Rattle.rule.proofs.ListLaws.{el_mem}
+use Rattle.group.proofs.Values.{fill_next, filled}
+use Rattle.statements.proofs.Variables.{els_said, els_said_at}
 use Rattle.statements.proofs.sections.vars_of.Goals as goal
 
-pub loop-i-init : goal.loop-i-init
-loop-i-init c = (search rules, filling _ (search rules))
-
-pub returns-in_default : goal.returns-in_default
-returns-in_default c =
-    let f = rw c.in_default.is at c.find_element-f.ensures in
-    named_at c.requires.laid c.requires.els_inside.0 c.loop-i-test.true c.el_at.ensures c.requires.named_in f
-
-pub offset_bounds-row-j : goal.offset_bounds-row-j
-offset_bounds-row-j c = let f = found_few c.requires.laid.elements.elements (rw c.in-At.is at c.find_element-f.ensures) in omega arith
-
-pub bounds-row-j : goal.bounds-row-j
-bounds-row-j c = found_few c.requires.laid.elements.elements (rw c.in-At.is at c.find_element-f.ensures)
+pub var_of-requires-clause-named : goal.var_of-requires-clause-named
+var_of-requires-clause-named c = c.requires.named_in.named _ (el_mem c.requires.els_inside.0 _ c.loop-i-test.true c.el_at.ensures)
 
 pub loop-i-preserved : goal.loop-i-preserved
 loop-i-preserved c =
-    let f = rw c.in-At.is at c.find_element-f.ensures in
-    let l = c.loop-i-test.true in
-    let v = els_said_at c.requires.els_inside.0 _ _ l c.el_at.ensures (variable_found c.requires.laid _ f) in
-    (search rules, fill_next (els_said c.requires.els_inside.0 _) c.loop-i.invariant.1 c.requires.els_inside.1 l v)
+    let w = c.requires.els_inside.0 in
+    fill_next (els_said w _) c.loop-i.invariant c.requires.els_inside.1 c.loop-i-test.true
+    (els_said_at w _ _ c.loop-i-test.true c.el_at.ensures c.var_of.ensures)
 
 pub returns : goal.returns
-returns c = filled (els_said c.requires.els_inside.0 _) c.loop-i.invariant.1 c.loop-i.invariant.0 c.loop-i-test.false
+returns c = filled (els_said c.requires.els_inside.0 _) c.loop-i.invariant c.loop-i.auto.i-end c.loop-i-test.false

@@ -1,4 +1,3 @@
-use Prim.Native.Nat.{◌-◌, ◌≤◌}
 use Rattle.rule.specs.Lists.{els_in}
 use Rattle.rule.specs.Structures.{structure_in}
 use Rattle.definition.specs.Base.{each}
@@ -7,7 +6,4 @@ use Rattle.statements.specs.Parts.{variable_by}
 use Rattle.statements.proofs.sections.vars_of.Given as goal
 
 abbrev pub invariant-loop-i : goal.invariant-loop-i
-invariant-loop-i l = (l.i ≤ l.els.count) × Filling (each (variable_by (structure_in l.s l.k) l.row) (els_in l.s l.els)) l.vars l.i
-
-abbrev pub decreases-loop-i : goal.decreases-loop-i
-decreases-loop-i l = l.els.count - l.i
+invariant-loop-i l = Filling (each (variable_by (structure_in l.s l.k) l.row) (els_in l.s l.els)) l.vars l.i

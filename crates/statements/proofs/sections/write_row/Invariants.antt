@@ -1,4 +1,3 @@
-use Prim.Native.Nat.{◌-◌, ◌≤◌}
 use Rattle.definition.specs.Base.{each}
 use Rattle.records.proofs.Tail.{Writing}
 use Rattle.rule.specs.Lists.{els_in}
@@ -10,7 +9,4 @@ use Rattle.statements.proofs.sections.write_row.Given as goal
 abbrev pub invariant-loop-i : goal.invariant-loop-i
 invariant-loop-i l =
     let vs = each (variable_by (structure_in l.s l.k) l.row) (els_in l.s l.els) in
-    (l.i ≤ l.els.count) × Writing l.initial.out l.out l.initial.at l.at (vars_from vs 0) (vars_from vs l.i)
-
-abbrev pub decreases-loop-i : goal.decreases-loop-i
-decreases-loop-i l = l.els.count - l.i
+    Writing l.initial.out l.out l.initial.at l.at (vars_from vs 0) (vars_from vs l.i)

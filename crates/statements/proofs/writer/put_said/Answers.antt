@@ -1,10 +1,6 @@
 use Rattle.records.proofs.Tail.{then}
 use Rattle.statements.proofs.Whole.{said_parts}
-use Rattle.statements.proofs.Counting.{beyond}
 use Rattle.statements.proofs.writer.put_said.Goals as goal
-
-pub returns-then-out-from : goal.returns-then-out-from
-returns-then-out-from c = beyond _ (c.said_length.ensures.by_index _ _) c.if-out-from.true c.requires.from_le_count_limit
 
 pub returns : goal.returns
 returns c = rw (said_parts _ _ _ _) (then c.put_flat_rel_apps-behind_apps.ensures c.put_type_sets.ensures)

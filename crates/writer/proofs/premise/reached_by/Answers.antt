@@ -6,4 +6,4 @@ pub returns-then-t-eq0 : goal.returns-then-t-eq0
 returns-then-t-eq0 c = reached_first refl c.if-t-eq0.true
 
 pub returns : goal.returns
-returns c = reached_later c.if-t-eq0.false c.place-source.ensures.0 refl
+returns c = reached_later c.if-t-eq0.false c.from.ensures refl

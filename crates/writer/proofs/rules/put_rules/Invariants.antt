@@ -1,10 +1,6 @@
 use Rattle.writer.proofs.Ruling.{Ruling}
 use Rattle.walk.specs.Tables.{tables}
-use Prim.Native.Nat.{◌≤◌, ◌-◌}
 use Rattle.writer.proofs.rules.put_rules.Given as goal
 
 abbrev pub invariant-loop-t : goal.invariant-loop-t
-invariant-loop-t l = (l.t ≤ l.n) × Ruling l.initial.out l.out l.s l.index l.types l.kinds (tables l.sources l.masks l.vars) l.from l.at l.k l.t
-
-abbrev pub decreases-loop-t : goal.decreases-loop-t
-decreases-loop-t l = l.n - l.t
+invariant-loop-t l = Ruling l.initial.out l.out l.s l.index l.types l.kinds (tables l.sources l.masks l.vars) l.from l.at l.k l.t
