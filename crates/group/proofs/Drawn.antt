@@ -16,7 +16,6 @@ use Rattle.definition.specs.Letters.{letter_b, member, func_domain}
 use Rattle.definition.specs.Records.{Field, numbers, bad_name}
 use Rattle.definition.specs.Signature.{Signature, arity, symbol_count, type_parents, named}
 use Rattle.definition.specs.Group.{premise_kinds, conclusion_kinds, variable_of, statement_of, variable_fault, statement_fault, bad_columns}
-use Rattle.signature.proofs.ByKind.{counted}
 use Rattle.records.specs.Places.{two_at, stretch, field_of}
 use Rattle.laws.proofs.Numbers.{drop_numbers}
 use Rattle.group.specs.Sections.{kinds_of}
@@ -176,4 +175,4 @@ module _ (letter : ℕ) where
 pub ruleset variable_tests = (variable_short, variable_many, variable_untyped, variable_unnamed, variable_sound)
 
 pub ruleset statement_tests =
-    (statement_even, statement_short, statement_kind, statement_symbol, statement_unnamed, statement_arity, statement_sound, known_kind, counted)
+    (statement_even, statement_short, statement_kind, statement_symbol, statement_unnamed, statement_arity, statement_sound, known_kind)

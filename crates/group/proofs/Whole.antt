@@ -13,17 +13,14 @@ use Rattle.definition.specs.Base.{refused, accepted, when, or_else, any, has, ke
 use Rattle.definition.specs.Letters.{letter_g, letter_w, letter_u, start}
 use Rattle.definition.specs.Limits.{group_bytes}
 use Rattle.definition.specs.Records.{Field, Fields, end, bad, ◌▸◌, follows, placed, in_front, fields_of, with_letter, blocks, fault_from, fault_among}
-use Rattle.definition.specs.Records.{read_part, numbers}
+use Rattle.definition.specs.Records.{read_part}
 use Rattle.definition.specs.Signature.{Signature}
 use Rattle.definition.specs.Group.{group_grammar, group_part, group_fault, group_of, read_group, title_fault, variable_fault, flat_rules_fault, variable_of}
 use Rattle.definition.specs.Scope.{conclusion_at}
-use Rattle.laws.proofs.Lists.{length_each}
 use Rattle.records.specs.Places.{Run, Parted}
 use Rattle.records.specs.Held.{field_in, held_at}
-use Rattle.records.proofs.Index.{held_same, held_get, length_held}
+use Rattle.records.proofs.Index.{held_same, held_get}
 use Rattle.records.proofs.Lists.{keep_append}
-use Rattle.signature.specs.Index.{types_from, signature_at}
-use Rattle.signature.specs.declared.ids.Counts.{Counts}
 use Rattle.records.proofs.Runs.{run_end}
 use Rattle.group.specs.Sections.{leading, trailing, Ordered, AtRule}
 use Rattle.group.specs.Index.{variables_from, Indexed}
@@ -39,12 +36,6 @@ use Rattle.group.proofs.Ordered.{placed_ordered}
 use Rattle.group.proofs.Shape.{at_title, after_variables, no_title, no_variables}
 use Rattle.group.proofs.Leading.{split, with_first, with_skip, with_same, with_other, blocks_skip, blocks_leading}
 use Rattle.group.proofs.Listing.{type_named}
-
--- A signature has as many types as its index counts.
-pub types_count : (s index : List ℕ) (counts : Counts) → length (signature_at s index counts).types ≡ counts.types
-unfolding signature_at
-types_count s index counts = length_each (λ (f : Field). numbers f.content) (held_at s index types_from counts.types)
-    ∙ length_held s index types_from counts.types
 
 -- 1 comes before all fields.
 pub read_long : (sig : Signature) (s : List ℕ) → group_bytes < length s → refused 1 ≡ read_group sig s

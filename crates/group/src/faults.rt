@@ -4,12 +4,12 @@ ghost use Rattle.std.proofs.Math.Option.{Option};
 ghost use Rattle.definition.specs.Base.{has};
 ghost use Rattle.definition.specs.Records.{Field};
 ghost use Rattle.definition.specs.Letters.{member};
-ghost use Rattle.definition.specs.Signature.{Signature};
+ghost use Rattle.definition.specs.Signature.{Signature, symbol_count};
 ghost use Rattle.definition.specs.Group.{title_fault, variable_fault, flat_rule_fault, statement_fault};
 ghost use Rattle.records.specs.Places.{field_of};
 ghost use Rattle.records.specs.Refusals.{fault_of};
 ghost use Rattle.signature.specs.Index.{signature_at, Indexed};
-ghost use Rattle.signature.specs.Relations.{kind_of, number_of, count_of};
+ghost use Rattle.signature.specs.Relations.{kind_of, number_of};
 ghost use Rattle.group.specs.Sections.{kinds_of};
 ghost use Rattle.group.specs.Answers.{columns_differ};
 
@@ -18,10 +18,8 @@ use records::fields::{num, two};
 use records::names::bad_name;
 use records::order::named;
 use records::refusal::Refusal;
-use signature::ids::{
-    Counts, EQUALITY, FUNC_DOMAIN, FUNCTION, INDEX, MEMBER, PREDICATE, Relation, TYPE_SET,
-};
-use signature::lookup::{arity, declared, relation};
+use signature::ids::{EQUALITY, FUNC_DOMAIN, FUNCTION, MEMBER, PREDICATE, Relation, TYPE_SET};
+use signature::lookup::{Signature, relation};
 
 // A G field: its name.
 #[tactic(auto, unfolding(definition::specs::Group::title_fault, definition::specs::Base::lowest))]
@@ -92,37 +90,26 @@ fn may_state(letter: u8, kind: u8) -> bool
 
 // Does the number of columns differ from the arity? A member of a parentless type has one column, and is no relation.
 #[tactic(auto, using(crate::proofs::Drawn::one_column))]
-fn bad_columns(
-    sig: &[u8],
-    symbols: &[u16; INDEX],
-    counts: Counts,
-    rel: Relation,
-    columns: usize,
-) -> bool
-    requires indexed { Indexed sig.now symbols.now counts }
-    requires rel_bound { number_of rel < count_of counts rel }
-    ensures { result ≡ columns_differ (signature_at sig.now symbols.now counts) (kind_of rel) (number_of rel) columns }
+fn bad_columns(sig: &Signature<'_>, rel: Relation, columns: usize) -> bool
+    requires rel_bound { number_of rel < symbol_count sig.now (kind_of rel) }
+    ensures { result ≡ columns_differ sig.now (kind_of rel) (number_of rel) columns }
 {
-    columns != arity(sig, symbols, counts, rel)
-        || (matches!(rel, Relation::Member(_)) && columns == 1)
+    columns != sig.arity(rel) || (matches!(rel, Relation::Member(_)) && columns == 1)
 }
 
 // A B or H field: a byte for the kind, the symbol, the variables.
 #[tactic(auto, using(crate::proofs::Drawn::statement_tests))]
 pub fn statement_fault(
-    sig: &[u8],
-    symbols: &[u16; INDEX],
-    counts: Counts,
+    sig: &Signature<'_>,
     s: &[u8],
     letter: u8,
     start: usize,
     len: usize,
     variables: usize,
 ) -> Result<(), Refusal>
-    requires indexed { Indexed sig.now symbols.now counts }
     requires len_in_bounds { start + len ≤ length s.now }
     ensures { (before : ℕ) (last : Option Field) → fault_of result
-        ≡ statement_fault (signature_at sig.now symbols.now counts)
+        ≡ statement_fault sig.now
         (kinds_of letter) variables before last (field_of s.now letter start len) }
 {
     if (len & 1) != 1 || len < VARS_AT {
@@ -133,10 +120,10 @@ pub fn statement_fault(
         return Err(Refusal::Undeclared);
     }
     let rel = relation(kind, num(s, start + 1));
-    if !declared(counts, rel) || !named(s, start + VARS_AT, len - VARS_AT, variables) {
+    if !sig.declares(rel) || !named(s, start + VARS_AT, len - VARS_AT, variables) {
         return Err(Refusal::Undeclared);
     }
-    if bad_columns(sig, symbols, counts, rel, (len - VARS_AT) >> 1) {
+    if bad_columns(sig, rel, (len - VARS_AT) >> 1) {
         return Err(Refusal::BadArity);
     }
     Ok(())

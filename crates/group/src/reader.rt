@@ -31,7 +31,8 @@ use crate::ids::{
 };
 use records::fields::{Field, read_field};
 use records::refusal::Refusal;
-use signature::ids::{Counts, INDEX, START};
+use signature::ids::START;
+use signature::lookup::Signature;
 
 // Where the part before the first field that draws 2 ends, and whether it is the whole record.
 #[derive(Clone, Copy)]
@@ -151,20 +152,17 @@ fn variables(
 
 // The B or the H fields of a rule, which start at a position.
 fn statements(
-    sig: &[u8],
-    symbols: &[u16; INDEX],
-    counts: Counts,
+    sig: &Signature<'_>,
     s: &[u8],
     from: usize,
     end: usize,
     letter: u8,
     variables: usize,
 ) -> Result<Checked, Refusal>
-    requires indexed { Indexed sig.now symbols.now counts }
     requires from_in_bounds { from ≤ length s.now }
     ensures section { (fs : List definition.Field) → Run s.now from end fs
         → Section result s.now from end letter
-        (statement_fault (signature_at sig.now symbols.now counts) (kinds_of letter) variables) fs }
+        (statement_fault sig.now (kinds_of letter) variables) fs }
     ensures onward { Onward result from (length s.now) }
 {
     let mut at = from;
@@ -173,7 +171,7 @@ fn statements(
         let Some(f) = field_here(s, at, letter) else {
             break;
         };
-        statement_fault(sig, symbols, counts, s, letter, f.start, f.len, variables)?;
+        statement_fault(sig, s, letter, f.start, f.len, variables)?;
         count += 1;
         at = f.next;
     }
@@ -182,24 +180,21 @@ fn statements(
 
 // A rule from its U field on.
 fn rule(
-    sig: &[u8],
-    symbols: &[u16; INDEX],
-    counts: Counts,
+    sig: &Signature<'_>,
     s: &[u8],
     at: usize,
     end: usize,
     variables: usize,
     before: usize,
 ) -> Result<Ruled, Refusal>
-    requires { Indexed sig.now symbols.now counts }
     ensures rule { (f : definition.Field) (fs : List definition.Field) → Run s.now at end (f ∷ fs) → AtRule (f ∷ fs)
-        → Rule result (signature_at sig.now symbols.now counts) variables before s.now at end f fs }
+        → Rule result sig.now variables before s.now at end f fs }
     ensures rule_onward { RuleOnward result before at (length s.now) }
 {
     let f = read_field(s, at).ok_or(Refusal::BadFields)?;
     rule_fault(s, f.start, f.len, before)?;
-    let b = statements(sig, symbols, counts, s, f.next, end, LETTER_B, variables)?;
-    let h = statements(sig, symbols, counts, s, b.next, end, LETTER_H, variables)?;
+    let b = statements(sig, s, f.next, end, LETTER_B, variables)?;
+    let h = statements(sig, s, b.next, end, LETTER_H, variables)?;
     Ok(Ruled {
         heads: b.next,
         next: h.next,
@@ -208,20 +203,17 @@ fn rule(
 
 // The rules. Each entry of the index ends the rule before it, the first one what stands before the rules.
 fn rules(
-    sig: &[u8],
-    symbols: &[u16; INDEX],
-    counts: Counts,
+    sig: &Signature<'_>,
     s: &[u8],
     from: usize,
     end: usize,
     variables: usize,
     index: &mut [u16; GROUP_INDEX],
 ) -> Result<Checked, Refusal>
-    requires indexed { Indexed sig.now symbols.now counts }
     requires from_in_bounds { (from ≤ length s.now) × (length s.now ≤ group_bytes) }
     requires index_len { length index.old ≡ index_size }
     ensures all_rules { (fs : List definition.Field) → Run s.now from end fs → AtRule fs
-        → AllRules result (signature_at sig.now symbols.now counts) variables
+        → AllRules result sig.now variables
         s.now index.new from fs }
     ensures kept { Kept index.old index.new }
 {
@@ -229,7 +221,7 @@ fn rules(
     let mut count: usize = 0;
     index[RULES_FROM] = from as u16;
     while at < end {
-        let r = rule(sig, symbols, counts, s, at, end, variables, count)?;
+        let r = rule(sig, s, at, end, variables, count)?;
         index[CONCLUSIONS_FROM + count] = r.heads as u16;
         index[RULES_FROM + count + 1] = r.next as u16;
         count += 1;
@@ -242,17 +234,14 @@ fn rules(
 // Where it is refused, the entries of the index are left free: any may have been written, and only their number holds.
 // The index has the entries that its type says; a proof cannot tell that of a lent array, so the lender does.
 pub fn read_group(
-    sig: &[u8],
-    symbols: &[u16; INDEX],
-    counts: Counts,
+    sig: &Signature<'_>,
     s: &[u8],
     index: &mut [u16; GROUP_INDEX],
 ) -> Result<GroupCounts, Refusal>
-    requires indexed { Indexed sig.now symbols.now counts }
     requires index_len { length index.old ≡ index_size }
     ensures result_value { group_reading s.now result
-        ≡ read_group (signature_at sig.now symbols.now counts) s.now }
-    ensures usable { Usable (signature_at sig.now symbols.now counts) s.now index.new result }
+        ≡ read_group sig.now s.now }
+    ensures usable { Usable sig.now s.now index.new result }
     ensures index_len_unchanged { length index.new ≡ length index.old }
 {
     if GROUP_BYTES < s.len() {
@@ -263,8 +252,8 @@ pub fn read_group(
         return Err(Refusal::BadFields);
     }
     let g = title(s)?;
-    let w = variables(s, g.next, p.end, counts.types, index)?;
-    let u = rules(sig, symbols, counts, s, w.next, p.end, w.count, index)?;
+    let w = variables(s, g.next, p.end, sig.types(), index)?;
+    let u = rules(sig, s, w.next, p.end, w.count, index)?;
     if !p.whole {
         return Err(Refusal::BadFields);
     }

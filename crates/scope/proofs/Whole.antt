@@ -13,15 +13,12 @@ use Rattle.definition.specs.Group.{FlatRule, Group, flat_rule_of, group_of, grou
 use Rattle.definition.specs.Scope as definition
 use Rattle.definition.specs.Scope.{model, conclusion_scope, infer_scope, scope_of, owners_at, owners_part, owners_of}
 use Rattle.records.specs.Places.{Run, none, more}
-use Rattle.signature.specs.Index.{signature_at}
-use Rattle.signature.specs.Answers.{signature_reading}
-use Rattle.signature.specs.declared.ids.Counts.{Counts}
 use Rattle.group.specs.Index.{conclusions_at, no_block, Indexed}
 use Rattle.group.specs.Answers.{group_reading, Usable}
 use Rattle.group.specs.Lookups.{table, SectionsAt}
 use Rattle.group.specs.declared.lookup.Sections.{Sections}
 use Rattle.group.specs.declared.ids.GroupCounts.{GroupCounts}
-use Rattle.records.specs.Refusals.{number}
+use Rattle.records.specs.Refusals.{number, outcome}
 use Rattle.records.specs.declared.refusal.Refusal.{Refusal}
 use Rattle.std.proofs.Common as std
 use Rattle.std.proofs.Common.{Some, None, Result, Ok, Err}
@@ -53,23 +50,23 @@ some_field : {s : List ℕ} {at end : ℕ} {fs : List Field} → Run s at end fs
 some_field none h q = absurd (omega arith)
 some_field (more e r) h q = let z : ◌≡◌ {A = ℕ} 0 1 = cc in absurd (omega arith)
 
-module _ (bytes symbols group_bytes : List ℕ) (position : ℕ) {a : Result Counts Refusal} (e : signature_reading bytes symbols a ≡ read_signature bytes) where
+module _ (bytes group_bytes : List ℕ) (position : ℕ) {a : Result Signature Refusal} (e : outcome a ≡ read_signature bytes) where
   -- The signature was refused.
   pub signature_refused : {r : Refusal} → a ≡ Err r → refused (number r) ≡ scope_of bytes group_bytes position
   unfolding scope_of
   signature_refused q = rw (← e, q)
 
-  module _ {counts : Counts} (p : a ≡ Ok counts) {b : Result GroupCounts Refusal}
-      (f : group_reading group_bytes b ≡ read_group (signature_at bytes symbols counts) group_bytes) where
+  module _ {sig : Signature} (p : a ≡ Ok sig) {b : Result GroupCounts Refusal}
+      (f : group_reading group_bytes b ≡ read_group sig group_bytes) where
     -- The group was refused.
     pub group_refused : {r : Refusal} → b ≡ Err r → refused (number r) ≡ scope_of bytes group_bytes position
     unfolding scope_of
     group_refused q = rw (← e, p, ← f, q)
 
     module _ {found : GroupCounts} (q : b ≡ Ok found) {index : List ℕ}
-        (w : Indexed (signature_at bytes symbols counts) group_bytes index found.variables found.rules) where
+        (w : Indexed sig group_bytes index found.variables found.rules) where
       here : scope_of bytes group_bytes position
-          ≡ infer_scope (signature_at bytes symbols counts) (group_of (group_part group_bytes).fields)
+          ≡ infer_scope sig (group_of (group_part group_bytes).fields)
           (get_elem? (group_of (group_part group_bytes).fields).rules position)
       unfolding scope_of
       here = rw (← e, p, ← f, q)
@@ -79,7 +76,7 @@ module _ (bytes symbols group_bytes : List ℕ) (position : ℕ) {a : Result Cou
       no_rule h = sym (here ∙ infer_none _ _ (group_of (group_part group_bytes).fields).rules position (rw (rules_length w.rule) h))
 
       pub rule_answer : position < found.rules → {answer : Outcome definition.Scope}
-          → answer ≡ conclusion_scope (signature_at bytes symbols counts) (table group_bytes) (flat_rule_of (block_at group_bytes position))
+          → answer ≡ conclusion_scope sig (table group_bytes) (flat_rule_of (block_at group_bytes position))
           (flat_rule_of (block_at group_bytes position)).conclusion
           → answer ≡ scope_of bytes group_bytes position
       rule_answer h k =

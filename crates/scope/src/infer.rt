@@ -18,14 +18,14 @@ pub fn scope(sig: &[u8], group: &[u8], position: usize) -> Result<Option<Owned>,
     ensures owners_stand { OwnersStand group.now position result }
 {
     let mut symbols = [0u16; INDEX];
-    let counts = read_signature(sig, &mut symbols)?;
+    let signature = read_signature(sig, &mut symbols)?;
     let mut index = [0u16; GROUP_INDEX];
-    let found = read_group(sig, &symbols, counts, group, &mut index)?;
+    let found = read_group(&signature, group, &mut index)?;
     if found.rules <= position {
         return Err(Refusal::NoSuchRule);
     }
     let rule = rule_sections(group, &index, found.rules, position);
-    rule_scope(sig, &symbols, counts, group, &index, found.variables, rule)
+    rule_scope(&signature, group, &index, found.variables, rule)
 }
 
 // The owners: the part of the group's bytes that holds the first conclusion's leading variables. It is empty where the rule

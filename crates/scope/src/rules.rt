@@ -15,7 +15,7 @@ use crate::verdicts::{owner_count, statement_model, statement_verdict, too_few};
 use group::ids::GROUP_INDEX;
 use group::lookup::{Sections, StatementField, read_statement};
 use records::refusal::Refusal;
-use signature::ids::{Counts, INDEX};
+use signature::lookup::Signature;
 
 // Where a section of a rule stands.
 #[derive(Clone, Copy)]
@@ -42,9 +42,7 @@ fn part_of(rule: Sections, side: Side) -> Part
 
 // The first verdict of a section that settles the scope.
 fn section_verdict(
-    sig: &[u8],
-    symbols: &[u16; INDEX],
-    counts: Counts,
+    sig: &Signature<'_>,
     s: &[u8],
     index: &[u16; GROUP_INDEX],
     variables: usize,
@@ -52,12 +50,11 @@ fn section_verdict(
     rule: Sections,
     side: Side,
 ) -> Result<Verdict, Refusal>
-    requires indexed { Indexed sig.now symbols.now counts }
     requires listed { Listed s.now index.now variables }
-    requires owned_at { OwnedAt (signature_at sig.now symbols.now counts) counts.types variables s.now own }
-    requires rule_stands { RuleStands (signature_at sig.now symbols.now counts) variables s.now rule }
+    requires owned_at { OwnedAt sig.now (length sig.now.types) variables s.now own }
+    requires rule_stands { RuleStands sig.now variables s.now rule }
     ensures { verdict_of result
-        ≡ first_of (verdict_at side (signature_at sig.now symbols.now counts) (table s.now)
+        ≡ first_of (verdict_at side sig.now (table s.now)
         own.model.0 (owners_in s.now own))
         (statements_in s.now (begin_of rule side) (end_of rule side)) }
 {
@@ -65,7 +62,7 @@ fn section_verdict(
     let mut at = part.from;
     while at < part.end {
         let t = read_statement(s, at);
-        let v = statement_verdict(sig, symbols, counts, s, index, variables, own, side, t)?;
+        let v = statement_verdict(sig, s, index, variables, own, side, t)?;
         if v != Verdict::Open {
             return Ok(v);
         }
@@ -76,57 +73,51 @@ fn section_verdict(
 
 // The first verdict of a rule: its conclusions', then its premises'.
 fn rule_verdict(
-    sig: &[u8],
-    symbols: &[u16; INDEX],
-    counts: Counts,
+    sig: &Signature<'_>,
     s: &[u8],
     index: &[u16; GROUP_INDEX],
     variables: usize,
     own: Owned,
     rule: Sections,
 ) -> Result<Verdict, Refusal>
-    requires indexed { Indexed sig.now symbols.now counts }
     requires listed { Listed s.now index.now variables }
-    requires owned_at { OwnedAt (signature_at sig.now symbols.now counts) counts.types variables s.now own }
-    requires rule_stands { RuleStands (signature_at sig.now symbols.now counts) variables s.now rule }
+    requires owned_at { OwnedAt sig.now (length sig.now.types) variables s.now own }
+    requires rule_stands { RuleStands sig.now variables s.now rule }
     ensures { (x : FlatRule) → RuleSays s.now rule x → verdict_of result
-        ≡ first_verdict (signature_at sig.now symbols.now counts) (table s.now) x
+        ≡ first_verdict sig.now (table s.now) x
         own.model.0 (owners_in s.now own) }
 {
     let first = Side::Conclusions;
-    let v = section_verdict(sig, symbols, counts, s, index, variables, own, rule, first)?;
+    let v = section_verdict(sig, s, index, variables, own, rule, first)?;
     if v != Verdict::Open {
         return Ok(v);
     }
     let second = Side::Premises;
-    section_verdict(sig, symbols, counts, s, index, variables, own, rule, second)
+    section_verdict(sig, s, index, variables, own, rule, second)
 }
 
 // The scope of a rule by its first conclusion.
 #[tactic(auto, using(crate::proofs::InOrder::output_steps))]
 fn output_scope(
-    sig: &[u8],
-    symbols: &[u16; INDEX],
-    counts: Counts,
+    sig: &Signature<'_>,
     s: &[u8],
     index: &[u16; GROUP_INDEX],
     variables: usize,
     rule: Sections,
     t: StatementField,
 ) -> Result<Option<Owned>, Refusal>
-    requires indexed { Indexed sig.now symbols.now counts }
     requires listed { Listed s.now index.now variables }
-    requires rule_stands { RuleStands (signature_at sig.now symbols.now counts) variables s.now rule }
-    requires sound { Sound (signature_at sig.now symbols.now counts) variables s.now t }
+    requires rule_stands { RuleStands sig.now variables s.now rule }
+    requires sound { Sound sig.now variables s.now t }
     ensures result_value { (x : FlatRule) → RuleSays s.now rule x → scope_answer s.now result
-        ≡ output_scope (signature_at sig.now symbols.now counts) (table s.now) x (statement_from s.now t)
-        (parent_model (signature_at sig.now symbols.now counts) t.kind t.symbol) }
+        ≡ output_scope sig.now (table s.now) x (statement_from s.now t)
+        (parent_model sig.now t.kind t.symbol) }
     ensures leads { Leads result t.start (length s.now) }
 {
-    let Some(model) = statement_model(sig, symbols, counts, t) else {
+    let Some(model) = statement_model(sig, t) else {
         return Ok(None);
     };
-    let count = owner_count(sig, symbols, counts, model);
+    let count = owner_count(sig, model);
     if too_few(t, count) {
         return Err(Refusal::TooFewVariables);
     }
@@ -135,7 +126,7 @@ fn output_scope(
         start: t.start,
         count,
     };
-    match rule_verdict(sig, symbols, counts, s, index, variables, own, rule)? {
+    match rule_verdict(sig, s, index, variables, own, rule)? {
         Verdict::Open => Ok(Some(own)),
         Verdict::Global => Ok(None),
     }
@@ -143,24 +134,21 @@ fn output_scope(
 
 // The scope of a rule.
 pub fn rule_scope(
-    sig: &[u8],
-    symbols: &[u16; INDEX],
-    counts: Counts,
+    sig: &Signature<'_>,
     s: &[u8],
     index: &[u16; GROUP_INDEX],
     variables: usize,
     rule: Sections,
 ) -> Result<Option<Owned>, Refusal>
-    requires indexed { Indexed sig.now symbols.now counts }
     requires listed { Listed s.now index.now variables }
-    requires rule_stands { RuleStands (signature_at sig.now symbols.now counts) variables s.now rule }
+    requires rule_stands { RuleStands sig.now variables s.now rule }
     ensures result_value { (x : FlatRule) → RuleSays s.now rule x → scope_answer s.now result
-        ≡ conclusion_scope (signature_at sig.now symbols.now counts) (table s.now) x x.conclusion }
+        ≡ conclusion_scope sig.now (table s.now) x x.conclusion }
     ensures owners_from { OwnersFrom result rule.conclusions rule.end (length s.now) }
 {
     if rule.end <= rule.conclusions {
         return Ok(None);
     }
     let first = read_statement(s, rule.conclusions);
-    output_scope(sig, symbols, counts, s, index, variables, rule, first)
+    output_scope(sig, s, index, variables, rule, first)
 }

@@ -1,5 +1,5 @@
 // What one statement of a rule settles.
-ghost use Rattle.std.specs.Prelude.{◌≡◌, ◌+◌, ◌≤◌, ◌<◌, ltb};
+ghost use Rattle.std.specs.Prelude.{◌≡◌, ◌+◌, ◌≤◌, ◌<◌, ltb, length};
 ghost use Rattle.definition.specs.Base.{has};
 ghost use Rattle.definition.specs.Signature.{type_parents, symbol_count, parent_model};
 ghost use Rattle.definition.specs.Scope as definition;
@@ -15,43 +15,34 @@ use crate::answers::{Owned, Side, Verdict};
 use group::ids::GROUP_INDEX;
 use group::lookup::{StatementField, same_variables};
 use records::refusal::Refusal;
-use signature::ids::{Counts, EQUALITY, INDEX, TypeId};
-use signature::lookup::{parent_model_type, relation, type_parent, type_parents};
+use signature::ids::{EQUALITY, TypeId};
+use signature::lookup::{Signature, relation};
 
 // The model of what a statement is about.
-#[tactic(auto, using(signature::proofs::ByKind::counted))]
-pub fn statement_model(
-    sig: &[u8],
-    symbols: &[u16; INDEX],
-    counts: Counts,
-    t: StatementField,
-) -> Option<TypeId>
-    requires indexed { Indexed sig.now symbols.now counts }
-    requires symbol_bound { t.symbol < symbol_count (signature_at sig.now symbols.now counts) t.kind }
-    ensures result_value { model_of result ≡ parent_model (signature_at sig.now symbols.now counts) t.kind t.symbol }
-    ensures named { Named result counts.types }
+pub fn statement_model(sig: &Signature<'_>, t: StatementField) -> Option<TypeId>
+    requires symbol_bound { t.symbol < symbol_count sig.now t.kind }
+    ensures result_value { model_of result ≡ parent_model sig.now t.kind t.symbol }
+    ensures named { Named result (length sig.now.types) }
 {
-    parent_model_type(sig, symbols, counts, relation(t.kind, t.symbol))
+    sig.parent_model(relation(t.kind, t.symbol))
 }
 
 // How many owners a model's rules have: one more than it has parents.
-pub fn owner_count(sig: &[u8], symbols: &[u16; INDEX], counts: Counts, m: TypeId) -> usize
-    requires indexed { Indexed sig.now symbols.now counts }
-    requires m_lt_types { m.0 < counts.types }
-    ensures { result ≡ owner_count (signature_at sig.now symbols.now counts) m.0 }
+pub fn owner_count(sig: &Signature<'_>, m: TypeId) -> usize
+    requires m_lt_types { m.0 < length sig.now.types }
+    ensures { result ≡ owner_count sig.now m.0 }
 {
-    type_parents(sig, symbols, counts, m) + 1
+    sig.type_parents(m) + 1
 }
 
 // Is a type among the parents of another, in that one's own list?
 #[tactic(auto, using(crate::proofs::Settling::has_steps))]
-fn among(sig: &[u8], symbols: &[u16; INDEX], counts: Counts, t: TypeId, x: TypeId) -> bool
-    requires indexed { Indexed sig.now symbols.now counts }
-    requires t_lt_types { t.0 < counts.types }
-    ensures { result ≡ has x.0 (type_parents (signature_at sig.now symbols.now counts) t.0) }
+fn among(sig: &Signature<'_>, t: TypeId, x: TypeId) -> bool
+    requires t_lt_types { t.0 < length sig.now.types }
+    ensures { result ≡ has x.0 (type_parents sig.now t.0) }
 {
-    for i in 0..type_parents(sig, symbols, counts, t) {
-        if type_parent(sig, symbols, counts, t, i) == x {
+    for i in 0..sig.type_parents(t) {
+        if sig.type_parent(t, i) == x {
             return true;
         }
     }
@@ -60,12 +51,11 @@ fn among(sig: &[u8], symbols: &[u16; INDEX], counts: Counts, t: TypeId, x: TypeI
 
 // Is a relation's model the model, or one among the other's parents?
 #[tactic(auto, unfolding(definition::specs::Scope::related))]
-fn related(sig: &[u8], symbols: &[u16; INDEX], counts: Counts, m: TypeId, p: TypeId) -> bool
-    requires indexed { Indexed sig.now symbols.now counts }
-    requires m_lt_types { (m.0 < counts.types) × (p.0 < counts.types) }
-    ensures { result ≡ definition.related (signature_at sig.now symbols.now counts) m.0 p.0 }
+fn related(sig: &Signature<'_>, m: TypeId, p: TypeId) -> bool
+    requires m_lt_types { (m.0 < length sig.now.types) × (p.0 < length sig.now.types) }
+    ensures { result ≡ definition.related sig.now m.0 p.0 }
 {
-    p == m || among(sig, symbols, counts, p, m) || among(sig, symbols, counts, m, p)
+    p == m || among(sig, p, m) || among(sig, m, p)
 }
 
 // Has a statement fewer arguments than owners are compared? A FuncDomain's result is none of them.
@@ -114,30 +104,20 @@ fn without_model(side: Side, kind: u8) -> Result<Verdict, Refusal>
 
 // Does a statement's model suit the rule's? A conclusion's must be the same, a premise's related.
 #[tactic(auto, unfolding(crate::specs::Sides::suiting))]
-fn suits(
-    sig: &[u8],
-    symbols: &[u16; INDEX],
-    counts: Counts,
-    side: Side,
-    m: TypeId,
-    p: TypeId,
-) -> bool
-    requires indexed { Indexed sig.now symbols.now counts }
-    requires m_lt_types { (m.0 < counts.types) × (p.0 < counts.types) }
-    ensures { result ≡ suiting side (signature_at sig.now symbols.now counts) m.0 p.0 }
+fn suits(sig: &Signature<'_>, side: Side, m: TypeId, p: TypeId) -> bool
+    requires m_lt_types { (m.0 < length sig.now.types) × (p.0 < length sig.now.types) }
+    ensures { result ≡ suiting side sig.now m.0 p.0 }
 {
     match side {
         Side::Conclusions => p == m,
-        Side::Premises => related(sig, symbols, counts, m, p),
+        Side::Premises => related(sig, m, p),
     }
 }
 
 // What a statement settles. Of the owners it must have as many as both models have: where the models are the same, all.
 #[tactic(auto, using(crate::proofs::Settling::verdict_steps))]
 pub fn statement_verdict(
-    sig: &[u8],
-    symbols: &[u16; INDEX],
-    counts: Counts,
+    sig: &Signature<'_>,
     s: &[u8],
     index: &[u16; GROUP_INDEX],
     variables: usize,
@@ -145,19 +125,18 @@ pub fn statement_verdict(
     side: Side,
     t: StatementField,
 ) -> Result<Verdict, Refusal>
-    requires indexed { Indexed sig.now symbols.now counts }
     requires listed { Listed s.now index.now variables }
-    requires owned_at { OwnedAt (signature_at sig.now symbols.now counts) counts.types variables s.now own }
-    requires sound { Sound (signature_at sig.now symbols.now counts) variables s.now t }
-    ensures { verdict_of result ≡ verdict_at side (signature_at sig.now symbols.now counts) (table s.now)
+    requires owned_at { OwnedAt sig.now (length sig.now.types) variables s.now own }
+    requires sound { Sound sig.now variables s.now t }
+    ensures { verdict_of result ≡ verdict_at side sig.now (table s.now)
         own.model.0 (owners_in s.now own) (statement_from s.now t) }
 {
-    let Some(parent) = statement_model(sig, symbols, counts, t) else {
+    let Some(parent) = statement_model(sig, t) else {
         return without_model(side, t.kind);
     };
-    if !suits(sig, symbols, counts, side, own.model, parent) {
+    if !suits(sig, side, own.model, parent) {
         return Ok(Verdict::Global);
     }
-    let n = owner_count(sig, symbols, counts, parent);
+    let n = owner_count(sig, parent);
     compared(s, index, variables, own, n.min(own.count), t)
 }

@@ -2,15 +2,14 @@ use Rattle.definition.specs.Base.{first_of}
 use Rattle.group.specs.Lookups.{table, statements_in, StatementsAt}
 use Rattle.scope.specs.Sides.{letter_of, verdict_at}
 use Rattle.scope.specs.Statements.{owners_in}
-use Rattle.signature.specs.Index.{signature_at}
 use mathlib.Core.Path.{◌≡◌}
 use Prim.Native.Nat.{◌-◌}
 use Rattle.scope.proofs.rules.section_verdict.Given as goal
 
 abbrev pub invariant-loop-at : goal.invariant-loop-at
 invariant-loop-at l =
-    let f = verdict_at l.side (signature_at l.sig l.symbols l.counts) (table l.s) l.own.model.0 (owners_in l.s l.own) in
-    StatementsAt (signature_at l.sig l.symbols l.counts) (letter_of l.side) l.variables l.s l.at l.part.end
+    let f = verdict_at l.side l.sig (table l.s) l.own.model.0 (owners_in l.s l.own) in
+    StatementsAt l.sig (letter_of l.side) l.variables l.s l.at l.part.end
     × (first_of f (statements_in l.s l.part.from l.part.end) ≡ first_of f (statements_in l.s l.at l.part.end))
 
 abbrev pub decreases-loop-at : goal.decreases-loop-at
