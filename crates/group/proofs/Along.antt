@@ -3,34 +3,17 @@ use Prim.Native.Nat.{ℕ, ◌+◌, ◌≤◌, ◌<◌}
 use mathlib.Core.List.{List, [], ◌∷◌, ◌++◌, append_assoc, append-nil}
 use mathlib.Core.Option.{Option, none, some}
 use mathlib.Core.Path.{◌≡◌, refl, ◌∙◌}
-use native.Mathlib.Omega.{arith}
 use lib.ListN.{length, length-append}
 use borrow.Author.Tests.{eq-eqb, ne_eqb}
 use Rattle.definition.specs.Records.{Field, fault_from}
-use Rattle.records.specs.Places.{field_at, field_of, Ahead, Run, none, got}
+use Rattle.records.specs.Places.{field_at, field_of, Run, none, got}
 use Rattle.records.specs.declared.fields.Field as read
-use Rattle.std.proofs.Common.{None}
+use Rattle.std.proofs.Common.{Option as Read, Some, None, Err}
 use Rattle.records.proofs.Runs.{Behind, run_got, run_bad, run_end, run_snoc}
 use Rattle.group.specs.Sections.{leading, trailing}
-use Rattle.group.specs.Answers.{HereAt, Section}
-use Rattle.group.specs.declared.reader.Checked.TheVariants as checked
-use Rattle.group.specs.declared.reader.Here.{Here}
-use Rattle.group.specs.declared.reader.Here.TheVariants as here
-
--- What was read at a position, as the letter that was asked for.
-module _ {s : List ℕ} {at letter : ℕ} where
-  pub here_bad : field_at s at ≡ None → HereAt here.Nothing s at letter
-  here_bad e = record { is = λ start len next q. let z : ◌≡◌ {A = ℕ} 0 1 = cc in omega arith }
-
-  module _ {l start len next : ℕ} (e : field_at s at ≡ got l start len next) where
-    pub here_other : (l ≡ letter → ⊥) → HereAt here.Nothing s at letter
-    here_other n = record { is = λ start₁ len₁ next₁ q. let z : l ≡ letter = cc in n z }
-
-    pub here_is : l ≡ letter → Ahead (got l start len next) at (length s) → HereAt (here.Field start len next) s at letter
-    here_is q a = record { is = (rw q at e, omega arith, omega arith, omega arith) }
-
-  pub here_told : {r : Here} {start len next : ℕ} → r ≡ here.Field start len next → HereAt r s at letter → HereAt (here.Field start len next) s at letter
-  here_told e h = rw (← e) h
+use Rattle.records.specs.Refusals.{number}
+use Rattle.records.specs.declared.refusal.Refusal.{Refusal}
+use Rattle.group.specs.Answers.{HereAt, Section, counted}
 
 -- The check stands at a position, behind so many fields of the letter: what is left gives the answer.
 pub record Along (s : List ℕ) (from end letter : ℕ) (check : ℕ → Option Field → Field → Option ℕ) (fs : List Field) (at count : ℕ) : Type 0 where
@@ -65,17 +48,17 @@ module _ {s : List ℕ} {from end letter : ℕ} {check : ℕ → Option Field �
       let b = run_got w.run lt e in
       record { front_over = rw (b.same, ne_eqb l letter q); back_over = rw (b.same, ne_eqb l letter q) }
 
-  pub over_none : at < end → HereAt here.Nothing s at letter → Over
+  pub over_none : at < end → HereAt None s at letter → Over
   over_none lt n = go (field_at s at) refl
     where
-      go : (f : read.Field) → field_at s at ≡ f → Over
+      go : (f : Read read.Field) → field_at s at ≡ f → Over
       go None e = run_bad w.run lt e
-      go (got l start len next) e = over_stop lt e (λ q. n.is start len next (rw q at e))
+      go (Some f) e = over_stop lt e (λ q. n.is f.start f.len f.next (rw q at e))
 
   pub over_front : Over → leading letter fs ≡ w.done
   over_front v = w.front ∙ rw (v.front_over, append-nil)
 
-  pub along_over : Over → Section (checked.Upto count at) s from end letter check fs
+  pub along_over : Over → Section (counted count at) s from end letter check fs
   unfolding fault_from
   along_over v = record
       { is = (w.fault ∙ rw v.front_over, rw (over_front v) w.counted, rw (over_front v) w.passed, rw (w.back ∙ v.back_over) w.run) }
@@ -91,8 +74,8 @@ module _ {s : List ℕ} {from end letter : ℕ} {check : ℕ → Option Field �
       unfolding trailing
       first_back b = rw (b.same, eq-eqb letter letter refl)
 
-      pub along_fault : {n : ℕ} → ((last : Option Field) → some n ≡ check count last (field_of s letter start len))
-          → Section (checked.Refused n) s from end letter check fs
+      pub along_fault : {n : Refusal} → ((last : Option Field) → some (number n) ≡ check count last (field_of s letter start len))
+          → Section (Err n) s from end letter check fs
       unfolding fault_from
       along_fault k = record { is = w.fault ∙ rw (first (run_got w.run lt e), ← (k w.last)) }
 

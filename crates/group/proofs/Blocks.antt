@@ -18,9 +18,10 @@ use Rattle.records.proofs.Link.{got_is}
 use Rattle.records.proofs.Index.{got_field}
 use Rattle.records.proofs.Lists.{keep_append}
 use Rattle.group.specs.Sections.{leading, trailing, Ordered, AtRule, Stated, kinds_of, block_fault}
-use Rattle.group.specs.Answers.{Section, Rule}
-use Rattle.group.specs.declared.reader.Checked.TheVariants as checked
-use Rattle.group.specs.declared.reader.Ruled.TheVariants as ruled
+use Rattle.records.specs.Refusals.{number}
+use Rattle.records.specs.declared.refusal.Refusal.{Refusal}
+use Rattle.std.proofs.Common.{Err}
+use Rattle.group.specs.Answers.{Section, Rule, counted, ruled}
 use Rattle.group.proofs.First.{run_cons}
 use Rattle.group.proofs.Positions.{passed_over, begun, found}
 use Rattle.group.proofs.Shape.{after_premises, after_conclusions}
@@ -106,8 +107,8 @@ module _ (sig : Signature) (variables before : ℕ) {s : List ℕ} {at end : ℕ
   unfolding fault_among
   conclusion_check = rw (conclusions_are fs o.1)
 
-  pub rule_fault : {n : ℕ} → ((letter : ℕ) → some n ≡ flat_rule_fault before (field_of s letter start len))
-      → Rule (ruled.Refused n) sig variables before s at end f fs
+  pub rule_fault : {n : Refusal} → ((letter : ℕ) → some (number n) ≡ flat_rule_fault before (field_of s letter start len))
+      → Rule (Err n) sig variables before s at end f fs
   unfolding block_fault
   rule_fault k = record { is = rw (ap (flat_rule_fault before) (run_cons r e).0 ∙ sym (k l)) }
 
@@ -115,24 +116,24 @@ module _ (sig : Signature) (variables before : ℕ) {s : List ℕ} {at end : ℕ
     head_sound : flat_rule_fault before f ≡ none
     head_sound = ap (flat_rule_fault before) (run_cons r e).0 ∙ sym (k l)
 
-    pub premise_fault : {n : ℕ}
+    pub premise_fault : {n : Refusal}
         → ((gs : List Field) → Run s next end gs
-        → Section (checked.Refused n) s next end letter_b (statement_fault sig (kinds_of letter_b) variables) gs)
-        → Rule (ruled.Refused n) sig variables before s at end f fs
+        → Section (Err n) s next end letter_b (statement_fault sig (kinds_of letter_b) variables) gs)
+        → Rule (Err n) sig variables before s at end f fs
     unfolding block_fault
     premise_fault p = record { is = rw (head_sound, premise_check ∙ (p fs (run_cons r e).1).is) }
 
     module _ {n₁ conclusions : ℕ} (p : (gs : List Field) → Run s next end gs
-        → Section (checked.Upto n₁ conclusions) s next end letter_b (statement_fault sig (kinds_of letter_b) variables) gs) where
+        → Section (counted n₁ conclusions) s next end letter_b (statement_fault sig (kinds_of letter_b) variables) gs) where
       premise_sound : fault_among letter_b (statement_fault sig premise_kinds variables) (up_to letter_u fs) ≡ none
       premise_sound = premise_check ∙ (p fs (run_cons r e).1).is.0
 
       mid_run : Run s conclusions end (trailing letter_b fs)
       mid_run = (p fs (run_cons r e).1).is.3
 
-      pub conclusion_fault : {n : ℕ} → ((gs : List Field) → Run s conclusions end gs
-          → Section (checked.Refused n) s conclusions end letter_h (statement_fault sig (kinds_of letter_h) variables) gs)
-          → Rule (ruled.Refused n) sig variables before s at end f fs
+      pub conclusion_fault : {n : Refusal} → ((gs : List Field) → Run s conclusions end gs
+          → Section (Err n) s conclusions end letter_h (statement_fault sig (kinds_of letter_h) variables) gs)
+          → Rule (Err n) sig variables before s at end f fs
       unfolding block_fault
       conclusion_fault q = record { is = rw (head_sound, premise_sound, conclusion_check ∙ (q (trailing letter_b fs) mid_run).is) }
 
@@ -155,8 +156,8 @@ module _ (sig : Signature) (variables before : ℕ) {s : List ℕ} {at end : ℕ
           ∙ found (trailing letter_b fs) conclusions m
 
       pub rule_done : {n₂ behind : ℕ} → ((gs : List Field) → Run s conclusions end gs
-          → Section (checked.Upto n₂ behind) s conclusions end letter_h (statement_fault sig (kinds_of letter_h) variables) gs)
-          → Rule (ruled.Upto conclusions behind) sig variables before s at end f fs
+          → Section (counted n₂ behind) s conclusions end letter_h (statement_fault sig (kinds_of letter_h) variables) gs)
+          → Rule (ruled conclusions behind) sig variables before s at end f fs
       unfolding block_fault
       rule_done q =
           let b = (p fs (run_cons r e).1).is in

@@ -1,32 +1,28 @@
 -- The faults of a field, from the tests that the code makes.
-use Prim.Native.Nat.{ℕ, zero, suc, ◌+◌, ◌-◌, ◌/◌, ◌%◌, ◌≤◌, ◌<◌}
+use borrow.Author.Tests.{lt-leb, le-leb, lt-ltb, le-ltb, eq-eqb, ne_eqb}
+use Prim.Native.Nat.{ℕ, ◌+◌, ◌-◌, ◌/◌, ◌≤◌, ◌<◌}
 use native.Mathlib.Omega.{arith}
 use native.Mathlib.Decide.{dec_lt}
 use native.Mathlib.Nat.{add-zero}
-use mathlib.Core.Bool.{Bool, true, false, not, ◌&&◌, ◌||◌}
+use mathlib.Core.Bool.{Bool, true, false, not, ◌||◌}
 use mathlib.Core.List.{List, [], ◌∷◌}
 use mathlib.Core.Option.{Option, none, some}
-use mathlib.Core.Logic.{⊎_elim}
 use mathlib.Core.Path.{◌≡◌, refl, ◌∙◌, ap}
 use lib.Dec.{eqb, ltb, leb}
 use lib.ListN.{length, get_or}
-use borrow.Author.Tests.{lt-ltb, le-ltb, eq-eqb, ne_eqb}
 use Rattle.definition.specs.Base.{pick, any, has, empty, lowest}
 use Rattle.definition.specs.Limits.{variable_limit, group_name_bytes}
-use Rattle.definition.specs.Letters.{letter_b, member, type_set, func_domain}
+use Rattle.definition.specs.Letters.{letter_b, member, func_domain}
 use Rattle.definition.specs.Records.{Field, numbers, bad_name}
 use Rattle.definition.specs.Signature.{Signature, arity, symbol_count, type_parents, named}
 use Rattle.definition.specs.Group.{premise_kinds, conclusion_kinds, variable_of, statement_of, variable_fault, statement_fault, bad_columns}
+use Rattle.signature.proofs.ByKind.{counted}
 use Rattle.records.specs.Places.{two_at, stretch, field_of}
 use Rattle.laws.proofs.Numbers.{drop_numbers}
-use denote.Enum.Declared.{tag_of}
-use types.Run.{OneOf}
-use Rattle.signature.specs.Relations.{kind_of}
-use Rattle.signature.specs.declared.ids.Relation.{Relation}
-use Rattle.signature.specs.contracts.ids.Relation.{the_type}
-use Rattle.signature.specs.declared.ids.Relation.TheVariants.{Predicate, Function, Member, Equality, TypeSet, FuncDomain}
 use Rattle.group.specs.Sections.{kinds_of}
-use Rattle.records.proofs.Numbers.{length_stretch, stretch_at, drop_stretch, number_in, length_numbers_in}
+use Rattle.group.specs.Answers.{columns_differ}
+use lib.Bits.{bit_and}
+use Rattle.records.proofs.Numbers.{low_bits, low_bits_not, length_stretch, stretch_at, drop_stretch, number_in, length_numbers_in}
 
 module _ (s : List ℕ) (start len : ℕ) (h : start + len ≤ length s) (letter : ℕ) where
   -- A W of at least two bytes is a type and a name.
@@ -43,11 +39,29 @@ module _ (s : List ℕ) (start len : ℕ) (h : start + len ≤ length s) (letter
     unfolding variable_fault lowest
     variable_short l = rw (length_stretch s start len h, lt-ltb len 2 l)
 
-    pub variable_tests : 2 ≤ len → variable_fault sig before last (field_of s letter start len)
-        ≡ pick (leb variable_limit before) (some 4) (pick (not (ltb (two_at s start) (length sig.types))) (some 5)
-        (pick (bad_name 1 group_name_bytes (stretch s (start + 2) (len - 2))) (some 8) none))
-    unfolding variable_fault lowest
-    variable_tests l = rw (length_stretch s start len h, le-ltb len 2 l, variable_type l, variable_name)
+    -- The other tests of a W, by its type and name.
+    module _ (l : 2 ≤ len) where
+      abbrev unnamed : Bool
+      unnamed = bad_name 1 group_name_bytes (stretch s (start + 2) (len - 2))
+
+      tests : variable_fault sig before last (field_of s letter start len) ≡ pick (leb variable_limit before) (some 4)
+          (pick (not (ltb (two_at s start) (length sig.types))) (some 5) (pick unnamed (some 8) none))
+      unfolding variable_fault lowest
+      tests = rw (length_stretch s start len h, le-ltb len 2 l, variable_type l, variable_name)
+
+      pub variable_many : variable_limit ≤ before → variable_fault sig before last (field_of s letter start len) ≡ some 4
+      variable_many m = tests ∙ rw (le-leb _ _ m)
+
+      module _ (m : before < variable_limit) where
+        pub variable_untyped : length sig.types ≤ two_at s start → variable_fault sig before last (field_of s letter start len) ≡ some 5
+        variable_untyped t = tests ∙ rw (lt-leb _ _ m, le-ltb _ _ t)
+
+        module _ (t : two_at s start < length sig.types) where
+          pub variable_unnamed : unnamed ≡ true → variable_fault sig before last (field_of s letter start len) ≡ some 8
+          variable_unnamed n = tests ∙ rw (lt-leb _ _ m, lt-ltb _ _ t, n)
+
+          pub variable_sound : unnamed ≡ false → variable_fault sig before last (field_of s letter start len) ≡ none
+          variable_sound n = tests ∙ rw (lt-leb _ _ m, lt-ltb _ _ t, n)
 
   -- A B or H of at least three bytes, an odd number, is a kind, a symbol and variables.
   module _ (l : 3 ≤ len) where
@@ -70,24 +84,52 @@ module _ (s : List ℕ) (start len : ℕ) (h : start + len ≤ length s) (letter
     variables_count = ap length variables_are ∙ length_numbers_in s (start + 3) (len - 3) (omega arith)
 
   module _ (sig : Signature) (kinds : List ℕ) (variables before : ℕ) (last : Option Field) where
-    pub statement_even : (len % 2 ≡ 1 → ⊥) → statement_fault sig kinds variables before last (field_of s letter start len) ≡ some 3
+    pub statement_even : (bit_and len 1 ≡ 1 → ⊥) → statement_fault sig kinds variables before last (field_of s letter start len) ≡ some 3
     unfolding statement_fault lowest
-    statement_even q = rw (length_stretch s start len h, ne_eqb _ _ q)
+    statement_even q = rw (length_stretch s start len h, ne_eqb _ _ (low_bits_not len 1 q))
 
-    pub statement_short : len % 2 ≡ 1 → len < 3 → statement_fault sig kinds variables before last (field_of s letter start len) ≡ some 3
+    pub statement_short : bit_and len 1 ≡ 1 → len < 3 → statement_fault sig kinds variables before last (field_of s letter start len) ≡ some 3
     unfolding statement_fault lowest
-    statement_short q l = rw (length_stretch s start len h, eq-eqb _ _ q, lt-ltb len 3 l)
+    statement_short q l = rw (length_stretch s start len h, eq-eqb _ _ (low_bits len 1 q), lt-ltb len 3 l)
 
-    -- What the tests of a statement come to, by its kind and symbol.
-    abbrev pub tested : ℕ → ℕ → Option ℕ
-    tested kind symbol = pick
-        (not (has kind kinds) || not (ltb symbol (symbol_count sig kind)) || not (named variables (numbers (stretch s (start + 3) (len - 3))))) (some 5)
-        (pick (not (eqb ((len - 3) / 2) (arity sig kind symbol)) || (eqb kind member && empty (type_parents sig symbol))) (some 7) none)
+    -- The other tests of a statement, by its kind and symbol.
+    module _ (q : bit_and len 1 ≡ 1) (l : 3 ≤ len) where
+      abbrev kind : ℕ
+      kind = get_or s start 0
 
-    pub statement_tests : len % 2 ≡ 1 → 3 ≤ len
-        → statement_fault sig kinds variables before last (field_of s letter start len) ≡ tested (get_or s start 0) (two_at s (start + 1))
-    unfolding statement_fault lowest bad_columns
-    statement_tests q l = rw (length_stretch s start len h, eq-eqb _ _ q, le-ltb len 3 l, variables_count l, kind_is l, symbol_is l, variables_are l)
+      abbrev symbol : ℕ
+      symbol = two_at s (start + 1)
+
+      abbrev named_all : Bool
+      named_all = named variables (numbers (stretch s (start + 3) (len - 3)))
+
+      statement_by : statement_fault sig kinds variables before last (field_of s letter start len)
+          ≡ pick (not (has kind kinds) || not (ltb symbol (symbol_count sig kind)) || not named_all) (some 5)
+          (pick (columns_differ sig kind symbol ((len - 3) / 2)) (some 7) none)
+      unfolding statement_fault lowest bad_columns
+      statement_by =
+          rw (length_stretch s start len h, eq-eqb _ _ (low_bits len 1 q), le-ltb len 3 l, variables_count l, kind_is l, symbol_is l, variables_are l)
+
+      pub statement_kind : has kind kinds ≡ false → statement_fault sig kinds variables before last (field_of s letter start len) ≡ some 5
+      statement_kind a = statement_by ∙ rw a
+
+      module _ (a : has kind kinds ≡ true) where
+        pub statement_symbol : ltb symbol (symbol_count sig kind) ≡ false
+            → statement_fault sig kinds variables before last (field_of s letter start len) ≡ some 5
+        statement_symbol b = statement_by ∙ rw (a, b)
+
+        module _ (b : ltb symbol (symbol_count sig kind) ≡ true) where
+          pub statement_unnamed : named_all ≡ false → statement_fault sig kinds variables before last (field_of s letter start len) ≡ some 5
+          statement_unnamed n = statement_by ∙ rw (a, b, n)
+
+          module _ (n : named_all ≡ true) where
+            pub statement_arity : columns_differ sig kind symbol ((len - 3) / 2) ≡ true
+                → statement_fault sig kinds variables before last (field_of s letter start len) ≡ some 7
+            statement_arity d = statement_by ∙ rw (a, b, n, d)
+
+            pub statement_sound : columns_differ sig kind symbol ((len - 3) / 2) ≡ false
+                → statement_fault sig kinds variables before last (field_of s letter start len) ≡ none
+            statement_sound d = statement_by ∙ rw (a, b, n, d)
 
 -- 7 for a member: its type has no parents just where it has one column.
 pub one_column : (sig : Signature) (symbol columns : ℕ) → columns ≡ arity sig member symbol → eqb columns 1 ≡ empty (type_parents sig symbol)
@@ -101,52 +143,9 @@ one_column sig symbol columns e = rw e (go (type_parents sig symbol))
         no : (p : ℕ) (ps : List ℕ) → length (p ∷ ps) + 1 ≡ 1 → ⊥
         no p ps q = omega arith
 
--- What is no member is of another kind.
-pub no_member : (rel : Relation) → OneOf (0 ∷ 1 ∷ 3 ∷ 4 ∷ 5 ∷ []) (tag_of the_type rel) → false ≡ eqb (kind_of rel) member
-no_member (Predicate p) o = refl
-no_member (Function f) o = refl
-no_member (Member t) o =
-    ⊎_elim (λ z. absurd (omega arith)) (⊎_elim (λ z. absurd (omega arith)) (⊎_elim (λ z. absurd (omega arith))
-    (⊎_elim (λ z. absurd (omega arith)) (λ z. absurd (omega arith))))) o
-no_member (Equality t) o = refl
-no_member (TypeSet t) o = refl
-no_member (FuncDomain f) o = refl
-
--- The kinds that may stand in a B or an H.
+-- A kind that may stand in a B or an H is one that there is.
 module _ (letter : ℕ) where
-  pub type_set_lem : eqb letter letter_b ≡ has type_set (kinds_of letter)
-  unfolding has any
-  type_set_lem = go (eqb letter letter_b)
-    where
-      go : (t : Bool) → t ≡ has type_set (pick t premise_kinds conclusion_kinds)
-      go true = refl
-      go false = refl
-
-  pub func_domain_lem : not (eqb letter letter_b) ≡ has func_domain (kinds_of letter)
-  unfolding has any
-  func_domain_lem = go (eqb letter letter_b)
-    where
-      go : (t : Bool) → not t ≡ has func_domain (pick t premise_kinds conclusion_kinds)
-      go true = refl
-      go false = refl
-
-  pub low_kind : (kind : ℕ) → kind < type_set → has kind (kinds_of letter) ≡ true
-  unfolding has any
-  low_kind kind h = go (eqb letter letter_b) kind h
-    where
-      go : (t : Bool) (k : ℕ) → k < type_set → has k (pick t premise_kinds conclusion_kinds) ≡ true
-      go true zero h = refl
-      go true (suc zero) h = refl
-      go true (suc (suc zero)) h = refl
-      go true (suc (suc (suc zero))) h = refl
-      go true (suc (suc (suc (suc k)))) h = absurd (omega arith)
-      go false zero h = refl
-      go false (suc zero) h = refl
-      go false (suc (suc zero)) h = refl
-      go false (suc (suc (suc zero))) h = refl
-      go false (suc (suc (suc (suc k)))) h = absurd (omega arith)
-
-  pub high_kind : (kind : ℕ) → func_domain < kind → has kind (kinds_of letter) ≡ false
+  high_kind : (kind : ℕ) → func_domain < kind → has kind (kinds_of letter) ≡ false
   unfolding has any
   high_kind kind h = go (eqb letter letter_b)
     where
@@ -172,3 +171,9 @@ module _ (letter : ℕ) where
       go : Dec (func_domain < kind) → kind ≤ func_domain
       go (yes h) = let q = high_kind kind h in let z : ◌≡◌ {A = ℕ} 0 1 = cc in absurd (omega arith)
       go (no h) = omega arith
+
+-- The tests of a W, and of a B or H.
+pub ruleset variable_tests = (variable_short, variable_many, variable_untyped, variable_unnamed, variable_sound)
+
+pub ruleset statement_tests =
+    (statement_even, statement_short, statement_kind, statement_symbol, statement_unnamed, statement_arity, statement_sound, known_kind, counted)

@@ -21,8 +21,9 @@ use Rattle.records.proofs.Numbers.{length_stretch}
 use Rattle.records.proofs.Index.{got_field, held_store}
 use Rattle.group.specs.Index.{variables_from, index_size, VariableAt}
 use Rattle.group.proofs.Along.{Along, Over, along_start, along_next, along_over, over_front}
-use Rattle.group.specs.Answers.{Section, Variable}
-use Rattle.group.specs.declared.reader.Checked.TheVariants as checked
+use Rattle.records.specs.declared.refusal.Refusal.{Refusal}
+use Rattle.std.proofs.Common.{Err}
+use Rattle.group.specs.Answers.{Section, Variable, counted}
 
 -- A W field without a fault stands behind fewer than the limit, has two bytes, and names a type.
 module _ (sig : Signature) (before : ℕ) (last : Option Field) (f : Field) (e : none ≡ variable_fault sig before last f) where
@@ -90,13 +91,13 @@ listing_start r = record { along = along_start r; held = refl }
 
 module _ {sig : Signature} {s index : List ℕ} {from end : ℕ} {fs : List Field} {at count : ℕ} (w : Listing sig s index from end fs at count) where
   -- The W fields are over.
-  pub listing_over : Stored s index count → Over w.along → Variable (checked.Upto count at) sig s index from end fs
+  pub listing_over : Stored s index count → Over w.along → Variable (counted count at) sig s index from end fs
   listing_over q v = record {
     section = along_over w.along v;
     listed = record { few = q.few; each = q.each; held = w.held ∙ sym (over_front w.along v) };
   }
 
-  pub listing_fault : {n : ℕ} → Section (checked.Refused n) s from end letter_w (variable_fault sig) fs → Variable (checked.Refused n) sig s index from end fs
+  pub listing_fault : {n : Refusal} → Section (Err n) s from end letter_w (variable_fault sig) fs → Variable (Err n) sig s index from end fs
   listing_fault q = record { section = q; listed = tt }
 
   pub listing_next : at < end → {start len next : ℕ} → variables_from + count < length index → field_at s at ≡ got letter_w start len next

@@ -19,9 +19,9 @@ use Rattle.records.specs.Places.{Run, none}
 use Rattle.records.proofs.Runs.{run_end}
 use Rattle.group.specs.Sections.{AtRule, block_fault}
 use Rattle.group.specs.Index.{rules_from, conclusions_from, index_size, rule_at, conclusions_at, rule_end, RuleAt, RuleSound, FirstConclusion, no_block}
-use Rattle.group.specs.Answers.{Rule, RuleRead, rule_of, AllRules, Kept}
-use Rattle.group.specs.declared.reader.Checked.TheVariants as checked
-use Rattle.group.specs.declared.reader.Ruled.TheVariants as ruled
+use Rattle.records.specs.declared.refusal.Refusal.{Refusal}
+use Rattle.std.proofs.Common.{Err}
+use Rattle.group.specs.Answers.{Rule, RuleRead, rule_of, AllRules, Kept, counted, ruled}
 
 -- The faults of the first rule come before those of the others.
 module _ (sig : Signature) (variables before : ℕ) (b : Block) (bs : List Block) where
@@ -49,12 +49,6 @@ entered_start index from l = record {
   few = omega arith;
   kept = record { long = refl; same = λ i h. refl };
   here = get_or-set_same index rules_from from 0 (omega arith);
-}
-
-pub kept_start : {index index' : List ℕ} (from : ℕ) → Kept (set index rules_from from) index' → Kept index index'
-kept_start {index} from k = record {
-  long = k.long ∙ length-set index rules_from from;
-  same = λ i h. k.same i h ∙ get_or-set_other index rules_from i from 0 (λ q. omega arith);
 }
 
 -- One rule more: where its conclusions start, and where it ends.
@@ -174,7 +168,7 @@ begins (f ∷ fs) lt r o = record { head = f; tail = fs; same = refl; run = r; o
 
 module _ {sig : Signature} {variables : ℕ} {s index : List ℕ} {from end : ℕ} {fs : List Field} {at count : ℕ}
     (w : Ruling sig variables s index from end fs at count) where
-  pub ruling_end : count ≤ rule_limit → end ≤ at → AllRules (checked.Upto count at) sig variables s index from fs
+  pub ruling_end : count ≤ rule_limit → end ≤ at → AllRules (counted count at) sig variables s index from fs
   unfolding blocks flat_rules_fault
   ruling_end few h =
       let e = run_end w.run h in
@@ -185,9 +179,9 @@ module _ {sig : Signature} {variables : ℕ} {s index : List ℕ} {from end : �
     here : Begins s at end w.rest
     here = begins w.rest lt w.run w.order
 
-    pub ruling_fault : {n : ℕ}
-        → ((f : Field) (gs : List Field) → Run s at end (f ∷ gs) → AtRule (f ∷ gs) → Rule (ruled.Refused n) sig variables count s at end f gs)
-        → AllRules (checked.Refused n) sig variables s index from fs
+    pub ruling_fault : {n : Refusal}
+        → ((f : Field) (gs : List Field) → Run s at end (f ∷ gs) → AtRule (f ∷ gs) → Rule (Err n) sig variables count s at end f gs)
+        → AllRules (Err n) sig variables s index from fs
     ruling_fault q =
         let b = here in
         record {
@@ -200,7 +194,7 @@ module _ {sig : Signature} {variables : ℕ} {s index : List ℕ} {from end : �
         }
 
     pub ruling_next : {index₀ : List ℕ} {conclusions next : ℕ} → Entered index₀ index at count → count < rule_limit
-        → ((f : Field) (gs : List Field) → Run s at end (f ∷ gs) → AtRule (f ∷ gs) → Rule (ruled.Upto conclusions next) sig variables count s at end f gs)
+        → ((f : Field) (gs : List Field) → Run s at end (f ∷ gs) → AtRule (f ∷ gs) → Rule (ruled conclusions next) sig variables count s at end f gs)
         → Ruling sig variables s (entered index count conclusions next) from end fs next (count + 1)
     ruling_next {index₀} {conclusions} {next} v few q =
         let b = here in

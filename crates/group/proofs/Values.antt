@@ -1,7 +1,7 @@
 -- What the index and the bytes say of an accepted group's variables and rules.
+use mathlib.Core.Bool.{false, Bool, true, ◌&&◌}
 use Prim.Native.Nat.{ℕ, ◌+◌, ◌-◌, ◌*◌, ◌/◌, ◌≤◌, ◌<◌}
 use native.Mathlib.Omega.{arith}
-use mathlib.Core.Bool.{Bool, true, ◌&&◌}
 use mathlib.Core.List.{List, [], ◌∷◌}
 use mathlib.Core.Path.{◌≡◌, refl, sym, ◌∙◌, ap}
 use lib.ListN.{length, get_or, set, take, drop, length-set, drop_of_length-le}
@@ -21,7 +21,7 @@ use Rattle.records.proofs.Parts.{store_more, take_more}
 use Rattle.records.proofs.Runs.{run_within}
 use Rattle.laws.proofs.Numbers.{take_numbers}
 use Rattle.group.specs.Index.{variables_from, premises_at, conclusions_at, rule_end, VariableAt, no_block, Rules}
-use Rattle.group.specs.Lookups.{table, Listed, NameAt, SectionsAt, VariablesAt}
+use Rattle.group.specs.Lookups.{table, Listed, NameAt, SectionsAt}
 use Rattle.group.proofs.Drawn.{variable_type, variable_name}
 
 -- A variable is what the field at its entry says.
@@ -120,16 +120,26 @@ module _ {xs vars : List ℕ} {i n : ℕ} (many : length xs ≡ n) (w : Filling 
 unfoldable pub same_left : List ℕ → ℕ → ℕ → ℕ → ℕ → Bool
 same_left s a b count i = same_variables (table s) (drop i (numbers (stretch s a (2 * count)))) (drop i (numbers (stretch s b (2 * count))))
 
-module _ (s : List ℕ) {variables : ℕ} (a b count : ℕ) (p : VariablesAt s variables a count) (q : VariablesAt s variables b count) where
-  pub same_first : same_left s a b count 0 ≡ same_variables (table s) (numbers (stretch s a (2 * count))) (numbers (stretch s b (2 * count)))
-  unfolding same_left
-  same_first = refl
+pub same_first : (s : List ℕ) (a b count : ℕ)
+    → same_left s a b count 0 ≡ same_variables (table s) (numbers (stretch s a (2 * count))) (numbers (stretch s b (2 * count)))
+unfolding same_left
+same_first s a b count = refl
 
-  pub same_next : (i : ℕ) → i < count → {t : Bool} → t ≡ same_variable (table s) (two_at s (a + 2 * i)) (two_at s (b + 2 * i))
-      → same_left s a b count i ≡ (t && same_left s a b count (i + 1))
-  unfolding same_left same_variables
-  same_next i l e = rw (left_on s a count p.within i l, left_on s b count q.within i l, ← e)
+module _ (s : List ℕ) (a b count : ℕ) (p : a + 2 * count ≤ length s) (q : b + 2 * count ≤ length s) where
+  module _ (i : ℕ) (l : i < count) where
+    same_turn : same_left s a b count i ≡ (same_variable (table s) (two_at s (a + 2 * i)) (two_at s (b + 2 * i)) && same_left s a b count (i + 1))
+    unfolding same_left same_variables
+    same_turn = rw (left_on s a count p i l, left_on s b count q i l)
+
+    pub same_next : same_variable (table s) (two_at s (a + 2 * i)) (two_at s (b + 2 * i)) ≡ true → same_left s a b count i ≡ same_left s a b count (i + 1)
+    same_next e = same_turn ∙ rw e
+
+    pub same_stop : same_variable (table s) (two_at s (a + 2 * i)) (two_at s (b + 2 * i)) ≡ false → same_left s a b count i ≡ false
+    same_stop e = same_turn ∙ rw e
 
   pub same_last : (i : ℕ) → count ≤ i → same_left s a b count i ≡ true
   unfolding same_left same_variables
-  same_last i l = rw (left_end s a count p.within i l, left_end s b count q.within i l)
+  same_last i l = rw (left_end s a count p i l, left_end s b count q i l)
+
+-- The steps of a loop that compares them.
+pub ruleset same_steps = (same_first, same_next, same_stop, same_last)

@@ -28,9 +28,11 @@ use Rattle.records.proofs.Runs.{run_end}
 use Rattle.group.specs.Sections.{leading, trailing, Ordered, AtRule}
 use Rattle.group.specs.Index.{variables_from, Indexed}
 use Rattle.group.specs.declared.reader.Checked.{Checked}
-use Rattle.group.specs.Answers.{number_of, First, Variable, AllRules, Kept}
-use Rattle.group.specs.declared.reader.Checked.TheVariants as checked
-use Rattle.group.proofs.First.{run_nil, refused_as}
+use Rattle.records.specs.Refusals.{number}
+use Rattle.records.specs.declared.refusal.Refusal.{Refusal}
+use Rattle.std.proofs.Common.{Result, Err}
+use Rattle.group.specs.Answers.{First, Variable, AllRules, Kept, counted}
+use Rattle.group.proofs.First.{run_nil}
 use Rattle.group.proofs.Positions.{passed_over}
 use Rattle.group.proofs.Blocks.{or_else_none}
 use Rattle.group.proofs.Ordered.{placed_ordered}
@@ -128,35 +130,36 @@ module _ (sig : Signature) {s : List ℕ} {end : ℕ} {whole : Bool} (p : Parted
   unfolding read_group
   read_is q = rw (le-ltb _ _ short, q)
 
-  drawn : {m : ℕ} → group_fault sig (group_part s).fields ≡ some m → refused m ≡ read_group sig s
+  drawn : (m : Refusal) → group_fault sig (group_part s).fields ≡ some (number m) → refused (number m) ≡ read_group sig s
   unfolding read_part
-  drawn q = read_is q
+  drawn m q = read_is q
 
   -- A fault of the G.
-  pub read_title : {r : Checked} {m n : ℕ} → ((end : ℕ) (f : Field) (fs : List Field) → Run s 0 end (f ∷ fs) → First r s 0 end (title_fault 0 none f) f fs)
-      → r ≡ checked.Refused m → n ≡ number_of r → refused n ≡ read_group sig s
-  read_title t e d = drawn (faults it sig ∙ rw (rw (refused_as e d) at (t end it.head it.tail it.run)).is)
+  pub read_title : {r : Result Checked Refusal} {n : Refusal}
+      → ((end : ℕ) (f : Field) (fs : List Field) → Run s 0 end (f ∷ fs) → First r s 0 end (title_fault 0 none f) f fs)
+      → r ≡ Err n → refused (number n) ≡ read_group sig s
+  read_title t e = drawn _ (faults it sig ∙ rw (rw e at (t end it.head it.tail it.run)).is)
 
   -- What the checks told, and that there was no fault: first that of the G.
-  module _ {r₁ : Checked} (t : (end : ℕ) (f : Field) (fs : List Field) → Run s 0 end (f ∷ fs) → First r₁ s 0 end (title_fault 0 none f) f fs)
-      {c₁ next₁ : ℕ} (told₁ : r₁ ≡ checked.Upto c₁ next₁) where
-    title_checked : First (checked.Upto c₁ next₁) s 0 end (title_fault 0 none it.head) it.head it.tail
+  module _ {r₁ : Result Checked Refusal} (t : (end : ℕ) (f : Field) (fs : List Field) → Run s 0 end (f ∷ fs) → First r₁ s 0 end (title_fault 0 none f) f fs)
+      {c₁ next₁ : ℕ} (told₁ : r₁ ≡ counted c₁ next₁) where
+    title_checked : First (counted c₁ next₁) s 0 end (title_fault 0 none it.head) it.head it.tail
     title_checked = rw told₁ at (t end it.head it.tail it.run)
 
-    abbrev Variables : ℕ → Checked → List ℕ → Type 0
+    abbrev Variables : ℕ → Result Checked Refusal → List ℕ → Type 0
     Variables types r index = (signature : Signature) (fs : List Field) → length signature.types ≡ types → Run s next₁ end fs
         → Variable r signature s index next₁ end fs
 
     -- A fault of a W.
-    pub read_variables : {types : ℕ} → length sig.types ≡ types → {r : Checked} {index : List ℕ} {m n : ℕ} → Variables types r index
-        → r ≡ checked.Refused m → n ≡ number_of r → refused n ≡ read_group sig s
-    read_variables counted v e d = drawn (faults it sig
-        ∙ rw (title_checked.is.0, (rw (refused_as e d) at (v sig it.tail counted title_checked.is.2)).section.is))
+    pub read_variables : {types : ℕ} → length sig.types ≡ types → {r : Result Checked Refusal} {index : List ℕ} {n : Refusal} → Variables types r index
+        → r ≡ Err n → refused (number n) ≡ read_group sig s
+    read_variables types_are v e = drawn _ (faults it sig
+        ∙ rw (title_checked.is.0, (rw e at (v sig it.tail types_are title_checked.is.2)).section.is))
 
-    module _ {types : ℕ} (counted : length sig.types ≡ types) {r₂ : Checked} {index₁ : List ℕ} (v : Variables types r₂ index₁)
-        {variables next₂ : ℕ} (told₂ : r₂ ≡ checked.Upto variables next₂) where
-      variables_checked : Variable (checked.Upto variables next₂) sig s index₁ next₁ end it.tail
-      variables_checked = rw told₂ at (v sig it.tail counted title_checked.is.2)
+    module _ {types : ℕ} (types_are : length sig.types ≡ types) {r₂ : Result Checked Refusal} {index₁ : List ℕ} (v : Variables types r₂ index₁)
+        {variables next₂ : ℕ} (told₂ : r₂ ≡ counted variables next₂) where
+      variables_checked : Variable (counted variables next₂) sig s index₁ next₁ end it.tail
+      variables_checked = rw told₂ at (v sig it.tail types_are title_checked.is.2)
 
       variables_sound : fault_from (variable_fault sig) 0 none (leading letter_w it.tail) ≡ none
       variables_sound = variables_checked.section.is.0
@@ -168,20 +171,20 @@ module _ (sig : Signature) {s : List ℕ} {end : ℕ} {whole : Bool} (p : Parted
       rules_run = variables_checked.section.is.3
 
       -- A fault of a rule.
-      pub read_rules : {r : Checked} {index : List ℕ} {m n : ℕ}
+      pub read_rules : {r : Result Checked Refusal} {index : List ℕ} {n : Refusal}
           → ((fs : List Field) → Run s next₂ end fs → AtRule fs → AllRules r sig variables s index next₂ fs)
-          → r ≡ checked.Refused m → n ≡ number_of r → refused n ≡ read_group sig s
-      read_rules u e d = drawn (faults it sig ∙ rw (
+          → r ≡ Err n → refused (number n) ≡ read_group sig s
+      read_rules u e = drawn _ (faults it sig ∙ rw (
         title_checked.is.0,
         variables_sound,
         variables_counted,
-        (rw (refused_as e d) at (u (trailing letter_w it.tail) rules_run (rules_order it))).is,
+        (rw e at (u (trailing letter_w it.tail) rules_run (rules_order it))).is,
       ))
 
-      module _ {r₃ : Checked} {index₂ : List ℕ}
+      module _ {r₃ : Result Checked Refusal} {index₂ : List ℕ}
           (u : (fs : List Field) → Run s next₂ end fs → AtRule fs → AllRules r₃ sig variables s index₂ next₂ fs)
-          {rules next₃ : ℕ} (told₃ : r₃ ≡ checked.Upto rules next₃) where
-        rules_checked : AllRules (checked.Upto rules next₃) sig variables s index₂ next₂ (trailing letter_w it.tail)
+          {rules next₃ : ℕ} (told₃ : r₃ ≡ counted rules next₃) where
+        rules_checked : AllRules (counted rules next₃) sig variables s index₂ next₂ (trailing letter_w it.tail)
         rules_checked = rw told₃ at (u (trailing letter_w it.tail) rules_run (rules_order it))
 
         faultless : group_fault sig (group_part s).fields ≡ none

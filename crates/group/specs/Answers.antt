@@ -1,7 +1,8 @@
 -- The reader's answers as the definition's.
-use Rattle.std.specs.Prelude.{Bool, not, ◌&&◌, ◌||◌, List, [], ◌∷◌, ◌≡◌, ℕ, zero, suc, ◌+◌, ◌≤◌, ◌<◌, eqb, length, get_or}
+use Rattle.std.specs.Prelude as std
+use Rattle.std.specs.Prelude.{Result, Ok, Err, Some, None, Bool, not, ◌&&◌, ◌||◌, List, [], ◌∷◌, ◌≡◌, ℕ, zero, suc, ◌+◌, ◌≤◌, ◌<◌, eqb, length, get_or}
 use Rattle.std.proofs.Math.Option.{Option, none, some}
-use Rattle.definition.specs.Base.{Outcome, refused, accepted, empty}
+use Rattle.definition.specs.Base.{Outcome, empty}
 use Rattle.definition.specs.Letters.{letter_w, letter_u, letter_b, letter_h, member}
 use Rattle.definition.specs.Limits.{rule_limit}
 use Rattle.definition.specs.Records.{Field, Block, fault_from, with_letter, up_to, blocks}
@@ -12,78 +13,75 @@ use Rattle.records.specs.Places.{two_at, field_at, Run, got}
 use Rattle.records.specs.Held.{field_in}
 use Rattle.group.specs.Sections.{leading, trailing, AtRule, block_fault}
 use Rattle.group.specs.Index.{rules_from, Variables, RuleSound, FirstConclusion, no_block, Rules, Indexed}
+use Rattle.records.specs.Refusals.{number, outcome_by}
+use Rattle.records.specs.declared.fields.Field as read
+use Rattle.records.specs.declared.refusal.Refusal.{Refusal}
+use Rattle.group.specs.declared.ids.GroupCounts.{GroupCounts}
 use Rattle.group.specs.declared.reader.Checked.{Checked}
-use Rattle.group.specs.declared.reader.Checked.TheVariants as checked
 use Rattle.group.specs.declared.reader.Ruled.{Ruled}
-use Rattle.group.specs.declared.reader.Ruled.TheVariants as ruled
-use Rattle.group.specs.declared.reader.Here.{Here}
-use Rattle.group.specs.declared.reader.Here.TheVariants as here
-use Rattle.group.specs.declared.reader.Reading.{Reading}
-use Rattle.group.specs.declared.reader.Reading.TheVariants as reading
 
--- A group read: refused with document 01's number, or accepted with what its fields say. `Usable` ties the two counts to them.
-abbrev pub group_reading : List ℕ → Reading → Outcome Group
-group_reading s (reading.Refused n) = refused n
-group_reading s (reading.Sound variables rules) = accepted (group_of (group_part s).fields)
+-- A group read: refused, or accepted with what its fields say. `Usable` ties the two counts to them.
+abbrev pub group_reading : List ℕ → Result GroupCounts Refusal → Outcome Group
+group_reading s = outcome_by (λ (counts : GroupCounts). group_of (group_part s).fields)
 
 -- What is accepted can be looked up.
-abbrev pub Usable : Signature → List ℕ → List ℕ → Reading → Type 0
-Usable sig s index (reading.Refused n) = Unit
-Usable sig s index (reading.Sound variables rules) = Indexed sig s index variables rules
+abbrev pub Usable : Signature → List ℕ → List ℕ → Result GroupCounts Refusal → Type 0
+Usable sig s index (Err r) = Unit
+Usable sig s index (Ok counts) = Indexed sig s index counts.variables counts.rules
 
--- The number of a refusal.
-abbrev pub number_of : Checked → ℕ
-number_of (checked.Refused n) = n
-number_of (checked.Upto count next) = 0
+-- So many fields of a section, and where the next one starts.
+abbrev pub counted : ℕ → ℕ → Result Checked Refusal
+counted n next = Ok record { count = n; next = next }
 
-abbrev pub rule_number_of : Ruled → ℕ
-rule_number_of (ruled.Refused n) = n
-rule_number_of (ruled.Upto conclusions next) = 0
+-- A rule whose H fields start at a position, and the next rule at another.
+abbrev pub ruled : ℕ → ℕ → Result Ruled Refusal
+ruled conclusions next = Ok record { heads = conclusions; next = next }
 
 -- 7, by the number of columns that a statement has.
 abbrev pub columns_differ : Signature → ℕ → ℕ → ℕ → Bool
 columns_differ sig kind symbol columns = not (eqb columns (arity sig kind symbol)) || (eqb kind member && empty (type_parents sig symbol))
 
 -- A field of a letter stands at a position and lies in the record, or none of that letter stands there.
-abbrev HereAs : Here → List ℕ → ℕ → ℕ → Type 0
-HereAs (here.Field start len next) s at letter = (field_at s at ≡ got letter start len next) × (at < next) × (start + len ≤ length s) × (next ≤ length s)
-HereAs here.Nothing s at letter = (start len next : ℕ) → field_at s at ≡ got letter start len next → ⊥
+abbrev HereAs : std.Option read.Field → List ℕ → ℕ → ℕ → Type 0
+HereAs (Some f) s at letter = (field_at s at ≡ got letter f.start f.len f.next) × (at < f.next) × (f.start + f.len ≤ length s) × (f.next ≤ length s)
+HereAs None s at letter = (start len next : ℕ) → field_at s at ≡ got letter start len next → ⊥
 
-pub record HereAt (r : Here) (s : List ℕ) (at letter : ℕ) : Type 0 where
+pub record HereAt (r : std.Option read.Field) (s : List ℕ) (at letter : ℕ) : Type 0 where
   pub is : HereAs r s at letter
 
 -- Where a section, or a rule, ends: not before its start, and in the record.
-abbrev pub Onward : Checked → ℕ → ℕ → Type 0
-Onward (checked.Refused n) from size = Unit
-Onward (checked.Upto count next) from size = (from ≤ next) × (next ≤ size)
+abbrev pub Onward : Result Checked Refusal → ℕ → ℕ → Type 0
+Onward (Err r) from size = Unit
+Onward (Ok c) from size = (from ≤ c.next) × (c.next ≤ size)
 
-abbrev pub RuleOnward : Ruled → ℕ → ℕ → ℕ → Type 0
-RuleOnward (ruled.Refused n) before from size = Unit
-RuleOnward (ruled.Upto conclusions next) before from size = (before < rule_limit) × (from < next) × (conclusions ≤ next) × (next ≤ size)
+abbrev pub RuleOnward : Result Ruled Refusal → ℕ → ℕ → ℕ → Type 0
+RuleOnward (Err r) before from size = Unit
+RuleOnward (Ok r) before from size = (before < rule_limit) × (from < r.next) × (r.heads ≤ r.next) × (r.next ≤ size)
 
 -- The first field checked: its fault, or what stands behind it.
-abbrev FirstAs : Checked → List ℕ → ℕ → ℕ → Option ℕ → Field → List Field → Type 0
-FirstAs (checked.Refused n) s at end fault f fs = fault ≡ some n
-FirstAs (checked.Upto count next) s at end fault f fs = (fault ≡ none) × Run s at next (f ∷ []) × Run s next end fs
+abbrev FirstAs : Result Checked Refusal → List ℕ → ℕ → ℕ → Option ℕ → Field → List Field → Type 0
+FirstAs (Err r) s at end fault f fs = fault ≡ some (number r)
+FirstAs (Ok c) s at end fault f fs = (fault ≡ none) × Run s at c.next (f ∷ []) × Run s c.next end fs
 
-pub record First (r : Checked) (s : List ℕ) (at end : ℕ) (fault : Option ℕ) (f : Field) (fs : List Field) : Type 0 where
+pub record First (r : Result Checked Refusal) (s : List ℕ) (at end : ℕ) (fault : Option ℕ) (f : Field) (fs : List Field) : Type 0 where
   pub is : FirstAs r s at end fault f fs
 
 -- A section checked: its first fault, or how many fields it has and where they stand.
-abbrev SectionAs : Checked → List ℕ → ℕ → ℕ → ℕ → (ℕ → Option Field → Field → Option ℕ) → List Field → Type 0
-SectionAs (checked.Refused n) s from end letter check fs = fault_from check 0 none (leading letter fs) ≡ some n
-SectionAs (checked.Upto count next) s from end letter check fs = (fault_from check 0 none (leading letter fs) ≡ none)
-    × (length (leading letter fs) ≡ count) × Run s from next (leading letter fs) × Run s next end (trailing letter fs)
+abbrev SectionAs : Result Checked Refusal → List ℕ → ℕ → ℕ → ℕ → (ℕ → Option Field → Field → Option ℕ) → List Field → Type 0
+SectionAs (Err r) s from end letter check fs = fault_from check 0 none (leading letter fs) ≡ some (number r)
+SectionAs (Ok c) s from end letter check fs = (fault_from check 0 none (leading letter fs) ≡ none)
+    × (length (leading letter fs) ≡ c.count) × Run s from c.next (leading letter fs) × Run s c.next end (trailing letter fs)
 
-pub record Section (r : Checked) (s : List ℕ) (from end letter : ℕ) (check : ℕ → Option Field → Field → Option ℕ) (fs : List Field) : Type 0 where
+pub record Section (r : Result Checked Refusal) (s : List ℕ) (from end letter : ℕ) (check : ℕ → Option Field → Field → Option ℕ) (fs : List Field)
+    : Type 0 where
   pub is : SectionAs r s from end letter check fs
 
 -- The W fields checked: the index holds those of the section.
-abbrev Listed : Checked → List ℕ → List ℕ → List Field → Type 0
-Listed (checked.Refused n) s index fs = Unit
-Listed (checked.Upto count next) s index fs = Variables s index count fs
+abbrev Listed : Result Checked Refusal → List ℕ → List ℕ → List Field → Type 0
+Listed (Err r) s index fs = Unit
+Listed (Ok c) s index fs = Variables s index c.count fs
 
-pub record Variable (r : Checked) (sig : Signature) (s index : List ℕ) (from end : ℕ) (fs : List Field) : Type 0 where
+pub record Variable (r : Result Checked Refusal) (sig : Signature) (s index : List ℕ) (from end : ℕ) (fs : List Field) : Type 0 where
   pub section : Section r s from end letter_w (variable_fault sig) fs
   pub listed : Listed r s index (leading letter_w fs)
 
@@ -105,23 +103,23 @@ pub record RuleRead (sig : Signature) (variables : ℕ) (s : List ℕ) (at concl
   pub passed : (r : ℕ) → conclusion_at (suc (suc r)) (f ∷ fs) at ≡ conclusion_at (suc r) rest next
   pub first : (with_letter letter_h (up_to letter_u fs) ≡ [] → ⊥) → conclusion_at (suc zero) (f ∷ fs) at ≡ conclusions
 
-abbrev RuleAs : Ruled → Signature → ℕ → ℕ → List ℕ → ℕ → ℕ → Field → List Field → Type 0
-RuleAs (ruled.Refused n) sig variables before s at end f fs = block_fault sig variables before (rule_of f fs) ≡ some n
-RuleAs (ruled.Upto conclusions next) sig variables before s at end f fs = (block_fault sig variables before (rule_of f fs) ≡ none)
-    × RuleRead sig variables s at conclusions next end f fs
+abbrev RuleAs : Result Ruled Refusal → Signature → ℕ → ℕ → List ℕ → ℕ → ℕ → Field → List Field → Type 0
+RuleAs (Err r) sig variables before s at end f fs = block_fault sig variables before (rule_of f fs) ≡ some (number r)
+RuleAs (Ok r) sig variables before s at end f fs = (block_fault sig variables before (rule_of f fs) ≡ none)
+    × RuleRead sig variables s at r.heads r.next end f fs
 
-pub record Rule (r : Ruled) (sig : Signature) (variables before : ℕ) (s : List ℕ) (at end : ℕ) (f : Field) (fs : List Field) : Type 0 where
+pub record Rule (r : Result Ruled Refusal) (sig : Signature) (variables before : ℕ) (s : List ℕ) (at end : ℕ) (f : Field) (fs : List Field) : Type 0 where
   pub is : RuleAs r sig variables before s at end f fs
 
 -- The rules checked: their first fault, or how many there are, and the index holds them.
-abbrev RulesAs : Checked → Signature → ℕ → List ℕ → List ℕ → ℕ → List Field → Type 0
-RulesAs (checked.Refused n) sig variables s index from fs = flat_rules_fault sig variables 0 (blocks letter_u fs) ≡ some n
-RulesAs (checked.Upto count next) sig variables s index from fs = (flat_rules_fault sig variables 0 (blocks letter_u fs) ≡ none)
-    × Rules s index count (blocks letter_u fs)
-    × ((k : ℕ) → k < count → RuleSound sig variables (get_or (blocks letter_u fs) k no_block))
-    × ((k : ℕ) → k < count → FirstConclusion index fs from k (get_or (blocks letter_u fs) k no_block))
+abbrev RulesAs : Result Checked Refusal → Signature → ℕ → List ℕ → List ℕ → ℕ → List Field → Type 0
+RulesAs (Err r) sig variables s index from fs = flat_rules_fault sig variables 0 (blocks letter_u fs) ≡ some (number r)
+RulesAs (Ok c) sig variables s index from fs = (flat_rules_fault sig variables 0 (blocks letter_u fs) ≡ none)
+    × Rules s index c.count (blocks letter_u fs)
+    × ((k : ℕ) → k < c.count → RuleSound sig variables (get_or (blocks letter_u fs) k no_block))
+    × ((k : ℕ) → k < c.count → FirstConclusion index fs from k (get_or (blocks letter_u fs) k no_block))
 
-pub record AllRules (r : Checked) (sig : Signature) (variables : ℕ) (s index : List ℕ) (from : ℕ) (fs : List Field) : Type 0 where
+pub record AllRules (r : Result Checked Refusal) (sig : Signature) (variables : ℕ) (s index : List ℕ) (from : ℕ) (fs : List Field) : Type 0 where
   pub is : RulesAs r sig variables s index from fs
 
 -- The index has as many entries as it had, and those of the variables are as they were.

@@ -2,6 +2,13 @@
 #[derive(Clone, Copy, PartialEq, Eq, PartialOrd, Ord)]
 pub struct VarId(pub u16);
 
+// How many variables and rules there are.
+#[derive(Clone, Copy)]
+pub struct GroupCounts {
+    pub variables: usize,
+    pub rules: usize,
+}
+
 // The letters of the record.
 pub const LETTER_G: u8 = b'G';
 

@@ -12,7 +12,7 @@ use crate::ids::{
     BEFORE_NAME, BEFORE_VARS, CONCLUSIONS_FROM, FIELD_HEAD, GROUP_INDEX, NAME_AT, RULES_FROM,
     VARIABLES_FROM, VARS_AT, VarId,
 };
-use records::fields::{num, place, two};
+use records::fields::{num, two};
 use records::order::same_bytes;
 use signature::ids::TypeId;
 
@@ -43,22 +43,24 @@ pub struct StatementField {
 }
 
 // The type of a variable.
+#[tactic(auto, using(crate::proofs::Values::type_is))]
 pub fn variable_type(s: &[u8], index: &[u16; GROUP_INDEX], variables: usize, v: VarId) -> TypeId
     requires listed { Listed s.now index.now variables }
     requires v_lt_variables { v.0 < variables }
     ensures { result.0 ≡ (variable_numbered (table s.now) v.0).type }
 {
-    let at = place(index[VARIABLES_FROM + place(v.0)]);
+    let at = usize::from(index[VARIABLES_FROM + usize::from(v.0)]);
     TypeId(num(s, at + FIELD_HEAD))
 }
 
 // Where the name of a variable stands.
+#[tactic(auto, using(crate::proofs::Values::name_is))]
 pub fn variable_name(s: &[u8], index: &[u16; GROUP_INDEX], variables: usize, v: VarId) -> Name
     requires listed { Listed s.now index.now variables }
     requires v_lt_variables { v.0 < variables }
     ensures { NameAt s.now result.start result.len (variable_numbered (table s.now) v.0).name }
 {
-    let at = place(index[VARIABLES_FROM + place(v.0)]);
+    let at = usize::from(index[VARIABLES_FROM + usize::from(v.0)]);
     Name {
         start: at + BEFORE_NAME,
         len: two(s, at + 1) - NAME_AT,
@@ -66,6 +68,7 @@ pub fn variable_name(s: &[u8], index: &[u16; GROUP_INDEX], variables: usize, v: 
 }
 
 // Are two variables the same, by name and type? Their numbers say nothing: `a1` at 2 and `a` at 12 both print `a12`.
+#[tactic(auto, unfolding(definition::specs::Scope::same_variable))]
 pub fn same_variable(
     s: &[u8],
     index: &[u16; GROUP_INDEX],
@@ -77,9 +80,7 @@ pub fn same_variable(
     requires v_lt_variables { (v.0 < variables) × (w.0 < variables) }
     ensures { result ≡ same_variable (table s.now) v.0 w.0 }
 {
-    let t = variable_type(s, index, variables, v);
-    let u = variable_type(s, index, variables, w);
-    if t.0 != u.0 {
+    if variable_type(s, index, variables, v) != variable_type(s, index, variables, w) {
         return false;
     }
     let a = variable_name(s, index, variables, v);
@@ -95,15 +96,16 @@ pub fn rule_sections(s: &[u8], index: &[u16; GROUP_INDEX], rules: usize, k: usiz
         (get_or (blocks letter_u (group_part s.now).fields) k no_block) }
     ensures conclusions_value { result.conclusions ≡ conclusions_at index.now k }
 {
-    let at = place(index[RULES_FROM + k]);
+    let at = usize::from(index[RULES_FROM + k]);
     Sections {
         premises: at + FIELD_HEAD + two(s, at + 1),
-        conclusions: place(index[CONCLUSIONS_FROM + k]),
-        end: place(index[RULES_FROM + k + 1]),
+        conclusions: usize::from(index[CONCLUSIONS_FROM + k]),
+        end: usize::from(index[RULES_FROM + k + 1]),
     }
 }
 
 // The B or H field at a position.
+#[tactic(auto, using(crate::proofs::View::reads))]
 pub fn read_statement(s: &[u8], at: usize) -> StatementField
     requires { StatementAt s.now at }
     ensures { Reads s.now at result }
@@ -119,6 +121,7 @@ pub fn read_statement(s: &[u8], at: usize) -> StatementField
 }
 
 // Are the variables at two positions the same, so many of each?
+#[tactic(auto, using(crate::proofs::Values::same_steps))]
 pub fn same_variables(
     s: &[u8],
     index: &[u16; GROUP_INDEX],
@@ -133,14 +136,12 @@ pub fn same_variables(
     ensures { result ≡ same_variables (table s.now)
         (numbers (stretch s.now a (2 * count))) (numbers (stretch s.now b (2 * count))) }
 {
-    let mut i: usize = 0;
-    while i < count {
+    for i in 0..count {
         let v = VarId(num(s, a + 2 * i));
         let w = VarId(num(s, b + 2 * i));
         if !same_variable(s, index, variables, v, w) {
             return false;
         }
-        i += 1;
     }
     true
 }

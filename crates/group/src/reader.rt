@@ -13,8 +13,6 @@ ghost use Rattle.group.specs.Index.{index_size};
 ghost use Rattle.group.specs.Answers.{
   group_reading,
   Usable,
-  number_of,
-  rule_number_of,
   HereAt,
   Onward,
   RuleOnward,
@@ -28,99 +26,54 @@ ghost use Rattle.group.specs.Answers.{
 
 use crate::faults::{rule_fault, statement_fault, title_fault, variable_fault};
 use crate::ids::{
-    CONCLUSIONS_FROM, GROUP_BYTES, GROUP_INDEX, LETTER_B, LETTER_G, LETTER_H, LETTER_U, LETTER_W,
-    RULES_FROM, VARIABLES_FROM,
+    CONCLUSIONS_FROM, GROUP_BYTES, GROUP_INDEX, GroupCounts, LETTER_B, LETTER_G, LETTER_H,
+    LETTER_U, LETTER_W, RULES_FROM, VARIABLES_FROM,
 };
 use records::fields::{Field, read_field};
-use signature::faults::{Fault, drawn};
+use records::refusal::Refusal;
 use signature::ids::{Counts, INDEX, START};
-
-#[derive(Clone, Copy)]
-pub enum Reading {
-    Sound { variables: usize, rules: usize },
-    Refused(u8),
-}
 
 // Where the part before the first field that draws 2 ends, and whether it is the whole record.
 #[derive(Clone, Copy)]
-pub struct Passed {
-    pub end: usize,
-    pub whole: bool,
+struct Passed {
+    end: usize,
+    whole: bool,
 }
 
-// A field of the letter that is asked for: its content and where the next one starts.
+// A section of the fields: how many there are and where the next one starts.
 #[derive(Clone, Copy)]
-pub enum Here {
-    Field {
-        start: usize,
-        len: usize,
-        next: usize,
-    },
-    Nothing,
+struct Checked {
+    count: usize,
+    next: usize,
 }
 
-// A section of the fields: how many there are and where the next one starts, or the first fault.
+// A rule: where its H fields (its heads) start and where the next rule does.
 #[derive(Clone, Copy)]
-pub enum Checked {
-    Upto { count: usize, next: usize },
-    Refused(u8),
-}
-
-// A rule: where its H fields (its heads) start and where the next rule does, or the first fault.
-#[derive(Clone, Copy)]
-pub enum Ruled {
-    Upto { heads: usize, next: usize },
-    Refused(u8),
+struct Ruled {
+    heads: usize,
+    next: usize,
 }
 
 // May a field of a letter stand directly behind one of another?
+#[tactic(auto, unfolding(definition::specs::Records::follows, definition::specs::Base::any, definition::specs::Base::has))]
 fn may_follow(behind: u8, letter: u8) -> bool
     ensures { result ≡ follows group_grammar.places behind letter }
 {
     match letter {
-        LETTER_G => match behind {
-            START => true,
-            _ => false,
-        },
-        LETTER_W => match behind {
-            LETTER_G | LETTER_W => true,
-            _ => false,
-        },
-        LETTER_U => match behind {
-            LETTER_G | LETTER_W => true,
-            LETTER_U | LETTER_B | LETTER_H => true,
-            _ => false,
-        },
-        LETTER_B => match behind {
-            LETTER_U | LETTER_B => true,
-            _ => false,
-        },
-        LETTER_H => match behind {
-            LETTER_U | LETTER_B | LETTER_H => true,
-            _ => false,
-        },
+        LETTER_G => behind == START,
+        LETTER_W => matches!(behind, LETTER_G | LETTER_W),
+        LETTER_U => matches!(behind, LETTER_G | LETTER_W | LETTER_U | LETTER_B | LETTER_H),
+        LETTER_B => matches!(behind, LETTER_U | LETTER_B),
+        LETTER_H => matches!(behind, LETTER_U | LETTER_B | LETTER_H),
         _ => false,
     }
 }
 
 // The field of a letter that stands at a position, if one does.
-fn field_here(s: &[u8], at: usize, letter: u8) -> Here
+fn field_here(s: &[u8], at: usize, letter: u8) -> Option<Field>
     ensures { HereAt result s.now at letter }
 {
-    let f = read_field(s, at);
-    let Field::Got {
-        letter: l,
-        start,
-        len,
-        next,
-    } = f
-    else {
-        return Here::Nothing;
-    };
-    if l != letter {
-        return Here::Nothing;
-    }
-    Here::Field { start, len, next }
+    read_field(s, at).filter(|f| f.letter == letter)
 }
 
 // The pass along the letters.
@@ -130,8 +83,7 @@ fn pass(s: &[u8]) -> Passed
     let mut at: usize = 0;
     let mut behind = START;
     while at < s.len() {
-        let f = read_field(s, at);
-        let Field::Got { letter, next, .. } = f else {
+        let Some(Field { letter, next, .. }) = read_field(s, at) else {
             return Passed {
                 end: at,
                 whole: false,
@@ -154,26 +106,17 @@ fn pass(s: &[u8]) -> Passed
 }
 
 // The G field, which is the first. The pass has read every field of the part, so here and below none is found bad.
-fn title(s: &[u8]) -> Checked
+fn title(s: &[u8]) -> Result<Checked, Refusal>
     ensures by_index { (end : ℕ) (f : definition.Field) (fs : List definition.Field)
         → Run s.now 0 end (f ∷ fs) → First result s.now 0 end (title_fault 0 none f) f fs }
     ensures onward { Onward result 0 (length s.now) }
 {
-    let f = read_field(s, 0);
-    let Field::Got {
-        letter: _,
-        start,
-        len,
-        next,
-    } = f
-    else {
-        return Checked::Refused(2);
-    };
-    let fault = title_fault(s, start, len);
-    let Fault::Sound = fault else {
-        return Checked::Refused(drawn(fault));
-    };
-    Checked::Upto { count: 1, next }
+    let f = read_field(s, 0).ok_or(Refusal::BadFields)?;
+    title_fault(s, f.start, f.len)?;
+    Ok(Checked {
+        count: 1,
+        next: f.next,
+    })
 }
 
 // The W fields; their positions go into the index.
@@ -183,7 +126,7 @@ fn variables(
     end: usize,
     types: usize,
     index: &mut [u16; GROUP_INDEX],
-) -> Checked
+) -> Result<Checked, Refusal>
     requires from_in_bounds { (from ≤ length s.now) × (length s.now ≤ group_bytes) }
     requires index_len { length index.old ≡ index_size }
     ensures variable { (signature : Signature) (fs : List definition.Field)
@@ -195,18 +138,15 @@ fn variables(
     let mut at = from;
     let mut count: usize = 0;
     while at < end {
-        let Here::Field { start, len, next } = field_here(s, at, LETTER_W) else {
-            return Checked::Upto { count, next: at };
+        let Some(f) = field_here(s, at, LETTER_W) else {
+            break;
         };
-        let fault = variable_fault(s, start, len, types, count);
-        let Fault::Sound = fault else {
-            return Checked::Refused(drawn(fault));
-        };
+        variable_fault(s, f.start, f.len, types, count)?;
         index[VARIABLES_FROM + count] = at as u16;
         count += 1;
-        at = next;
+        at = f.next;
     }
-    Checked::Upto { count, next: at }
+    Ok(Checked { count, next: at })
 }
 
 // The B or the H fields of a rule, which start at a position.
@@ -219,7 +159,7 @@ fn statements(
     end: usize,
     letter: u8,
     variables: usize,
-) -> Checked
+) -> Result<Checked, Refusal>
     requires indexed { Indexed sig.now symbols.now counts }
     requires from_in_bounds { from ≤ length s.now }
     ensures section { (fs : List definition.Field) → Run s.now from end fs
@@ -230,17 +170,14 @@ fn statements(
     let mut at = from;
     let mut count: usize = 0;
     while at < end {
-        let Here::Field { start, len, next } = field_here(s, at, letter) else {
-            return Checked::Upto { count, next: at };
+        let Some(f) = field_here(s, at, letter) else {
+            break;
         };
-        let fault = statement_fault(sig, symbols, counts, s, letter, start, len, variables);
-        let Fault::Sound = fault else {
-            return Checked::Refused(drawn(fault));
-        };
+        statement_fault(sig, symbols, counts, s, letter, f.start, f.len, variables)?;
         count += 1;
-        at = next;
+        at = f.next;
     }
-    Checked::Upto { count, next: at }
+    Ok(Checked { count, next: at })
 }
 
 // A rule from its U field on.
@@ -253,45 +190,20 @@ fn rule(
     end: usize,
     variables: usize,
     before: usize,
-) -> Ruled
+) -> Result<Ruled, Refusal>
     requires { Indexed sig.now symbols.now counts }
     ensures rule { (f : definition.Field) (fs : List definition.Field) → Run s.now at end (f ∷ fs) → AtRule (f ∷ fs)
         → Rule result (signature_at sig.now symbols.now counts) variables before s.now at end f fs }
     ensures rule_onward { RuleOnward result before at (length s.now) }
 {
-    let f = read_field(s, at);
-    let Field::Got {
-        letter: _,
-        start,
-        len,
-        next,
-    } = f
-    else {
-        return Ruled::Refused(2);
-    };
-    let fault = rule_fault(s, start, len, before);
-    let Fault::Sound = fault else {
-        return Ruled::Refused(drawn(fault));
-    };
-    let b = statements(sig, symbols, counts, s, next, end, LETTER_B, variables);
-    let Checked::Upto { next: heads, .. } = b else {
-        return Ruled::Refused(number(b));
-    };
-    let h = statements(sig, symbols, counts, s, heads, end, LETTER_H, variables);
-    let Checked::Upto { next, .. } = h else {
-        return Ruled::Refused(number(h));
-    };
-    Ruled::Upto { heads, next }
-}
-
-// The number of a rule's refusal.
-fn rule_number(r: Ruled) -> u8
-    ensures { result ≡ rule_number_of r }
-{
-    match r {
-        Ruled::Refused(n) => n,
-        Ruled::Upto { .. } => 0,
-    }
+    let f = read_field(s, at).ok_or(Refusal::BadFields)?;
+    rule_fault(s, f.start, f.len, before)?;
+    let b = statements(sig, symbols, counts, s, f.next, end, LETTER_B, variables)?;
+    let h = statements(sig, symbols, counts, s, b.next, end, LETTER_H, variables)?;
+    Ok(Ruled {
+        heads: b.next,
+        next: h.next,
+    })
 }
 
 // The rules. Each entry of the index ends the rule before it, the first one what stands before the rules.
@@ -304,7 +216,7 @@ fn rules(
     end: usize,
     variables: usize,
     index: &mut [u16; GROUP_INDEX],
-) -> Checked
+) -> Result<Checked, Refusal>
     requires indexed { Indexed sig.now symbols.now counts }
     requires from_in_bounds { (from ≤ length s.now) × (length s.now ≤ group_bytes) }
     requires index_len { length index.old ≡ index_size }
@@ -317,26 +229,13 @@ fn rules(
     let mut count: usize = 0;
     index[RULES_FROM] = from as u16;
     while at < end {
-        let r = rule(sig, symbols, counts, s, at, end, variables, count);
-        let Ruled::Upto { heads, next } = r else {
-            return Checked::Refused(rule_number(r));
-        };
-        index[CONCLUSIONS_FROM + count] = heads as u16;
-        index[RULES_FROM + count + 1] = next as u16;
+        let r = rule(sig, symbols, counts, s, at, end, variables, count)?;
+        index[CONCLUSIONS_FROM + count] = r.heads as u16;
+        index[RULES_FROM + count + 1] = r.next as u16;
         count += 1;
-        at = next;
+        at = r.next;
     }
-    Checked::Upto { count, next: at }
-}
-
-// The number of a refusal.
-fn number(c: Checked) -> u8
-    ensures { result ≡ number_of c }
-{
-    match c {
-        Checked::Refused(n) => n,
-        Checked::Upto { .. } => 0,
-    }
+    Ok(Checked { count, next: at })
 }
 
 // The group's answer; where it is accepted, the index holds the positions of its fields.
@@ -348,7 +247,7 @@ pub fn read_group(
     counts: Counts,
     s: &[u8],
     index: &mut [u16; GROUP_INDEX],
-) -> Reading
+) -> Result<GroupCounts, Refusal>
     requires indexed { Indexed sig.now symbols.now counts }
     requires index_len { length index.old ≡ index_size }
     ensures result_value { group_reading s.now result
@@ -357,29 +256,20 @@ pub fn read_group(
     ensures index_len_unchanged { length index.new ≡ length index.old }
 {
     if GROUP_BYTES < s.len() {
-        return Reading::Refused(1);
+        return Err(Refusal::TooLong);
     }
     let p = pass(s);
     if p.end == 0 {
-        return Reading::Refused(2);
+        return Err(Refusal::BadFields);
     }
-    let g = title(s);
-    let Checked::Upto { next: first, .. } = g else {
-        return Reading::Refused(number(g));
-    };
-    let w = variables(s, first, p.end, counts.types, index);
-    let Checked::Upto { count: vars, next } = w else {
-        return Reading::Refused(number(w));
-    };
-    let u = rules(sig, symbols, counts, s, next, p.end, vars, index);
-    let Checked::Upto { count: rules, .. } = u else {
-        return Reading::Refused(number(u));
-    };
+    let g = title(s)?;
+    let w = variables(s, g.next, p.end, counts.types, index)?;
+    let u = rules(sig, symbols, counts, s, w.next, p.end, w.count, index)?;
     if !p.whole {
-        return Reading::Refused(2);
+        return Err(Refusal::BadFields);
     }
-    Reading::Sound {
-        variables: vars,
-        rules,
-    }
+    Ok(GroupCounts {
+        variables: w.count,
+        rules: u.count,
+    })
 }

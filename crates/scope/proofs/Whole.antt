@@ -11,26 +11,23 @@ use Rattle.definition.specs.Records.{Field, Block, blocks}
 use Rattle.definition.specs.Signature.{Signature, read_signature}
 use Rattle.definition.specs.Group.{FlatRule, Group, flat_rule_of, group_of, group_part, read_group}
 use Rattle.definition.specs.Scope as definition
-use Rattle.definition.specs.Scope.{conclusion_scope, infer_scope, scope_of, owners_at, owners_part, owners_of}
+use Rattle.definition.specs.Scope.{model, conclusion_scope, infer_scope, scope_of, owners_at, owners_part, owners_of}
 use Rattle.records.specs.Places.{Run, none, more}
-use Rattle.signature.specs.Index as signature_index
 use Rattle.signature.specs.Index.{signature_at}
-use Rattle.signature.specs.Answers as signature_answers
-use Rattle.signature.specs.Answers.{signature_reading, refusal_number}
+use Rattle.signature.specs.Answers.{signature_reading}
 use Rattle.signature.specs.declared.ids.Counts.{Counts}
-use Rattle.signature.specs.declared.reader.Reading as read_signature
-use Rattle.signature.specs.declared.reader.Reading.TheVariants as signature
 use Rattle.group.specs.Index.{conclusions_at, no_block, Indexed}
 use Rattle.group.specs.Answers.{group_reading, Usable}
 use Rattle.group.specs.Lookups.{table, SectionsAt}
 use Rattle.group.specs.declared.lookup.Sections.{Sections}
-use Rattle.group.specs.declared.reader.Reading as read_group
-use Rattle.group.specs.declared.reader.Reading.TheVariants as group
+use Rattle.group.specs.declared.ids.GroupCounts.{GroupCounts}
+use Rattle.records.specs.Refusals.{number}
+use Rattle.records.specs.declared.refusal.Refusal.{Refusal}
+use Rattle.std.proofs.Common as std
+use Rattle.std.proofs.Common.{Some, None, Result, Ok, Err}
 use Rattle.group.proofs.Values.{rules_length, rule_is, numbers_count}
-use Rattle.scope.specs.Answers.{scope_answer, OwnersStand, OwnersFrom, group_number}
-use Rattle.scope.specs.declared.answers.Scope.{Scope}
-use Rattle.scope.specs.declared.answers.Scope.TheVariants.{Global, Model, Refused}
-use Rattle.signature.specs.declared.ids.TypeId.{TypeId}
+use Rattle.scope.specs.Answers.{scope_answer, OwnersStand, OwnersFrom}
+use Rattle.scope.specs.declared.answers.Owned.{Owned}
 
 -- The rule at a position, if there is one.
 module _ (sig : Signature) (g : Group) where
@@ -56,21 +53,21 @@ some_field : {s : List ℕ} {at end : ℕ} {fs : List Field} → Run s at end fs
 some_field none h q = absurd (omega arith)
 some_field (more e r) h q = let z : ◌≡◌ {A = ℕ} 0 1 = cc in absurd (omega arith)
 
-module _ (bytes symbols group_bytes : List ℕ) (position : ℕ) {a : read_signature.Reading} (e : signature_reading bytes symbols a ≡ read_signature bytes) where
+module _ (bytes symbols group_bytes : List ℕ) (position : ℕ) {a : Result Counts Refusal} (e : signature_reading bytes symbols a ≡ read_signature bytes) where
   -- The signature was refused.
-  pub signature_refused : {n : ℕ} → a ≡ signature.Refused n → refused (refusal_number a) ≡ scope_of bytes group_bytes position
+  pub signature_refused : {r : Refusal} → a ≡ Err r → refused (number r) ≡ scope_of bytes group_bytes position
   unfolding scope_of
   signature_refused q = rw (← e, q)
 
-  module _ {counts : Counts} (p : a ≡ signature.Sound counts) {b : read_group.Reading}
+  module _ {counts : Counts} (p : a ≡ Ok counts) {b : Result GroupCounts Refusal}
       (f : group_reading group_bytes b ≡ read_group (signature_at bytes symbols counts) group_bytes) where
     -- The group was refused.
-    pub group_refused : {n : ℕ} → b ≡ group.Refused n → refused (group_number b) ≡ scope_of bytes group_bytes position
+    pub group_refused : {r : Refusal} → b ≡ Err r → refused (number r) ≡ scope_of bytes group_bytes position
     unfolding scope_of
     group_refused q = rw (← e, p, ← f, q)
 
-    module _ {variables rules : ℕ} (q : b ≡ group.Sound variables rules) {index : List ℕ}
-        (w : Indexed (signature_at bytes symbols counts) group_bytes index variables rules) where
+    module _ {found : GroupCounts} (q : b ≡ Ok found) {index : List ℕ}
+        (w : Indexed (signature_at bytes symbols counts) group_bytes index found.variables found.rules) where
       here : scope_of bytes group_bytes position
           ≡ infer_scope (signature_at bytes symbols counts) (group_of (group_part group_bytes).fields)
           (get_elem? (group_of (group_part group_bytes).fields).rules position)
@@ -78,10 +75,10 @@ module _ (bytes symbols group_bytes : List ℕ) (position : ℕ) {a : read_signa
       here = rw (← e, p, ← f, q)
 
       -- There is no rule at the position, or there is one.
-      pub no_rule : rules ≤ position → refused 41 ≡ scope_of bytes group_bytes position
+      pub no_rule : found.rules ≤ position → refused 41 ≡ scope_of bytes group_bytes position
       no_rule h = sym (here ∙ infer_none _ _ (group_of (group_part group_bytes).fields).rules position (rw (rules_length w.rule) h))
 
-      pub rule_answer : position < rules → {answer : Outcome definition.Scope}
+      pub rule_answer : position < found.rules → {answer : Outcome definition.Scope}
           → answer ≡ conclusion_scope (signature_at bytes symbols counts) (table group_bytes) (flat_rule_of (block_at group_bytes position))
           (flat_rule_of (block_at group_bytes position)).conclusion
           → answer ≡ scope_of bytes group_bytes position
@@ -91,41 +88,23 @@ module _ (bytes symbols group_bytes : List ℕ) (position : ℕ) {a : read_signa
           k ∙ sym (here ∙ infer_at _ _ (group_of (group_part group_bytes).fields).rules position d l ∙ rw (rule_is w.rule position d h))
 
 -- What was accepted can be looked up.
-pub usable_signature : {s index : List ℕ} {a : read_signature.Reading} {counts : Counts} → a ≡ signature.Sound counts → signature_answers.Usable s index a
-    → signature_index.Indexed s index counts
-usable_signature e u = rw e at u
-
-pub usable_group : {sig : Signature} {s index : List ℕ} {b : read_group.Reading} {variables rules : ℕ} → b ≡ group.Sound variables rules
-    → Usable sig s index b → Indexed sig s index variables rules
+pub usable_group : {sig : Signature} {s index : List ℕ} {b : Result GroupCounts Refusal} {found : GroupCounts} → b ≡ Ok found
+    → Usable sig s index b → Indexed sig s index found.variables found.rules
 usable_group e u = rw e at u
 
 module _ {sig : Signature} {s index : List ℕ} {variables rules : ℕ} (w : Indexed sig s index variables rules) {k : ℕ} (h : k < rules) {rule : Sections}
     (v : SectionsAt s rule.premises rule.conclusions rule.end (block_at s k)) where
   -- Its owners stand in the first conclusion.
-  pub owners_stand : rule.conclusions ≡ conclusions_at index k → (r : Scope) → OwnersFrom r rule.conclusions rule.end (length s) → OwnersStand s k r
+  pub owners_stand : rule.conclusions ≡ conclusions_at index k → (r : Result (std.Option Owned) Refusal)
+      → OwnersFrom r rule.conclusions rule.end (length s) → OwnersStand s k r
   unfolding owners_at
-  owners_stand c Global o = tt
-  owners_stand c (Refused n) o = tt
-  owners_stand c (Model m start count) o = (o.1 ∙ rw (c ∙ sym (w.first k h (some_field v.conclusion o.0))), o.2)
+  owners_stand c (Err r) o = tt
+  owners_stand c (Ok None) o = tt
+  owners_stand c (Ok (Some own)) o = (o.1 ∙ rw (c ∙ sym (w.first k h (some_field v.conclusion o.0))), o.2)
 
 -- The owners' part of the group.
-module _ (bytes group_bytes : List ℕ) (position : ℕ) (r : Scope) (e : scope_answer group_bytes r ≡ scope_of bytes group_bytes position) where
-  pub no_owners : ((m : TypeId) (start count : ℕ) → r ≡ Model m start count → ⊥) → [] ≡ owners_of bytes group_bytes position
-  unfolding owners_of owners_part
-  no_owners n = rw (← e) (go r n)
-    where
-      go : (r : Scope) → ((m : TypeId) (start count : ℕ) → r ≡ Model m start count → ⊥) → [] ≡ owners_part group_bytes position (scope_answer group_bytes r)
-      go Global n = refl
-      go (Refused k) n = refl
-      go (Model m start count) n = absurd (n m start count refl)
-
-  module _ {m : TypeId} {start count : ℕ} (q : r ≡ Model m start count) (o : OwnersStand group_bytes position r) where
-    standing : (start ≡ owners_at group_bytes position) × (start + 2 * count ≤ length group_bytes)
-    standing = rw q at o
-
-    pub owners_within : start + 2 * count ≤ length group_bytes
-    owners_within = standing.1
-
-    pub owners_are : take (start + 2 * count - start) (drop start group_bytes) ≡ owners_of bytes group_bytes position
-    unfolding owners_of owners_part
-    owners_are = rw (← e, q, numbers_count group_bytes start count standing.1, ← standing.0, add-sub_cancel_left)
+pub owners_are : (bytes group_bytes : List ℕ) (position : ℕ) (own : Owned)
+    → scope_answer group_bytes (Ok (Some own)) ≡ scope_of bytes group_bytes position → OwnersStand group_bytes position (Ok (Some own))
+    → take (own.start + 2 * own.count - own.start) (drop own.start group_bytes) ≡ owners_of bytes group_bytes position
+unfolding owners_of owners_part
+owners_are bytes group_bytes position own e o = rw (← e, numbers_count group_bytes own.start own.count o.1, ← o.0, add-sub_cancel_left)

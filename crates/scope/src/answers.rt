@@ -1,19 +1,8 @@
 // What scope answers, and what a statement settles on the way to it.
 use signature::ids::TypeId;
 
-// A rule belongs to no model, or to a model by its owners: `count` variables of two bytes each, from `start` on in the group.
-#[derive(Clone, Copy)]
-pub enum Scope {
-    Global,
-    Model {
-        model: TypeId,
-        start: usize,
-        count: usize,
-    },
-    Refused(u8),
-}
-
-// The model and owners of the first conclusion, with which the others are compared.
+// A model and a rule's owners: `count` variables of two bytes each, from `start` on in the group. The first conclusion has them, and
+// the other statements are compared with it.
 #[derive(Clone, Copy)]
 pub struct Owned {
     pub model: TypeId,
@@ -28,10 +17,9 @@ pub enum Side {
     Conclusions,
 }
 
-// A statement leaves the scope open, or settles it.
-#[derive(Clone, Copy)]
+// A statement leaves the scope open, or settles that the rule belongs to no model.
+#[derive(Clone, Copy, Debug, PartialEq, Eq)]
 pub enum Verdict {
     Open,
     Global,
-    Refused(u8),
 }

@@ -8,25 +8,14 @@ ghost use Rattle.signature.specs.Index.{signature_at, Indexed};
 ghost use Rattle.group.specs.Lookups.{table, Listed, statement_from, statements_in, RuleStands, RuleSays};
 ghost use Rattle.scope.specs.Statements.{Sound, owners_in, OwnedAt};
 ghost use Rattle.scope.specs.Sides.{begin_of, end_of, verdict_at, first_verdict};
-ghost use Rattle.scope.specs.Answers.{verdict_of, leaves_open, scope_answer, settled_as, Leads, OwnersFrom};
+ghost use Rattle.scope.specs.Answers.{verdict_of, scope_answer, Leads, OwnersFrom};
 
-use crate::answers::{Owned, Scope, Side, Verdict};
+use crate::answers::{Owned, Side, Verdict};
 use crate::verdicts::{owner_count, statement_model, statement_verdict, too_few};
 use group::ids::GROUP_INDEX;
 use group::lookup::{Sections, StatementField, read_statement};
+use records::refusal::Refusal;
 use signature::ids::{Counts, INDEX};
-use signature::lookup::ParentModel;
-
-// Does a verdict leave the scope open?
-fn is_open(v: Verdict) -> bool
-    ensures { result ≡ leaves_open v }
-{
-    match v {
-        Verdict::Open => true,
-        Verdict::Global => false,
-        Verdict::Refused(_) => false,
-    }
-}
 
 // Where a section of a rule stands.
 #[derive(Clone, Copy)]
@@ -35,6 +24,7 @@ struct Part {
     end: usize,
 }
 
+#[tactic(auto, unfolding(crate::specs::Sides::begin_of, crate::specs::Sides::end_of))]
 fn part_of(rule: Sections, side: Side) -> Part
     ensures { (result.from ≡ begin_of rule side) × (result.end ≡ end_of rule side) }
 {
@@ -61,7 +51,7 @@ fn section_verdict(
     own: Owned,
     rule: Sections,
     side: Side,
-) -> Verdict
+) -> Result<Verdict, Refusal>
     requires indexed { Indexed sig.now symbols.now counts }
     requires listed { Listed s.now index.now variables }
     requires owned_at { OwnedAt (signature_at sig.now symbols.now counts) counts.types variables s.now own }
@@ -75,13 +65,13 @@ fn section_verdict(
     let mut at = part.from;
     while at < part.end {
         let t = read_statement(s, at);
-        let v = statement_verdict(sig, symbols, counts, s, index, variables, own, side, t);
-        if !is_open(v) {
-            return v;
+        let v = statement_verdict(sig, symbols, counts, s, index, variables, own, side, t)?;
+        if v != Verdict::Open {
+            return Ok(v);
         }
         at = t.next;
     }
-    Verdict::Open
+    Ok(Verdict::Open)
 }
 
 // The first verdict of a rule: its conclusions', then its premises'.
@@ -94,7 +84,7 @@ fn rule_verdict(
     variables: usize,
     own: Owned,
     rule: Sections,
-) -> Verdict
+) -> Result<Verdict, Refusal>
     requires indexed { Indexed sig.now symbols.now counts }
     requires listed { Listed s.now index.now variables }
     requires owned_at { OwnedAt (signature_at sig.now symbols.now counts) counts.types variables s.now own }
@@ -104,31 +94,16 @@ fn rule_verdict(
         own.model.0 (owners_in s.now own) }
 {
     let first = Side::Conclusions;
-    let v = section_verdict(sig, symbols, counts, s, index, variables, own, rule, first);
-    if !is_open(v) {
-        return v;
+    let v = section_verdict(sig, symbols, counts, s, index, variables, own, rule, first)?;
+    if v != Verdict::Open {
+        return Ok(v);
     }
     let second = Side::Premises;
     section_verdict(sig, symbols, counts, s, index, variables, own, rule, second)
 }
 
-// The scope of a rule by its verdict: the owners' model, if that is left open.
-fn settled(v: Verdict, own: Owned) -> Scope
-    ensures { result ≡ settled_as own v }
-{
-    let model = own.model;
-    match v {
-        Verdict::Open => Scope::Model {
-            model,
-            start: own.start,
-            count: own.count,
-        },
-        Verdict::Global => Scope::Global,
-        Verdict::Refused(n) => Scope::Refused(n),
-    }
-}
-
 // The scope of a rule by its first conclusion.
+#[tactic(auto, using(crate::proofs::InOrder::output_steps))]
 fn output_scope(
     sig: &[u8],
     symbols: &[u16; INDEX],
@@ -138,7 +113,7 @@ fn output_scope(
     variables: usize,
     rule: Sections,
     t: StatementField,
-) -> Scope
+) -> Result<Option<Owned>, Refusal>
     requires indexed { Indexed sig.now symbols.now counts }
     requires listed { Listed s.now index.now variables }
     requires rule_stands { RuleStands (signature_at sig.now symbols.now counts) variables s.now rule }
@@ -148,21 +123,22 @@ fn output_scope(
         (parent_model (signature_at sig.now symbols.now counts) t.kind t.symbol) }
     ensures leads { Leads result t.start (length s.now) }
 {
-    let p = statement_model(sig, symbols, counts, t);
-    let ParentModel::Model(model) = p else {
-        return Scope::Global;
+    let Some(model) = statement_model(sig, symbols, counts, t) else {
+        return Ok(None);
     };
     let count = owner_count(sig, symbols, counts, model);
     if too_few(t, count) {
-        return Scope::Refused(43);
+        return Err(Refusal::TooFewVariables);
     }
     let own = Owned {
         model,
         start: t.start,
         count,
     };
-    let v = rule_verdict(sig, symbols, counts, s, index, variables, own, rule);
-    settled(v, own)
+    match rule_verdict(sig, symbols, counts, s, index, variables, own, rule)? {
+        Verdict::Open => Ok(Some(own)),
+        Verdict::Global => Ok(None),
+    }
 }
 
 // The scope of a rule.
@@ -174,7 +150,7 @@ pub fn rule_scope(
     index: &[u16; GROUP_INDEX],
     variables: usize,
     rule: Sections,
-) -> Scope
+) -> Result<Option<Owned>, Refusal>
     requires indexed { Indexed sig.now symbols.now counts }
     requires listed { Listed s.now index.now variables }
     requires rule_stands { RuleStands (signature_at sig.now symbols.now counts) variables s.now rule }
@@ -183,7 +159,7 @@ pub fn rule_scope(
     ensures owners_from { OwnersFrom result rule.conclusions rule.end (length s.now) }
 {
     if rule.end <= rule.conclusions {
-        return Scope::Global;
+        return Ok(None);
     }
     let first = read_statement(s, rule.conclusions);
     output_scope(sig, symbols, counts, s, index, variables, rule, first)

@@ -1,17 +1,20 @@
-use Rattle.scope.proofs.InOrder.{conclusions_settle, premises_settle}
-use borrow.Author.Tests.{not-true, not-false}
-use mathlib.Core.Path.{sym, ◌∙◌}
+use mathlib.Core.Path.{◌≡◌, refl}
+use native.Mathlib.Omega.{arith}
+use Rattle.records.proofs.Results.{passed_on}
+use Rattle.scope.proofs.InOrder.{by_sides}
+use Rattle.scope.specs.declared.answers.Verdict.TheVariants.{Open, Global}
 use Rattle.scope.proofs.rules.rule_verdict.Goals as goal
 
-pub returns-then-not-is_open : goal.returns-then-not-is_open
-returns-then-not-is_open c =
-    λ x w.
-    conclusions_settle _ _ _ _ w c.section_verdict-v.result c.section_verdict-v.ensures
-    (sym c.is_open.ensures ∙ not-true c.is_open.result c.if-not-is_open.true-raw)
+pub returns-in_err-v : goal.returns-in_err-v
+returns-in_err-v c = λ x w.
+    rw (passed_on c.from_residual.ensures) (by_sides _ _ _ _ w (rw c.in_err-v.was at c.section_verdict.ensures) refl)
+
+pub returns-then-ne : goal.returns-then-ne
+returns-then-ne c = λ x w.
+    let g : c.in_ok-v.v ≡ Global = grind arith in
+    rw g (by_sides _ _ _ _ w (rw (c.in_ok-v.was, g) at c.section_verdict.ensures) refl)
 
 pub returns : goal.returns
-returns c =
-    λ x w.
-    premises_settle _ _ _ _ w c.section_verdict-v.result c.section_verdict-v.ensures
-    (sym c.is_open.ensures ∙ not-false c.is_open.result c.if-not-is_open.false-raw)
-    c.section_verdict.result c.section_verdict.ensures
+returns c = λ x w.
+    let o : c.in_ok-v.v ≡ Open = grind arith in
+    by_sides _ _ _ _ w (rw (c.in_ok-v.was, o) at c.section_verdict.ensures) c.section_verdict-2.ensures

@@ -1,4 +1,3 @@
-use Prim.Native.Nat.{◌-◌, ◌≤◌}
 use mathlib.Core.Path.{◌≡◌}
 use lib.ListN.{drop}
 use Rattle.definition.specs.Base.{has}
@@ -8,8 +7,4 @@ use Rattle.scope.proofs.verdicts.among.Given as goal
 
 abbrev pub invariant-loop-i : goal.invariant-loop-i
 invariant-loop-i l =
-    let part = type_parents (signature_at l.sig l.symbols l.counts) l.t.0 in
-    (l.i ≤ l.n) × (has l.x.0 part ≡ has l.x.0 (drop l.i part))
-
-abbrev pub decreases-loop-i : goal.decreases-loop-i
-decreases-loop-i l = l.n - l.i
+    let part = type_parents (signature_at l.sig l.symbols l.counts) l.t.0 in has l.x.0 part ≡ has l.x.0 (drop l.i part)
