@@ -4,10 +4,11 @@ use native.Mathlib.Omega.{arith}
 use mathlib.Core.List.{List, [], ◌∷◌, ◌++◌}
 use mathlib.Core.Path.{◌≡◌, refl, sym, ◌∙◌}
 use lib.ListN.{length, get_or, length-append}
+use Rattle.std.specs.Prelude.{Option, Some, None, MatchOption}
 use Rattle.definition.specs.Base.{pick, each, joined, empty}
 use Rattle.definition.specs.Limits.{name_bytes, number_digits}
 use Rattle.definition.specs.Rule.{Structure, Element}
-use Rattle.definition.specs.Names.{el, decimal, base_name, new_variable}
+use Rattle.definition.specs.Names.{decimal, base_name, new_variable}
 use Rattle.definition.specs.Walk.{group_name, anonymous_rule}
 use Rattle.definition.specs.Writer.{variable_field, field_bytes, record_bytes}
 use Rattle.records.specs.Places.{two_at}
@@ -18,15 +19,14 @@ use Rattle.group.specs.Written.{variable_head}
 use Rattle.group.proofs.Writing.{variable_parts, variable_long}
 use Rattle.laws.proofs.NameLaws.{digits_few}
 use Rattle.rule.specs.Elements.{count_at}
-use Rattle.rule.specs.ElementFields.{element_in}
+use Rattle.rule.specs.ElementFields.{element_in, element_from}
+use Rattle.rule.specs.declared.elements.Element as read
 use Rattle.rule.specs.Lookup.{rule_at}
 use Rattle.rule.specs.Names.{bytes_in, NameInside}
 use Rattle.rule.specs.Structures.{structure_in, Laid, Headed}
 use Rattle.rule.specs.declared.names.Name.{Name}
 use Rattle.naming.specs.Variables.{new_in}
 use Rattle.naming.specs.Bases.{base_bytes, Fits, variable_bytes}
-use Rattle.naming.specs.declared.bases.Base.{Base}
-use Rattle.naming.specs.declared.bases.Base.TheVariants.{Of, El}
 use Rattle.naming.proofs.Placed.{element_get, below_count, at_count, past_count}
 use Rattle.naming.proofs.News.{new_from, new_all, new_on, new_pass, new_end}
 
@@ -34,32 +34,32 @@ use Rattle.naming.proofs.News.{new_from, new_all, new_on, new_pass, new_end}
 name_long : {s : List ℕ} {name : Name} → NameInside s name → length (bytes_in s name) ≡ name.len
 name_long {s} {name} w = length_stretch s name.start name.len w.inside
 
-pub named_base : {base : Base} {name : Name} → base ≡ Of name → (s : List ℕ) → Fits s base → (name.len ≡ length (base_bytes s base)) × (name.len ≤ name_bytes)
-named_base {base} {name} e s f = let g : NameInside s name = rw e at f in rw e (sym (name_long g), g.short)
-
-pub unnamed_base : {base : Base} → base ≡ El → (s : List ℕ) → (length el ≡ length (base_bytes s base)) × (length el ≤ name_bytes)
-unnamed_base e s = rw e (refl, omega arith)
+pub base_long : (base : Option Name) {n : ℕ} → MatchOption base (n ≡ 2) (λ name. n ≡ name.len) → (s : List ℕ) → Fits s base
+    → (n ≡ length (base_bytes s base)) × (n ≤ name_bytes)
+base_long (Some name) e s f = (e ∙ sym (name_long f), omega (arith, f.short))
+base_long None e s f = (e, omega arith)
 
 -- The field of a new variable.
-pub variable_put : (s : List ℕ) (type : ℕ) (base : Base) (number : ℕ) {out₀ out₁ out : List ℕ} {len at r : ℕ}
+pub variable_put : (s : List ℕ) (type : ℕ) (base : Option Name) (number : ℕ) {out₀ out₁ out : List ℕ} {len at r : ℕ}
     → len ≡ length (base_bytes s base ++ decimal number) → Put out₀ out₁ (variable_head type len) 0 at
     → Put out₁ out (base_bytes s base ++ decimal number) at r → Put out₀ out (variable_bytes s type base number) 0 r
 unfolding variable_bytes
 variable_put s type base number e p q = rw (← (variable_parts (record { type = type; name = base_bytes s base ++ decimal number }) e)) (then p q)
 
 -- Nothing of it fits: it is counted by its name's length.
-pub variable_counted : (s : List ℕ) (type : ℕ) (base : Base) (number : ℕ) (out : List ℕ) {at len r : ℕ} → len ≡ length (base_bytes s base ++ decimal number)
+pub variable_counted : (s : List ℕ) (type : ℕ) (base : Option Name) (number : ℕ) (out : List ℕ) {at len r : ℕ}
+    → len ≡ length (base_bytes s base ++ decimal number)
     → r ≡ capped (at + (5 + len)) → length out ≤ at → Put out out (variable_bytes s type base number) at r
 unfolding variable_bytes
 variable_counted s type base number out e z h =
     let n = variable_long (record { type = type; name = base_bytes s base ++ decimal number }) in counted out _ _ (omega arith) (omega arith)
 
-pub variable_bytes_lem : (s : List ℕ) (k number : ℕ) (base : Base) (e : Element) {type n : ℕ} → base_bytes s base ≡ base_name (structure_in s k) n
-    → n ≡ e.number
-    → type ≡ e.type
-    → variable_bytes s type base number ≡ field_bytes (variable_field (new_variable (structure_in s k) number e))
+-- It is the element's, by what was read of it.
+pub variable_of_element : (s : List ℕ) (k number : ℕ) (base : Option Name) (r : read.Element) {e : Element} → element_from s r ≡ e
+    → base_bytes s base ≡ base_name (structure_in s k) r.number.0
+    → variable_bytes s r.ty.0 base number ≡ field_bytes (variable_field (new_variable (structure_in s k) number e))
 unfolding variable_bytes new_variable
-variable_bytes_lem s k number base e b n t = rw (t, b, n)
+variable_of_element s k number base r q b = rw (← q, b)
 
 -- The fields of the new variables from an element on.
 unfoldable pub fields_from : Structure → ℕ → List ℕ → ℕ → ℕ → List ℕ

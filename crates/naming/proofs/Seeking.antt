@@ -1,24 +1,26 @@
--- The search for a name along the fields of a list of names, and over the two lists.
-use Prim.Native.Nat.{ℕ, zero, suc, ◌+◌, ◌-◌, ◌*◌, ◌≤◌, ◌<◌}
-use native.Mathlib.Omega.{arith}
+-- The search for a name along the fields of a list of names, and the base by the two lists.
+use Prim.Native.Nat.{ℕ, ◌+◌, ◌*◌, ◌≤◌, ◌<◌}
 use mathlib.Core.List.Memᴰ
 use mathlib.Core.List.{List}
 use mathlib.Core.Option.{Option, none, some}
-use mathlib.Core.Path.{◌≡◌, sym, ◌∙◌, ap}
+use mathlib.Core.Path.{◌≡◌, ◌∙◌}
 use lib.ListN.{length}
+use Rattle.std.specs.Prelude as std
+use Rattle.std.specs.Prelude.{Some, None, MatchOption}
 use borrow.Author.Tests.{eq-eqb, ne_eqb}
-use Rattle.definition.specs.Base.{or_else, or_default, each, first_of, ◌∈◌}
+use Rattle.definition.specs.Base.{each, first_of, ◌∈◌}
 use Rattle.definition.specs.Limits.{name_bytes}
 use Rattle.definition.specs.Records.{Field}
 use Rattle.definition.specs.Rule.{Structure, Name, name_of}
-use Rattle.definition.specs.Names.{name_for, base_name, el}
+use Rattle.definition.specs.Names.{name_for, base_name}
 use Rattle.records.specs.Places.{Run}
 use Rattle.records.proofs.Runs.{StartsWith, run_starts, run_end}
 use Rattle.rule.specs.Names.{bytes_in, NameStands, NameRead}
 use Rattle.rule.specs.Structures.{names_of, NamesAt}
+use Rattle.rule.specs.declared.names.Name as read
 use Rattle.rule.specs.declared.names.Named.{Named}
 use Rattle.rule.proofs.NameReading.{name_first, names_first}
-use Rattle.laws.proofs.Choices.{or_none}
+use Rattle.naming.specs.Bases.{name_is, base_bytes}
 
 -- The first name of an element in a list.
 abbrev pub first_name : ℕ → List Name → Option (List ℕ)
@@ -60,28 +62,10 @@ module _ {s : List ℕ} {count e at end : ℕ} {whole : Option (List ℕ)} (k : 
         left = k.left ∙ rw (names_first q b, ne_eqb _ _ d);
       }
 
--- The first name over so many lists, from one on.
-unfoldable pub in_lists : Structure → ℕ → ℕ → ℕ → Option (List ℕ)
-in_lists st e zero count = none
-in_lists st e (suc k) count = or_else (first_name e (names_of st count)) (in_lists st e k (count + 1))
-
-module _ (st : Structure) (e list : ℕ) (h : list < 2) where
-  pub lists_hit : {name : List ℕ} → first_name e (names_of st (1 + list)) ≡ some name → in_lists st e (2 - list) (1 + list) ≡ some name
-  unfolding in_lists
-  lists_hit q = let k : 2 - list ≡ suc (1 - list) = omega arith in rw (k, q)
-
-  pub lists_miss : first_name e (names_of st (1 + list)) ≡ none → in_lists st e (2 - list) (1 + list) ≡ in_lists st e (2 - (list + 1)) (1 + (list + 1))
-  unfolding in_lists
-  lists_miss q =
-      let k : 2 - list ≡ suc (2 - (list + 1)) = omega arith in
-      let n : 1 + list + 1 ≡ 1 + (list + 1) = omega arith in rw (k, q, n)
-
-pub lists_end : (st : Structure) (e list : ℕ) → 2 ≤ list → in_lists st e (2 - list) (1 + list) ≡ none
-unfolding in_lists
-lists_end st e list h = let k : 2 - list ≡ 0 = omega arith in rw k
-
--- The base is the first name over both lists, or `el`.
-pub base_is : (st : Structure) (e : ℕ) {o : Option (List ℕ)} → in_lists st e 2 1 ≡ o → base_name st e ≡ or_default o el
-unfolding in_lists base_name
-base_is st e q = rw (← q)
-    (ap (λ (o : Option (List ℕ)). or_default (or_else (first_name e st.variable_names) o) el) (sym (or_none (first_name e st.identifier_names))))
+-- The base is by the first V name; where there is none, by the first I name.
+pub base_found : (s : List ℕ) (st : Structure) (e : ℕ) (v r : std.Option read.Name) → name_is s v ≡ first_name e (names_of st 1)
+    → MatchOption v (name_is s r ≡ first_name e (names_of st 2)) (λ name. r ≡ Some name) → base_bytes s r ≡ base_name st e
+unfolding base_name
+base_found s st e (Some name) r p q = rw (q, ← p)
+base_found s st e None (Some name) p q = rw (← p, ← q)
+base_found s st e None None p q = rw (← p, ← q)

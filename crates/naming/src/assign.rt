@@ -29,8 +29,7 @@ pub fn carried(
     ensures { result ≡ row_of (each entry_of (taken_over s.now vars source target m)) }
 {
     let mut row = [NO_VAR; FIELDS];
-    let mut p: usize = 0;
-    while p < m.pairs {
+    for p in 0..m.pairs {
         let from = find_element(s, index, source, pair_key(s, m, p));
         let Found::At(i) = from else {
             return row;
@@ -40,7 +39,6 @@ pub fn carried(
             return row;
         };
         row[j] = vars[i];
-        p += 1;
     }
     row
 }

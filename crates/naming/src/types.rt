@@ -7,7 +7,6 @@ ghost use Rattle.definition.specs.Limits.{field_limit};
 ghost use Rattle.rule.specs.Structures.{structure_in, Laid, ByteTypes};
 ghost use Rattle.naming.specs.Variables.{new_in};
 
-use records::fields::place;
 use rule::elements::{element_count, read_element};
 use rule::ids::{FIELDS, RULE_INDEX};
 
@@ -26,16 +25,12 @@ pub fn type_variables(
     ensures { types.new
         ≡ sets types.old first (each (λ (v : definition.Variable). v.type) (new_in (structure_in s.now k) first row)) }
 {
-    let count = element_count(index, k);
-    let mut number = place(first);
-    let mut i: usize = 0;
-    while i < count {
+    let mut number = usize::from(first);
+    for i in 0..element_count(index, k) {
         if first <= row[i] {
             let e = read_element(s, index, k, i);
-            let t = e.ty;
-            types[number] = t.0 as u8;
+            types[number] = e.ty.0 as u8;
             number += 1;
         }
-        i += 1;
     }
 }

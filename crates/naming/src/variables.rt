@@ -21,13 +21,11 @@ pub fn assign_structure_el_vars(row: [u16; FIELDS], count: usize, next: u16) -> 
 {
     let mut vars = row;
     let mut number = next;
-    let mut i: usize = 0;
-    while i < count {
-        if vars[i] == NO_VAR {
-            vars[i] = number;
+    for var in &mut vars[..count] {
+        if *var == NO_VAR {
+            *var = number;
             number += 1;
         }
-        i += 1;
     }
     vars
 }
@@ -37,13 +35,12 @@ pub fn fresh(row: [u16; FIELDS], count: usize, first: u16) -> u16
     requires { count ≤ field_limit }
     ensures { result ≡ numbering.fresh (kept_in first count row) }
 {
-    let mut n: u16 = 0;
-    let mut i: usize = 0;
-    while i < count {
-        if first <= row[i] {
+    let mut n = 0;
+    // A loop, since `filter` and `count` are compiled to a step for each element and this to fewer.
+    for &var in &row[..count] {
+        if first <= var {
             n += 1;
         }
-        i += 1;
     }
     n
 }
@@ -54,10 +51,8 @@ pub fn image_els(row: [u16; FIELDS], count: usize, first: u16) -> [bool; FIELDS]
     ensures { take count result ≡ each given (kept_in first count row) }
 {
     let mut flags = [false; FIELDS];
-    let mut i: usize = 0;
-    while i < count {
-        flags[i] = row[i] < first;
-        i += 1;
+    for (i, &var) in row[..count].iter().enumerate() {
+        flags[i] = var < first;
     }
     flags
 }

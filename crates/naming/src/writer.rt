@@ -14,15 +14,14 @@ ghost use Rattle.rule.specs.Structures.{structure_in, Laid, Headed};
 ghost use Rattle.naming.specs.Variables.{new_in};
 ghost use Rattle.naming.specs.Bases.{base_bytes, Fits, variable_bytes};
 
-use crate::bases::{Base, el_base_name};
+use crate::bases::el_base_name;
 use group::ids::BEFORE_NAME;
 use group::write::put_variable_head;
 use records::decimal::{digits, put_decimal};
-use records::fields::place;
 use records::write::{past, put_byte, put_bytes};
 use rule::elements::{element_count, read_element};
 use rule::ids::{FIELDS, RULE_INDEX};
-use rule::names::{rule_index, rule_name};
+use rule::names::{Name, rule_index, rule_name};
 use signature::ids::TypeId;
 
 // The length of `el`.
@@ -32,18 +31,18 @@ const EL_BYTES: usize = 2;
 const ANONYMOUS_BYTES: usize = 15;
 
 // The base of a name.
-fn put_base(out: &mut [u8], from: usize, s: &[u8], base: Base) -> usize
+fn put_base(out: &mut [u8], from: usize, s: &[u8], base: Option<Name>) -> usize
     requires { (from ≤ count_limit) × Fits s.now base }
     ensures { Put out.old out.new (base_bytes s.now base) from result }
 {
     match base {
-        Base::Of(name) => put_bytes(out, from, s, name.start, name.len),
-        Base::El => put_bytes(out, from, b"el", 0, EL_BYTES),
+        Some(name) => put_bytes(out, from, s, name.start, name.len),
+        None => put_bytes(out, from, b"el", 0, EL_BYTES),
     }
 }
 
 // The name of a new variable: a base followed by its number.
-fn put_name(out: &mut [u8], from: usize, s: &[u8], base: Base, number: u16) -> usize
+fn put_name(out: &mut [u8], from: usize, s: &[u8], base: Option<Name>, number: u16) -> usize
     requires { (from ≤ count_limit) × Fits s.now base }
     ensures { Put out.old out.new (base_bytes s.now base ++ decimal number) from result }
 {
@@ -52,17 +51,14 @@ fn put_name(out: &mut [u8], from: usize, s: &[u8], base: Base, number: u16) -> u
 }
 
 // How many bytes a base has, in any record in which it fits.
-fn base_length(base: Base) -> usize
+fn base_length(base: Option<Name>) -> usize
     ensures { (s : List ℕ) → Fits s base → (result ≡ length (base_bytes s base)) × (result ≤ name_bytes) }
 {
-    match base {
-        Base::Of(name) => name.len,
-        Base::El => EL_BYTES,
-    }
+    base.map_or(EL_BYTES, |name| name.len)
 }
 
 // How many bytes such a name has, its base being one of the record.
-fn name_length(s: &[u8], base: Base, number: u16) -> u16
+fn name_length(s: &[u8], base: Option<Name>, number: u16) -> u16
     requires { Fits s.now base }
     ensures { (result ≡ length (base_bytes s.now base ++ decimal number)) × (result < 256) }
 {
@@ -70,7 +66,7 @@ fn name_length(s: &[u8], base: Base, number: u16) -> u16
 }
 
 // A W field at the front of a buffer: letter, length, type, name.
-fn put_variable(out: &mut [u8], s: &[u8], t: TypeId, base: Base, number: u16) -> usize
+fn put_variable(out: &mut [u8], s: &[u8], t: TypeId, base: Option<Name>, number: u16) -> usize
     requires { Fits s.now base }
     ensures { Put out.old out.new (variable_bytes s.now t.0 base number) 0 result }
 {
@@ -97,7 +93,7 @@ fn put_new_variable(
     let e = read_element(s, index, k, i);
     let base = el_base_name(s, index, k, e.number);
     if out.len() <= at {
-        return past(at, BEFORE_NAME + place(name_length(s, base, number)));
+        return past(at, BEFORE_NAME + usize::from(name_length(s, base, number)));
     }
     let len = put_variable(&mut out[at..], s, e.ty, base, number);
     past(at, len)
@@ -121,16 +117,13 @@ pub fn put_variables(
     ensures next_after { next.new ≡ next.old + length (new_in (structure_in s.now k) next.old row.now) }
 {
     let first = *next;
-    let count = element_count(index, k);
     let mut at = from;
     let mut number = first;
-    let mut i: usize = 0;
-    while i < count {
+    for i in 0..element_count(index, k) {
         if first <= row[i] {
             at = put_new_variable(out, at, s, index, k, i, number);
             number += 1;
         }
-        i += 1;
     }
     *next = number;
     at

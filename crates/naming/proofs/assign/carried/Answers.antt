@@ -3,58 +3,40 @@
 -- (`carry`); after all pairs the row is `taken_over` (`carry_end`).
 use Rattle.naming.proofs.Carrying.{carrying, carry, carry_end, not_absent}
 use Rattle.naming.proofs.Placed.{found_few}
-use borrow.Author.Rules.{rules}
 use native.Mathlib.Omega.{arith}
 use Rattle.naming.proofs.assign.carried.Goals as goal
 
 pub loop-p-init : goal.loop-p-init
-loop-p-init c = (search rules, carrying c.requires.laid.0 c.requires.laid.1 c.requires.map_in.0 _)
-
-pub find_element-from-requires : goal.find_element-from-requires
-find_element-from-requires c =
-    record {
-      k_lt_structure_limit = c.requires.laid.0.few;
-      elements = c.requires.laid.0.elements.elements;
-    }
+loop-p-init c = carrying c.requires.laid.0 c.requires.laid.1 c.requires.map_in.0 _
 
 pub returns-in_default : goal.returns-in_default
 returns-in_default c =
     (not_absent c.requires.laid.0 c.requires.laid.1 c.requires.map_in.0 c.requires.map_in.1 c.loop-p-test.true).0
-    (rw (c.in_default.is, c.pair_key.ensures) at c.find_element-from.ensures)
-
-pub find_element-to-requires : goal.find_element-to-requires
-find_element-to-requires c =
-    record {
-      k_lt_structure_limit = c.requires.laid.1.few;
-      elements = c.requires.laid.1.elements.elements;
-    }
+    (rw c.pair_key.ensures at c.in_default.ensures)
 
 pub returns-in_default-to : goal.returns-in_default-to
 returns-in_default-to c =
     (not_absent c.requires.laid.0 c.requires.laid.1 c.requires.map_in.0 c.requires.map_in.1 c.loop-p-test.true).1
-    (rw (c.in_default-to.is, c.pair_image.ensures) at c.find_element-to.ensures)
+    (rw c.pair_image.ensures at c.in_default-to.ensures)
 
 pub offset_bounds-vars-i : goal.offset_bounds-vars-i
-offset_bounds-vars-i c = let f = found_few c.requires.laid.0 (rw c.in-At.is at c.find_element-from.ensures) in omega arith
+offset_bounds-vars-i c = let f = found_few c.requires.laid.0 c.in-At.ensures in omega arith
 
 pub bounds-vars-i : goal.bounds-vars-i
-bounds-vars-i c = found_few c.requires.laid.0 (rw c.in-At.is at c.find_element-from.ensures)
+bounds-vars-i c = found_few c.requires.laid.0 c.in-At.ensures
 
 pub offset_bounds-row-j : goal.offset_bounds-row-j
-offset_bounds-row-j c = let f = found_few c.requires.laid.1 (rw c.in-At-to.is at c.find_element-to.ensures) in omega arith
+offset_bounds-row-j c = let f = found_few c.requires.laid.1 c.in-At-to.ensures in omega arith
 
 pub bounds-row-j : goal.bounds-row-j
-bounds-row-j c = found_few c.requires.laid.1 (rw c.in-At-to.is at c.find_element-to.ensures)
+bounds-row-j c = found_few c.requires.laid.1 c.in-At-to.ensures
 
 pub loop-p-preserved : goal.loop-p-preserved
-loop-p-preserved c = (
-  search rules,
-  carry c.requires.laid.0 c.requires.laid.1 c.requires.map_in.0 _ c.loop-p.invariant.1 c.loop-p-test.true
-      (rw (c.in-At.is, c.pair_key.ensures) at c.find_element-from.ensures)
-      (rw (c.in-At-to.is, c.pair_image.ensures) at c.find_element-to.ensures),
-)
+loop-p-preserved c =
+    carry c.requires.laid.0 c.requires.laid.1 c.requires.map_in.0 _ c.loop-p.invariant c.loop-p-test.true
+    (rw c.pair_key.ensures at c.in-At.ensures) (rw c.pair_image.ensures at c.in-At-to.ensures)
 
 pub returns : goal.returns
 returns c =
     carry_end c.requires.laid.0 c.requires.laid.1 c.requires.map_in.0 _
-    c.loop-p.invariant.1 (omega arith)
+    c.loop-p.invariant (omega arith)

@@ -1,9 +1,6 @@
 use Rattle.naming.proofs.Entries.{Numbering}
-use Prim.Native.Nat.{◌≤◌, ◌-◌}
+use lib.ListN.{take}
 use Rattle.naming.proofs.variables.assign_structure_el_vars.Given as goal
 
-abbrev pub invariant-loop-i : goal.invariant-loop-i
-invariant-loop-i l = (l.i ≤ l.count) × Numbering l.initial.vars l.count l.next l.vars l.number l.i
-
-abbrev pub decreases-loop-i : goal.decreases-loop-i
-decreases-loop-i l = l.count - l.i
+abbrev pub invariant-loop-var : goal.invariant-loop-var
+invariant-loop-var l = Numbering (take l.count l.fn.row) l.next l.var-items l.number l.var-index

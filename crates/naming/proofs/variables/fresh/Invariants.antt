@@ -1,9 +1,7 @@
-use Prim.Native.Nat.{◌≤◌, ◌-◌}
-use Rattle.naming.proofs.Entries.{Counting}
+use Rattle.std.proofs.Common.{◌≡◌, take}
+use lib.Dec.{leb}
+use Rattle.std.specs.Prelude.{count_by}
 use Rattle.naming.proofs.variables.fresh.Given as goal
 
-abbrev pub invariant-loop-i : goal.invariant-loop-i
-invariant-loop-i l = (l.i ≤ l.count) × Counting l.first l.count l.row l.n l.i
-
-abbrev pub decreases-loop-i : goal.decreases-loop-i
-decreases-loop-i l = l.count - l.i
+abbrev pub invariant-loop-var : goal.invariant-loop-var
+invariant-loop-var l = l.n ≡ count_by (λ v. leb l.first v) (take l.var-index l.var-items)

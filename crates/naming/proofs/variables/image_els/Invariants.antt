@@ -1,9 +1,10 @@
-use Rattle.naming.proofs.Entries.{Flagging}
-use Prim.Native.Nat.{◌≤◌, ◌-◌}
+use lib.Dec.{ltb}
+use Rattle.std.proofs.Common.{◌≡◌, ℕ, ◌<◌, get_or, false, length}
+use Rattle.definition.specs.Limits.{field_limit}
 use Rattle.naming.proofs.variables.image_els.Given as goal
 
 abbrev pub invariant-loop-i : goal.invariant-loop-i
-invariant-loop-i l = (l.i ≤ l.count) × Flagging l.first l.count l.row l.flags l.i
-
-abbrev pub decreases-loop-i : goal.decreases-loop-i
-decreases-loop-i l = l.count - l.i
+invariant-loop-i l = record {
+  long : length l.flags ≡ field_limit;
+  flagged : (k : ℕ) → k < l.i → get_or l.flags k false ≡ ltb (get_or l.var-items k 0) l.first;
+}

@@ -1,8 +1,9 @@
-use Rattle.naming.proofs.Printing.{named_base, unnamed_base}
+use Rattle.std.specs.Prelude.{MatchOption}
+use mathlib.Core.Path.{◌≡◌}
+use borrow.Author.Rules.{rules}
+use Rattle.naming.proofs.Printing.{base_long}
 use Rattle.naming.proofs.writer.base_length.Goals as goal
 
-pub returns-in-Of : goal.returns-in-Of
-returns-in-Of c = named_base c.in-Of.is
-
-pub returns-in-El : goal.returns-in-El
-returns-in-El c = λ s f. unnamed_base c.in-El.is s
+pub returns : goal.returns
+returns c =
+    let e : MatchOption c.args.base (c.map_or.result ≡ 2) (λ name. c.map_or.result ≡ name.len) = search rules in base_long c.args.base e

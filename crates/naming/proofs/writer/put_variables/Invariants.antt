@@ -1,10 +1,6 @@
 use Rattle.naming.proofs.Printing.{Printing}
 use Rattle.rule.specs.Structures.{structure_in}
-use Prim.Native.Nat.{◌≤◌, ◌-◌}
 use Rattle.naming.proofs.writer.put_variables.Given as goal
 
 abbrev pub invariant-loop-i : goal.invariant-loop-i
-invariant-loop-i l = (l.i ≤ l.count) × Printing l.initial.out l.out (structure_in l.s l.k) l.first l.row l.from l.at l.number l.i
-
-abbrev pub decreases-loop-i : goal.decreases-loop-i
-decreases-loop-i l = l.count - l.i
+invariant-loop-i l = Printing l.initial.out l.out (structure_in l.s l.k) l.first l.row l.from l.at l.number l.i
