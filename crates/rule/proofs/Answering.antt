@@ -11,12 +11,10 @@ use Rattle.definition.specs.Limits.{rule_bytes}
 use Rattle.definition.specs.Records.{Field, Block, blocks, fault_among}
 use Rattle.definition.specs.Signature.{Signature}
 use Rattle.definition.specs.Rule.{head_fault, structures_fault, named_in, rule_part, rule_of, read_rule}
-use Rattle.records.specs.Refusals.{number, fault_of}
-use Rattle.records.specs.declared.refusal.Refusal.{Refusal}
-use Rattle.std.proofs.Common.{Ok, Err}
-use Rattle.rule.specs.Elements.{numbers_in, Known}
+use Rattle.std.proofs.Common.{Ok}
+use Rattle.rule.specs.Elements.{numbers_in}
 use Rattle.rule.specs.Faults.{tail_fault}
-use Rattle.rule.specs.Answers.{SectionChecked, Structured, Tailed, Passes, AllStored, AllHold, Indexed}
+use Rattle.rule.specs.Answers.{Structured, Tailed, Passes, AllStored, AllHold, Indexed}
 use Rattle.rule.proofs.Checking.{SectionTold}
 use mathlib.Core.Option.{Option, none, some}
 use Rattle.rule.proofs.Whole.{of_n, read_head, read_structures, read_tail, read_part_lem, read_sound, no_fault, read_indexed}

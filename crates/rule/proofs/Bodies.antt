@@ -95,9 +95,10 @@ module _ {s index : List ℕ} {k : ℕ} {body : List Field} (b : Bodied s index 
   unfolding section_from section_to
   run_of q letter lo hi e = let z : letters * k + (q - place_n) ≡ number_of (within k q) = omega arith in rw (z, ← e) (b.run q lo hi)
 
-  pub run_e : Run s (get_or index (letters * k + (place_e - place_n)) 0) (get_or index (letters * k + (place_e - place_n) + 1) 0) (with_letter letter_e body)
+  pub run_e : {from to : ℕ} → from ≡ get_or index (letters * k + (place_e - place_n)) 0 → to ≡ get_or index (letters * k + (place_e - place_n) + 1) 0
+      → Run s from to (with_letter letter_e body)
   unfolding letter_at
-  run_e = run_of place_e letter_e (omega arith) (omega arith) refl
+  run_e p q = rw (p, q) (run_of place_e letter_e (omega arith) (omega arith) refl)
 
   run_r : Run s (get_or index (letters * k + (place_r - place_n)) 0) (get_or index (letters * k + (place_r - place_n) + 1) 0) (with_letter letter_r body)
   unfolding letter_at

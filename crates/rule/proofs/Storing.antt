@@ -15,12 +15,11 @@ use Rattle.records.specs.Held.{held_at}
 use Rattle.records.proofs.Link.{got_is}
 use Rattle.records.proofs.Runs.{run_end}
 use Rattle.records.proofs.Index.{got_field, held_store, held_same}
-use Rattle.records.specs.Refusals.{number, fault_of}
 use Rattle.records.specs.declared.refusal.Refusal.{Refusal}
 use Rattle.std.proofs.Common.{Some, None, Ok, Err}
 use Rattle.rule.specs.Layout.{elements_from, counts_from, rule_index}
 use Rattle.rule.specs.Elements.{count_at, position_at, element_at, element_fields}
-use Rattle.rule.specs.Faults.{Checked, AboveLast, Fits}
+use Rattle.rule.specs.Faults.{AboveLast, Fits}
 use Rattle.rule.specs.Answers.{Kept, Stored, Holds}
 use Rattle.std.proofs.Common as std
 use Rattle.records.specs.declared.fields.Field as read

@@ -14,12 +14,10 @@ use Rattle.definition.specs.Limits.{structure_limit}
 use Rattle.definition.specs.Records.{Field, Block, with_letter}
 use Rattle.definition.specs.Signature.{Signature}
 use Rattle.definition.specs.Rule.{named_elements, structure_fault, body_fault, structures_fault}
-use Rattle.records.specs.Refusals.{number, fault_of}
 use Rattle.records.specs.declared.refusal.Refusal.{Refusal}
 use Rattle.std.proofs.Common.{Ok, Err}
 use Rattle.rule.specs.Layout.{no_block, place_s, section_from, number_of, within}
 use Rattle.rule.specs.Elements.{element_fields, Known}
-
 use Rattle.rule.specs.Answers.{HeadAt, Bodied, Structured, Kept, Holds, AllHold}
 use Rattle.rule.proofs.Bodies.{kept_fields, bodied_kept}
 
