@@ -11,7 +11,6 @@ use Rattle.definition.specs.Base.{Outcome, refused, accepted}
 use Rattle.definition.specs.Desk.{desk_of, printed, refused_word, newline}
 use Rattle.definition.specs.Flatten.{flatten_of, laid_over}
 use Rattle.flatten.specs.Answers.{answer_of}
-use Rattle.flatten.specs.declared.entry.Flattened.TheVariants.{Written, Refused}
 use Rattle.definition.specs.Limits.{answer_bytes, number_digits}
 use Rattle.definition.specs.Names.{decimal}
 use Rattle.records.specs.Buffer.{Put}
@@ -76,13 +75,13 @@ line n out₀ h l e =
     rw e (omega (arith, h.size), h.same (omega arith) (omega arith) ∙ rw zero-add)
 
 -- By what flatten answered: a group stands there already; a refusal left the buffer as it was, and its line comes there.
-pub group_stands : {n : ℕ} (out₀ : List ℕ) {out answer : List ℕ} (o : Outcome (List ℕ)) → Written n ≡ answer_of o → out ≡ laid_over o out₀
+pub group_stands : {n : ℕ} (out₀ : List ℕ) {out answer : List ℕ} (o : Outcome (List ℕ)) → accepted n ≡ answer_of o → out ≡ laid_over o out₀
     → answer ≡ printed o → AtFront n out₀ out answer
 unfolding printed
 group_stands {n} out₀ (accepted group) a b e = let x : n ≡ length group = cc in rw e (x, b)
 group_stands out₀ (refused k) a b e = let z : ◌≡◌ {A = ℕ} 0 1 = cc in absurd (omega arith)
 
-pub line_stands : {n r : ℕ} (out₀ : List ℕ) {out₁ out answer : List ℕ} (o : Outcome (List ℕ)) → Refused n ≡ answer_of o → out₁ ≡ laid_over o out₀
+pub line_stands : {n r : ℕ} (out₀ : List ℕ) {out₁ out answer : List ℕ} (o : Outcome (List ℕ)) → refused n ≡ answer_of o → out₁ ≡ laid_over o out₀
     → answer ≡ printed o → Put out₁ out (printed (refused n)) 0 r → length out₀ ≡ answer_bytes → AtFront r out₀ out answer
 line_stands out₀ (accepted group) a b e h l = let z : ◌≡◌ {A = ℕ} 0 1 = cc in absurd (omega arith)
 line_stands {n} out₀ (refused k) a b e h l = let x : n ≡ k = cc in line n out₀ (rw b at h) l (e ∙ rw x)

@@ -5,18 +5,20 @@ ghost use Rattle.definition.specs.Desk.{desk_of, printed};
 ghost use Rattle.definition.specs.Flatten.{laid_over};
 ghost use Rattle.definition.specs.Limits.{answer_bytes};
 ghost use Rattle.records.specs.Buffer.{Put};
+ghost use Rattle.records.specs.Refusals.{number};
 
-use flatten::entry::{ANSWER, Flattened, flatten};
+use flatten::entry::{ANSWER, flatten};
 use records::decimal::put_decimal;
-use records::fields::{short, two};
+use records::fields::two;
+use records::refusal::Refusal;
 use records::write::{put_byte, put_bytes};
 
 // The line of a refusal.
-fn put_refused(out: &mut [u8], n: u8) -> usize
-    ensures { Put out.old out.new (printed (refused n)) 0 result }
+fn put_refused(out: &mut [u8], refusal: Refusal) -> usize
+    ensures { Put out.old out.new (printed (refused (number refusal))) 0 result }
 {
     let word = put_bytes(out, 0, b"refused ", 0, 8);
-    let at = put_decimal(out, word, short(n));
+    let at = put_decimal(out, word, u16::from(refusal.number()));
     put_byte(out, at, b'\n')
 }
 
@@ -28,16 +30,15 @@ pub fn desk(input: &[u8], out: &mut [u8; ANSWER]) -> usize
     ensures out_after { out.new ≡ laid_over (accepted (desk_of input.now)) out.old }
 {
     if input.len() < 2 {
-        return put_refused(out, 2);
+        return put_refused(out, Refusal::BadFields);
     }
     let size = two(input, 0);
     if input.len() - 2 < size {
-        return put_refused(out, 2);
+        return put_refused(out, Refusal::BadFields);
     }
     let end = 2 + size;
-    let r = flatten(&input[2..end], &input[end..], out);
-    match r {
-        Flattened::Written(n) => n,
-        Flattened::Refused(n) => put_refused(out, n),
+    match flatten(&input[2..end], &input[end..], out) {
+        Ok(n) => n,
+        Err(refusal) => put_refused(out, refusal),
     }
 }

@@ -1,3 +1,2 @@
 -- Laws of what a C host is told.
 pub mod Told
-pub mod Flattened

@@ -8,7 +8,7 @@ use Rattle.definition.specs.Demands.{Demand3}
 use Rattle.cabinet.specs.declared.ScopeAnswer.{ScopeAnswer}
 use Rattle.cabinet.specs.declared.FlattenAnswer.{FlattenAnswer}
 
--- Document 01's number, or 0 where nothing is refused.
+-- The definition's number, or 0 where nothing is refused.
 abbrev pub code_of : Option ℕ → ℕ
 code_of none = 0
 code_of (some n) = n

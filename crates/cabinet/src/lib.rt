@@ -7,7 +7,6 @@ ghost use Rattle.definition.specs.Flatten.{flatten_of, laid_over};
 ghost use Rattle.reading.specs.Verdicts.{refusal_of, rule_read, group_read};
 ghost use Rattle.cabinet.specs.Codes.{code_of, unowned, scope_told, OwnersHeld, flatten_told, GroupDemanded};
 
-use flatten::entry::Flattened;
 use reading::Verdict;
 use scope::answers::Scope;
 
@@ -17,7 +16,7 @@ fn code(v: Verdict) -> u32
 {
     match v {
         Verdict::Sound => 0,
-        Verdict::Refused(n) => n as u32,
+        Verdict::Refused(n) => u32::from(n),
     }
 }
 
@@ -73,8 +72,7 @@ pub extern "C" fn nagzelud_scope(sig: &[u8], group: &[u8], position: usize) -> S
     ensures value { result ≡ scope_told group.now position (scope_of sig.now group.now position) }
     ensures owners_held { OwnersHeld group.now result (owners_of sig.now group.now position) }
 {
-    let r = scope::infer::scope(sig, group, position);
-    match r {
+    match scope::infer::scope(sig, group, position) {
         Scope::Global => nothing_owned(0),
         Scope::Model {
             model,
@@ -83,11 +81,11 @@ pub extern "C" fn nagzelud_scope(sig: &[u8], group: &[u8], position: usize) -> S
         } => ScopeAnswer {
             refused: 0,
             kind: MODEL,
-            model: model.0 as usize,
+            model: usize::from(model.0),
             offset: start,
             count,
         },
-        Scope::Refused(n) => nothing_owned(n as u32),
+        Scope::Refused(n) => nothing_owned(u32::from(n)),
     }
 }
 
@@ -106,14 +104,13 @@ pub extern "C" fn nagzelud_flatten(sig: &[u8], rule: &[u8], out: &mut [u8]) -> F
     ensures out_after { out.new ≡ laid_over (flatten_of sig.now rule.now (length out.old)) out.old }
     ensures group_demanded { GroupDemanded sig.now rule.now (length out.old) result out.new }
 {
-    let r = flatten::entry::flatten(sig, rule, out);
-    match r {
-        Flattened::Written(written) => FlattenAnswer {
+    match flatten::entry::flatten(sig, rule, out) {
+        Ok(written) => FlattenAnswer {
             refused: 0,
             written,
         },
-        Flattened::Refused(n) => FlattenAnswer {
-            refused: n as u32,
+        Err(refusal) => FlattenAnswer {
+            refused: u32::from(refusal.number()),
             written: 0,
         },
     }

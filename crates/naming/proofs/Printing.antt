@@ -47,7 +47,8 @@ unfolding variable_bytes
 variable_put s type base number e p q = rw (← (variable_parts (record { type = type; name = base_bytes s base ++ decimal number }) e)) (then p q)
 
 -- Nothing of it fits: it is counted by its name's length.
-pub variable_counted : (s : List ℕ) (type : ℕ) (base : Option Name) (number : ℕ) (out : List ℕ) {at len r : ℕ} → len ≡ length (base_bytes s base ++ decimal number)
+pub variable_counted : (s : List ℕ) (type : ℕ) (base : Option Name) (number : ℕ) (out : List ℕ) {at len r : ℕ}
+    → len ≡ length (base_bytes s base ++ decimal number)
     → r ≡ capped (at + (5 + len)) → length out ≤ at → Put out out (variable_bytes s type base number) at r
 unfolding variable_bytes
 variable_counted s type base number out e z h =

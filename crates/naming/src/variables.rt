@@ -36,7 +36,7 @@ pub fn fresh(row: [u16; FIELDS], count: usize, first: u16) -> u16
     ensures { result ≡ numbering.fresh (kept_in first count row) }
 {
     let mut n = 0;
-    // A loop: `filter` and `count` are compiled to a step for each element, this to a few for all.
+    // A loop, since `filter` and `count` are compiled to a step for each element and this to fewer.
     for &var in &row[..count] {
         if first <= var {
             n += 1;

@@ -5,13 +5,6 @@ use Rattle.definition.specs.Base.{Outcome, refused, accepted, on_accepted}
 use Rattle.definition.specs.Signature.{Signature, read_signature}
 use Rattle.definition.specs.Rule.{Rule, read_rule}
 use Rattle.definition.specs.Group.{Group, read_group}
-use Rattle.reading.specs.declared.Verdict.{Verdict}
-use Rattle.reading.specs.declared.Verdict.TheVariants.{Sound, Refused}
-
--- The number of a verdict, if it refuses.
-abbrev pub verdict_of : Verdict → Option ℕ
-verdict_of Sound = none
-verdict_of (Refused n) = some n
 
 -- The number of a definition's answer, if it refuses.
 abbrev pub refusal_of : {A : Type 0} → Outcome A → Option ℕ

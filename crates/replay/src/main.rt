@@ -10,7 +10,7 @@
 ghost use Rattle.std.specs.Prelude.{◌≤◌, length};
 ghost use Rattle.replay.specs.Parts.{Within};
 
-use flatten::entry::{Flattened, flatten};
+use flatten::entry::flatten;
 use reading::{Verdict, check_group, check_rule};
 use scope::answers::Scope;
 use scope::infer::{owners, scope};
@@ -194,13 +194,13 @@ fn print_group<W: Write>(
 ) -> io::Result<()> {
     fill(out);
     match flatten(sig, rule, out) {
-        Flattened::Written(n) => {
+        Ok(n) => {
             write!(output, "ok ")?;
             print_hex(output, &out[..n])?;
             print_kept(output, out, n)
         }
-        Flattened::Refused(n) => {
-            write!(output, "refused {n}")?;
+        Err(refusal) => {
+            write!(output, "refused {}", refusal.number())?;
             print_kept(output, out, 0)
         }
     }

@@ -8,6 +8,7 @@ use lib.Dec.{eqb}
 use lib.ListN.{length, get_or, set, take, drop, drop_of_length-le, length-set, length-drop}
 use lib.Seq.{take_all}
 use Rattle.definition.specs.Base.{keep, each, joined, ◌∈◌}
+use Rattle.definition.specs.Letters.{equality}
 use Rattle.definition.specs.Limits.{field_limit}
 use Rattle.definition.specs.Names.{numbers_of, fiber}
 use Rattle.definition.specs.Rule.{Pair}
@@ -107,10 +108,11 @@ over_bytes letter variable pairs types els = statement_bytes letter (equalities_
 module _ (letter : ℕ) (types : List ℕ) where
   -- A loop along the later variables, and one along the variables, each with those behind it, which are lent.
   module _ (v : ℕ) (vs : List ℕ) (i : ℕ) where
-    pub later_on : i < length vs → later_bytes letter types v (drop i vs)
-        ≡ field_bytes (statement_field letter (equality_of types v (get_or vs i 0))) ++ later_bytes letter types v (drop (i + 1) vs)
-    unfolding later_bytes each
-    later_on h = rw (one_more vs i h) (statements_cons letter _ _)
+    pub later_on : i < length vs → {symbol : ℕ} → symbol ≡ get_or types v 0 → later_bytes letter types v (drop i vs)
+        ≡ field_bytes (statement_field letter (record { kind = equality; symbol = symbol; variables = v ∷ get_or vs i 0 ∷ [] }))
+        ++ later_bytes letter types v (drop (i + 1) vs)
+    unfolding later_bytes each equality_of
+    later_on h q = rw (one_more vs i h, q) (statements_cons letter _ _)
 
     pub later_end : length vs ≤ i → later_bytes letter types v (drop i vs) ≡ []
     unfolding later_bytes each statement_bytes record_bytes joined

@@ -7,7 +7,6 @@ ghost use Rattle.definition.specs.Kinds.{Side, variable_in};
 ghost use Rattle.definition.specs.Limits.{field_limit};
 ghost use Rattle.definition.specs.Names.{numbers_of, fiber};
 ghost use Rattle.definition.specs.Signature.{Signature};
-ghost use Rattle.definition.specs.Writer.{statement_field, field_bytes};
 ghost use Rattle.records.specs.Buffer.{Put, count_limit};
 ghost use Rattle.rows.specs.Kernel.{TypesOf};
 ghost use Rattle.rows.specs.Morphisms.{source_in, target_in, pairs_by, Between};
@@ -31,24 +30,6 @@ use signature::ids::EQUALITY;
 
 // How many variables an Equality has.
 const EQUALITY_VARS: usize = 2;
-
-// The Equality of two variables, typed as the first one is.
-fn put_equality(out: &mut [u8], from: usize, letter: u8, types: &[u8], v: u16, w: u16) -> usize
-    requires { (from ≤ count_limit) × (v < length types.now) }
-    ensures { Put out.old out.new (field_bytes (statement_field letter (equality_of types.now v w))) from result }
-{
-    put_statement(
-        out,
-        from,
-        letter,
-        Statement {
-            kind: EQUALITY,
-            symbol: u16::from(types[usize::from(v)]),
-            vars: [v, w, 0, 0, 0, 0, 0, 0],
-            count: EQUALITY_VARS,
-        },
-    )
-}
 
 // The variables of the keys of an image, in the keys' order, and how many there are.
 #[derive(Clone, Copy)]
@@ -84,14 +65,21 @@ fn fiber_vars(
     Fiber { vars, count }
 }
 
-// Equalities of a variable with each of those behind it.
+// Equalities of a variable with each of those behind it, typed as the first one is.
 fn put_later(out: &mut [u8], from: usize, letter: u8, types: &[u8], v: u16, later: &[u16]) -> usize
     requires { (from ≤ count_limit) × (v < length types.now) }
     ensures { Put out.old out.new (statement_bytes letter (each (equality_of types.now v) later.now)) from result }
 {
+    let symbol = u16::from(types[usize::from(v)]);
     let mut at = from;
     for w in later {
-        at = put_equality(out, at, letter, types, v, *w);
+        let equality = Statement {
+            kind: EQUALITY,
+            symbol,
+            vars: [v, *w, 0, 0, 0, 0, 0, 0],
+            count: EQUALITY_VARS,
+        };
+        at = put_statement(out, at, letter, equality);
     }
     at
 }

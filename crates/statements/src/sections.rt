@@ -139,19 +139,10 @@ fn put_section(
     while field < end {
         let r = read_row(s, field);
         if flag(chosen.mask, i) {
+            let kind = chosen.kind;
+            let symbol = r.symbol;
             let said = first(s, r.els, r.els.count - chosen.omitted);
-            at = put_row(
-                out,
-                at,
-                letter,
-                chosen.kind,
-                s,
-                index,
-                k,
-                row,
-                r.symbol,
-                said,
-            );
+            at = put_row(out, at, letter, kind, s, index, k, row, symbol, said);
         }
         i += 1;
         field = r.next;

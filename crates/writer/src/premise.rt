@@ -132,16 +132,8 @@ pub fn put_own(
             out, from, LETTER_B, s, index, sources, masks, vars, types, t,
         );
     }
-    put_said(
-        out,
-        from,
-        LETTER_B,
-        s,
-        index,
-        t,
-        &vars[t],
-        masks_at(masks, t),
-    )
+    let said = masks_at(masks, t);
+    put_said(out, from, LETTER_B, s, index, t, &vars[t], said)
 }
 
 // The statements of a structure: those of its source, then its own.

@@ -73,16 +73,8 @@ pub fn put_conclusion(
             out, from, LETTER_H, s, index, sources, masks, vars, types, t,
         );
     }
-    put_domains(
-        out,
-        from,
-        LETTER_H,
-        s,
-        index,
-        t,
-        &vars[t],
-        mask_at(masks, t, FUNCS),
-    )
+    let funcs = mask_at(masks, t, FUNCS);
+    put_domains(out, from, LETTER_H, s, index, t, &vars[t], funcs)
 }
 
 // The U field of a rule, by the number of rules before it.

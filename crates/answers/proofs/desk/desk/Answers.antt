@@ -11,14 +11,14 @@ returns-then-input-size c =
     (missing _ c.if-input-lt2.false (rw c.two-size.ensures.value at c.if-input-size.true)) in
     record { value = s.0; out_after = s.1 }
 
-pub returns-in-Written : goal.returns-in-Written
-returns-in-Written c =
-    let s = group_stands _ _ c.in-Written.ensures.value c.in-Written.ensures.out_after
+pub returns-in-Ok : goal.returns-in-Ok
+returns-in-Ok c =
+    let s = group_stands _ _ c.in-Ok.ensures.value c.in-Ok.ensures.out_after
     (answered _ c.if-input-lt2.false c.two-size.ensures.value c.if-input-size.false c.requires) in
     record { value = s.0; out_after = s.1 }
 
-pub returns-in-Refused : goal.returns-in-Refused
-returns-in-Refused c =
-    let s = line_stands _ _ c.in-Refused.ensures.value c.in-Refused.ensures.out_after
-    (answered _ c.if-input-lt2.false c.two-size.ensures.value c.if-input-size.false c.requires) c.put_refused-in-Refused.ensures c.requires in
+pub returns-in-Err : goal.returns-in-Err
+returns-in-Err c =
+    let s = line_stands _ _ c.in-Err.ensures.value c.in-Err.ensures.out_after
+    (answered _ c.if-input-lt2.false c.two-size.ensures.value c.if-input-size.false c.requires) c.put_refused-in-Err.ensures c.requires in
     record { value = s.0; out_after = s.1 }

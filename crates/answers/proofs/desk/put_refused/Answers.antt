@@ -5,4 +5,4 @@ use Rattle.answers.proofs.desk.put_refused.Goals as goal
 
 pub returns : goal.returns
 unfolding stretch printed
-returns c = rw (← c.short.ensures.0) (then (then c.put_bytes-word.ensures c.put_decimal-at.ensures) c.put_byte.ensures)
+returns c = rw (← c.number.ensures, ← c.from.ensures) (then (then c.put_bytes-word.ensures c.put_decimal-at.ensures) c.put_byte.ensures)

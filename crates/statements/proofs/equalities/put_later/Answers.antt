@@ -1,11 +1,13 @@
--- Of the Equalities of v with those behind it, those from some variable on are left (`Writing`, `later_bytes`). Its Equality is what
--- `put_equality` puts (`later_on`); behind the last there is none (`later_end`).
+-- Of the Equalities of v with those behind it, those from some variable on are left (`Writing`, `later_bytes`). The next is put
+-- (`later_on`); behind the last there is none (`later_end`).
 use Rattle.records.proofs.Tail.{wrote, finish}
 use Rattle.statements.proofs.Fibers.{later_on, later_end, later_bytes}
 use Rattle.statements.proofs.equalities.put_later.Goals as goal
 
 pub loop-w-preserved : goal.loop-w-preserved
-loop-w-preserved c = wrote c.loop-w.invariant (later_on _ _ _ _ _ c.loop-w-test.true) c.put_equality-at.ensures
+loop-w-preserved c =
+    let q = rw c.from.ensures at c.from-symbol.ensures in
+    wrote c.loop-w.invariant (later_on _ _ _ _ _ c.loop-w-test.true q) c.put_statement-at.ensures
 
 pub returns : goal.returns
 unfolding later_bytes

@@ -31,4 +31,4 @@ put_said-requires-clause-stands c = stands_at c.requires.ended c.requires.reachi
 pub returns-clause-put : goal.returns-clause-put
 returns-clause-put c =
     λ e. own_only e c.requires.reaching c.reached_by-kind.ensures c.if-kind-eq-SURJ_THEN.false c.if-kind-eq-IF.false
-    c.if-kind-eq-NOOP.false refl c.masks_at.ensures c.put_said.ensures
+    c.if-kind-eq-NOOP.false refl c.masks_at-said.ensures c.put_said.ensures

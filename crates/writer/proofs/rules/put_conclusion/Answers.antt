@@ -19,4 +19,4 @@ put_domains-requires-clause-stands c = stands_at c.requires.ended c.requires.rea
 pub returns-clause-put : goal.returns-clause-put
 returns-clause-put c =
     λ e x q. rows_put e c.requires.reaching c.reached_by-kind.ensures c.if-kind-eq-SURJ_THEN.false q
-    (rw c.mask_at.ensures at c.put_domains.ensures)
+    (rw c.mask_at-funcs.ensures at c.put_domains.ensures)
