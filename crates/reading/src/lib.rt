@@ -39,7 +39,7 @@ pub fn read_rule_into(
     ensures symbols_len_unchanged { (length symbols.new ≡ length symbols.old) × (length index.new ≡ length index.old) }
 {
     let counts = read_signature(sig, symbols)?;
-    let structures = read_rule(sig, symbols, counts, s, index)?;
+    let structures = read_rule(sig, s, index)?;
     Ok(RuleCounts { counts, structures })
 }
 

@@ -25,8 +25,8 @@ use rule::ids::{PLACE_A, PLACE_R, RULE_INDEX};
 use rule::lists::{Els, behind, el_at};
 use rule::rows::read_row;
 use rule::sections::section_of;
-use signature::ids::{Counts, FUNCTION, FuncId, INDEX, PREDICATE, PredId};
-use signature::lookup::{func_parents, pred_parents};
+use signature::ids::{Counts, FUNCTION, FuncId, PREDICATE, PredId};
+use signature::lookup::Signature;
 
 // The symbol of an R or A row.
 #[derive(Clone, Copy)]
@@ -48,14 +48,13 @@ fn symbol_of(kind: u8, number: u16) -> RowSymbol
 }
 
 // How many parents a row lists before its arguments.
-fn row_parents(sig: &[u8], symbols: &[u16; INDEX], counts: Counts, symbol: RowSymbol) -> usize
-    requires indexed { Indexed sig.now symbols.now counts }
+fn row_parents(sig: &Signature<'_>, symbol: RowSymbol) -> usize
     requires declared { Declared counts symbol }
-    ensures { result ≡ length (parents_of (signature_at sig.now symbols.now counts) symbol) }
+    ensures { result ≡ length (parents_of sig.now symbol) }
 {
     match symbol {
-        RowSymbol::Pred(p) => pred_parents(sig, symbols, counts, p),
-        RowSymbol::Func(f) => func_parents(sig, symbols, counts, f),
+        RowSymbol::Pred(p) => sig.pred_parents(p),
+        RowSymbol::Func(f) => sig.func_parents(f),
     }
 }
 
@@ -77,9 +76,7 @@ fn mark(s: &[u8], index: &[u16; RULE_INDEX], k: usize, l: Els, flags: &mut [bool
 
 // The arguments of the rows of a section are marked.
 fn mark_rows(
-    sig: &[u8],
-    symbols: &[u16; INDEX],
-    counts: Counts,
+    sig: &Signature<'_>,
     s: &[u8],
     index: &[u16; RULE_INDEX],
     k: usize,
@@ -88,20 +85,19 @@ fn mark_rows(
     end: usize,
     flags: &mut [bool; PLACES],
 )
-    requires indexed { Indexed sig.now symbols.now counts }
     requires k_lt_structure_limit { (k < structure_limit) × (length flags.old ≡ places) }
     requires elements { Elements s.now index.now k }
-    requires rows_known { RowsKnown (signature_at sig.now symbols.now counts) (symbols_of counts kind) kind s.now from end }
+    requires rows_known { RowsKnown sig.now (symbols_of counts kind) kind s.now from end }
     ensures by_index { (seen : List ℕ) (fs : List definition.Field) → Run s.now from end fs
         → Marks flags.old (element_numbers s.now index.now k) seen
         → Marks flags.new (element_numbers s.now index.now k)
-        (seen ++ joined (definition_rows.arguments (signature_at sig.now symbols.now counts)) (each (row_of kind) fs)) }
+        (seen ++ joined (definition_rows.arguments sig.now) (each (row_of kind) fs)) }
     ensures flags_len { length flags.new ≡ places }
 {
     let mut at = from;
     while at < end {
         let row = read_row(s, at);
-        let parents = row_parents(sig, symbols, counts, symbol_of(kind, row.symbol));
+        let parents = row_parents(sig, symbol_of(kind, row.symbol));
         mark(s, index, k, behind(s, row.els, parents), flags);
         at = row.next;
     }
@@ -109,35 +105,32 @@ fn mark_rows(
 
 // Which elements of a structure are constrained, by their places.
 pub fn constrained_els(
-    sig: &[u8],
-    symbols: &[u16; INDEX],
-    counts: Counts,
+    sig: &Signature<'_>,
     s: &[u8],
     index: &[u16; RULE_INDEX],
     k: usize,
 ) -> [bool; PLACES]
-    requires indexed { Indexed sig.now symbols.now counts }
     requires k_lt_structure_limit { k < structure_limit }
     requires elements { Elements s.now index.now k }
-    requires rows_known { RowsKnown (signature_at sig.now symbols.now counts) counts.preds predicate s.now (section_from index.now k place_r)
+    requires rows_known { RowsKnown sig.now counts.preds predicate s.now (section_from index.now k place_r)
         (section_to index.now k place_r) }
-    requires rows_known_2 { RowsKnown (signature_at sig.now symbols.now counts) counts.funcs function s.now (section_from index.now k place_a)
+    requires rows_known_2 { RowsKnown sig.now counts.funcs function s.now (section_from index.now k place_a)
         (section_to index.now k place_a) }
     ensures { (st : Structure) (fs gs : List definition.Field)
         → Run s.now (section_from index.now k place_r) (section_to index.now k place_r) fs
         → Run s.now (section_from index.now k place_a) (section_to index.now k place_a) gs
         → numbers_of st ≡ element_numbers s.now index.now k → st.pred_rows ≡ each (row_of predicate) fs
         → st.func_rows ≡ each (row_of function) gs
-        → take (count_at index.now k) result ≡ each (constrained (signature_at sig.now symbols.now counts) st) (numbers_of st) }
+        → take (count_at index.now k) result ≡ each (constrained sig.now st) (numbers_of st) }
 {
     let preds = section_of(index, k, PLACE_R);
     let funcs = section_of(index, k, PLACE_A);
     let mut flags = [false; PLACES];
     mark_rows(
-        sig, symbols, counts, s, index, k, PREDICATE, preds.from, preds.to, &mut flags,
+        sig, s, index, k, PREDICATE, preds.from, preds.to, &mut flags,
     );
     mark_rows(
-        sig, symbols, counts, s, index, k, FUNCTION, funcs.from, funcs.to, &mut flags,
+        sig, s, index, k, FUNCTION, funcs.from, funcs.to, &mut flags,
     );
     flags
 }

@@ -22,13 +22,8 @@ use Rattle.laws.proofs.Lists.{length_each, get_d_each, or_left, or_right, never}
 use Rattle.records.specs.Places.{two_at, stretch, field_of}
 use Rattle.records.proofs.Lists.{all_get}
 use Rattle.records.proofs.Numbers.{length_stretch, stretch_at, drop_stretch, take_stretch, length_numbers_in, numbers_in_lem, number_in}
-use Rattle.records.specs.Held.{held_at}
-use Rattle.records.proofs.Index.{length_held}
-use Rattle.signature.specs.Index.{signature_at, types_from, preds_from, funcs_from}
-use Rattle.signature.specs.Relations.{kind_of, count_of}
-use Rattle.signature.specs.declared.ids.Counts.{Counts}
+use Rattle.signature.specs.Relations.{kind_of}
 use Rattle.signature.specs.declared.ids.Relation.{Relation}
-use Rattle.signature.proofs.ByKind.{counted}
 use Rattle.laws.proofs.Numbers.{drop_numbers, take_numbers}
 use Rattle.rule.specs.Faults.{name_key, pair_named, last_field, LastIn, AboveLast, Fits, row_symbols, row_columns, row_check, last_named, check_of}
 use Rattle.std.proofs.Common as std
@@ -234,29 +229,15 @@ unfolding name_key
 key_term count e none f = refl
 key_term count e (some g) f = rw (ne_eqb _ _ e)
 
--- How many symbols an accepted signature has.
-module _ (s index : List ℕ) (counts : Counts) where
-  pub types_length : length (signature_at s index counts).types ≡ counts.types
-  unfolding signature_at
-  types_length = length_each _ (held_at s index types_from counts.types) ∙ length_held s index types_from counts.types
-
-  pub preds_length : length (signature_at s index counts).preds ≡ counts.preds
-  unfolding signature_at
-  preds_length = length_each _ (held_at s index preds_from counts.preds) ∙ length_held s index preds_from counts.preds
-
-  pub funcs_length : length (signature_at s index counts).funcs ≡ counts.funcs
-  unfolding signature_at
-  funcs_length = length_each _ (held_at s index funcs_from counts.funcs) ∙ length_held s index funcs_from counts.funcs
-
 -- What a row is about: how many of its kind there are, and its columns.
 module _ (rel : Relation) (results : ℕ) (e : kind_of rel ≡ pick (eqb results 0) predicate function) where
-  pub row_count : (s index : List ℕ) (counts : Counts) → row_symbols (signature_at s index counts) results ≡ count_of counts rel
+  pub row_count : (sig : Signature) → row_symbols sig results ≡ symbol_count sig (kind_of rel)
   unfolding symbol_count
-  row_count s index counts = go (eqb results 0) (signature_at s index counts) ∙ rw (← e) (counted s index counts rel)
+  row_count sig = rw e (go (eqb results 0))
     where
-      go : (b : Bool) (sig : Signature) → pick b (length sig.preds) (length sig.funcs) ≡ symbol_count sig (pick b predicate function)
-      go true sig = refl
-      go false sig = refl
+      go : (b : Bool) → pick b (length sig.preds) (length sig.funcs) ≡ symbol_count sig (pick b predicate function)
+      go true = refl
+      go false = refl
 
   pub row_arity : (sig : Signature) (n : ℕ) → row_columns sig results n ≡ arity sig (kind_of rel) n
   unfolding row_columns arity

@@ -36,8 +36,8 @@ use records::fields::{Field, num, two};
 use records::names::bad_name;
 use records::order::named;
 use records::refusal::Refusal;
-use signature::ids::{Counts, FuncId, INDEX, PredId, Relation, TypeId};
-use signature::lookup::{arity, declared, type_parents};
+use signature::ids::{FuncId, PredId, Relation, TypeId};
+use signature::lookup::Signature;
 
 // Is a content no row of numbers, or one of fewer than the least?
 fn not_numbers(len: usize, least: usize) -> bool
@@ -79,20 +79,17 @@ pub fn structure_fault(len: usize, before: usize) -> Result<(), Refusal>
 }
 
 // An E field of the structure whose E fields stand from one position to another: its number, type and parents.
-#[tactic(auto, using(crate::proofs::Drawn::element_tests, crate::proofs::Drawn::types_length))]
+#[tactic(auto, using(crate::proofs::Drawn::element_tests))]
 pub fn element_fault(
-    sig: &[u8],
-    symbols: &[u16; INDEX],
-    counts: Counts,
+    sig: &Signature<'_>,
     s: &[u8],
     from: usize,
     to: usize,
     f: Spot,
 ) -> Result<(), Refusal>
-    requires indexed { Indexed sig.now symbols.now counts }
     requires lies { Lies s.now f }
     ensures result_value { (body : List definition.Field) (letter : ℕ) → Run s.now from to (with_letter letter_e body)
-        → fault_of result ≡ fault_at (element_fault (signature_at sig.now symbols.now counts) (named_elements body))
+        → fault_of result ≡ fault_at (element_fault sig.now (named_elements body))
         s.now letter f }
     ensures fits { Fits result s.now f.start f.len f.before f.last }
 {
@@ -103,7 +100,7 @@ pub fn element_fault(
         return Err(Refusal::TooMany);
     }
     let t = num(s, f.start + 2);
-    if counts.types <= usize::from(t) {
+    if sig.types() <= usize::from(t) {
         return Err(Refusal::Undeclared);
     }
     if !parents_named(s, from, to, f.start + 4, f.len - 4) {
@@ -112,7 +109,7 @@ pub fn element_fault(
     if first_not_above(s, f.last, 1, f.start, f.len) {
         return Err(Refusal::NotAscending);
     }
-    if (f.len >> 1) - 2 != type_parents(sig, symbols, counts, TypeId(t)) {
+    if (f.len >> 1) - 2 != sig.type_parents(TypeId(t)) {
         return Err(Refusal::BadArity);
     }
     Ok(())
@@ -131,21 +128,18 @@ fn row_relation(results: usize, number: u16) -> Relation
 // An R field (no results) or an A field (one): its symbol and its elements, in structure k.
 #[tactic(auto, using(crate::proofs::Drawn::row_tests, crate::proofs::Drawn::row_count, crate::proofs::Drawn::row_arity))]
 pub fn row_fault(
-    sig: &[u8],
-    symbols: &[u16; INDEX],
-    counts: Counts,
+    sig: &Signature<'_>,
     s: &[u8],
     index: &[u16; RULE_INDEX],
     k: usize,
     results: usize,
     f: Spot,
 ) -> Result<(), Refusal>
-    requires indexed { Indexed sig.now symbols.now counts }
     requires k_lt_structure_limit { (k < structure_limit) × (results ≤ 1) }
     requires elements { Elements s.now index.now k }
     requires lies { Lies s.now f }
     ensures { (letter : ℕ) → fault_of result
-        ≡ fault_at (row_check (signature_at sig.now symbols.now counts) results
+        ≡ fault_at (row_check sig.now results
         (element_numbers s.now index.now k)) s.now letter f }
 {
     if not_numbers(f.len, 1 + results) {
@@ -155,7 +149,7 @@ pub fn row_fault(
         return Err(Refusal::TooMany);
     }
     let rel = row_relation(results, num(s, f.start));
-    if !declared(counts, rel) {
+    if !sig.declares(rel) {
         return Err(Refusal::Undeclared);
     }
     if !elements_named(s, index, k, f.start + 2, f.len - 2) {
@@ -164,7 +158,7 @@ pub fn row_fault(
     if row_not_above(s, f.last, results, f.start, f.len) {
         return Err(Refusal::NotAscending);
     }
-    if (f.len >> 1) - 1 != arity(sig, symbols, counts, rel) {
+    if (f.len >> 1) - 1 != sig.arity(rel) {
         return Err(Refusal::BadArity);
     }
     Ok(())
@@ -387,21 +381,18 @@ fn numbers_of(letter: u8) -> usize
 // One call serves R and A, one V and I, so that each check is compiled into this function.
 #[tactic(auto, unfolding(crate::specs::Faults::check_of), using(crate::proofs::Drawn::named_length, crate::proofs::Drawn::last_named_lem))]
 pub fn field_fault(
-    sig: &[u8],
-    symbols: &[u16; INDEX],
-    counts: Counts,
+    sig: &Signature<'_>,
     s: &[u8],
     index: &[u16; RULE_INDEX],
     structures: usize,
     letter: u8,
     f: Spot,
 ) -> Result<(), Refusal>
-    requires indexed { Indexed sig.now symbols.now counts }
     requires known { Known s.now index.now structures }
     requires le_structures { letter ≡ letter_r ⊎ letter ≡ letter_a ⊎ letter ≡ letter_v ⊎ letter ≡ letter_i → 1 ≤ structures }
     requires lies { Lies s.now f }
     ensures { fault_of result
-        ≡ fault_at (check_of (signature_at sig.now symbols.now counts)
+        ≡ fault_at (check_of sig.now
         (numbers_in s.now index.now structures) letter) s.now letter f }
 {
     match letter {
@@ -410,7 +401,7 @@ pub fn field_fault(
         LETTER_K => kind_fault(s, structures, f),
         LETTER_R | LETTER_A => {
             let results = results_of(letter);
-            row_fault(sig, symbols, counts, s, index, structures - 1, results, f)
+            row_fault(sig, s, index, structures - 1, results, f)
         }
         LETTER_V | LETTER_I => name_fault(s, index, structures - 1, numbers_of(letter), f),
         _ => auxiliary_fault(s, structures, f),

@@ -35,7 +35,7 @@ use crate::order::Spot;
 use crate::pass::pass;
 use records::fields::{Field, read_field};
 use records::refusal::Refusal;
-use signature::ids::{Counts, INDEX};
+use signature::lookup::Signature;
 
 // Where a section starts.
 pub fn bound(index: &[u16; RULE_INDEX], section: usize) -> usize
@@ -47,20 +47,17 @@ pub fn bound(index: &[u16; RULE_INDEX], section: usize) -> usize
 
 // The first fault of the fields of a section, front to back.
 fn check_section(
-    sig: &[u8],
-    symbols: &[u16; INDEX],
-    counts: Counts,
+    sig: &Signature<'_>,
     s: &[u8],
     index: &[u16; RULE_INDEX],
     structures: usize,
     letter: u8,
     section: usize,
 ) -> Result<(), Refusal>
-    requires indexed { Indexed sig.now symbols.now counts }
     requires known { Known s.now index.now structures }
     requires section_lt_sections { section < sections }
     requires le_structures { letter ≡ letter_r ⊎ letter ≡ letter_a ⊎ letter ≡ letter_v ⊎ letter ≡ letter_i → 1 ≤ structures }
-    ensures { SectionChecked result (signature_at sig.now symbols.now counts)
+    ensures { SectionChecked result sig.now
         s.now index.now structures letter section }
 {
     let to = bound(index, section + 1);
@@ -75,7 +72,7 @@ fn check_section(
             before: count,
             last,
         };
-        field_fault(sig, symbols, counts, s, index, structures, letter, spot)?;
+        field_fault(sig, s, index, structures, letter, spot)?;
         count += 1;
         last = Some(f);
         at = f.next;
@@ -85,20 +82,17 @@ fn check_section(
 
 // The first fault of the E fields of structure k; their positions and their number go into the index.
 fn check_elements(
-    sig: &[u8],
-    symbols: &[u16; INDEX],
-    counts: Counts,
+    sig: &Signature<'_>,
     s: &[u8],
     index: &mut [u16; RULE_INDEX],
     k: usize,
     from: usize,
     to: usize,
 ) -> Result<(), Refusal>
-    requires indexed { Indexed sig.now symbols.now counts }
     requires s_len_bound { length s.now ≤ rule_bytes }
     requires index_len { length index.old ≡ rule_index }
     requires k_lt_structure_limit { k < structure_limit }
-    ensures elements_checked { ElementsChecked result (signature_at sig.now symbols.now counts) s.now from to }
+    ensures elements_checked { ElementsChecked result sig.now s.now from to }
     ensures elements_held { ElementsHeld result s.now index.new k from to }
     ensures stored { Stored result s.now index.old index.new k }
     ensures index_len_2 { length index.new ≡ rule_index }
@@ -114,7 +108,7 @@ fn check_elements(
             before: count,
             last,
         };
-        element_fault(sig, symbols, counts, s, from, to, spot)?;
+        element_fault(sig, s, from, to, spot)?;
         index[ELEMENTS_FROM + FIELDS * k + count] = at as u16;
         count += 1;
         last = Some(f);
@@ -137,50 +131,44 @@ fn check_head(s: &[u8], index: &[u16; RULE_INDEX], k: usize) -> Result<(), Refus
 
 // The first fault of the R, A, V and I fields of structure k, whose elements are known.
 fn check_rest(
-    sig: &[u8],
-    symbols: &[u16; INDEX],
-    counts: Counts,
+    sig: &Signature<'_>,
     s: &[u8],
     index: &[u16; RULE_INDEX],
     k: usize,
 ) -> Result<(), Refusal>
-    requires indexed { Indexed sig.now symbols.now counts }
     requires k_lt_structure_limit { k < structure_limit }
     requires known { Known s.now index.now (k + 1) }
     ensures { (body : List definition.Field) → Bodied s.now index.now k body
         → element_numbers s.now index.now k ≡ named_elements body
-        → fault_of result ≡ rest_fault (signature_at sig.now symbols.now counts) (named_elements body) body }
+        → fault_of result ≡ rest_fault sig.now (named_elements body) body }
 {
     let at = LETTERS * k;
     let n = k + 1;
-    check_section(sig, symbols, counts, s, index, n, LETTER_R, at + SECTION_R)?;
+    check_section(sig, s, index, n, LETTER_R, at + SECTION_R)?;
     // Many structures have no A, V or I fields; then no section is gone into for them.
     if bound(index, at + SECTION_A) == bound(index, at + BEHIND_I) {
         return Ok(());
     }
-    check_section(sig, symbols, counts, s, index, n, LETTER_A, at + SECTION_A)?;
-    check_section(sig, symbols, counts, s, index, n, LETTER_V, at + SECTION_V)?;
+    check_section(sig, s, index, n, LETTER_A, at + SECTION_A)?;
+    check_section(sig, s, index, n, LETTER_V, at + SECTION_V)?;
     // Not handed on whole: the processor waits where it reads two bytes back of which only one was just written.
-    check_section(sig, symbols, counts, s, index, n, LETTER_I, at + SECTION_I)?;
+    check_section(sig, s, index, n, LETTER_I, at + SECTION_I)?;
     Ok(())
 }
 
 // The first fault of the fields of structure k behind its S.
 fn check_body(
-    sig: &[u8],
-    symbols: &[u16; INDEX],
-    counts: Counts,
+    sig: &Signature<'_>,
     s: &[u8],
     index: &mut [u16; RULE_INDEX],
     k: usize,
 ) -> Result<(), Refusal>
-    requires indexed { Indexed sig.now symbols.now counts }
     requires s_len_bound { length s.now ≤ rule_bytes }
     requires index_len { length index.old ≡ rule_index }
     requires k_lt_structure_limit { k < structure_limit }
     requires known { Known s.now index.old k }
     ensures result_value { (body : List definition.Field) → Bodied s.now index.old k body
-        → fault_of result ≡ body_fault (signature_at sig.now symbols.now counts) (named_elements body) body }
+        → fault_of result ≡ body_fault sig.now (named_elements body) body }
     ensures holds { (body : List definition.Field) → Bodied s.now index.old k body
         → Holds result s.now index.new k body }
     ensures stored { Stored result s.now index.old index.new k }
@@ -189,26 +177,23 @@ fn check_body(
     let section = LETTERS * k + SECTION_E;
     let from = bound(index, section);
     let to = bound(index, section + 1);
-    check_elements(sig, symbols, counts, s, index, k, from, to)?;
-    check_rest(sig, symbols, counts, s, index, k)?;
+    check_elements(sig, s, index, k, from, to)?;
+    check_rest(sig, s, index, k)?;
     Ok(())
 }
 
 // The first fault of so many structures.
 fn check_structures(
-    sig: &[u8],
-    symbols: &[u16; INDEX],
-    counts: Counts,
+    sig: &Signature<'_>,
     s: &[u8],
     index: &mut [u16; RULE_INDEX],
     structures: usize,
 ) -> Result<(), Refusal>
-    requires indexed { Indexed sig.now symbols.now counts }
     requires s_len_bound { length s.now ≤ rule_bytes }
     requires index_len { length index.old ≡ rule_index }
     requires structures_bound { structures ≤ structure_limit + 1 }
     ensures result_value { (bs : List definition.Block) → Structured s.now index.old structures bs
-        → fault_of result ≡ structures_fault (signature_at sig.now symbols.now counts) 0 bs }
+        → fault_of result ≡ structures_fault sig.now 0 bs }
     ensures all_hold { (bs : List definition.Block) → Structured s.now index.old structures bs
         → AllHold result s.now index.new structures bs }
     ensures all_stored { AllStored result s.now index.old index.new structures }
@@ -216,45 +201,39 @@ fn check_structures(
 {
     for k in 0..structures {
         check_head(s, index, k)?;
-        check_body(sig, symbols, counts, s, index, k)?;
+        check_body(sig, s, index, k)?;
     }
     Ok(())
 }
 
 // The first fault of the M, K and X fields behind so many structures, whose elements are known.
 fn check_tail(
-    sig: &[u8],
-    symbols: &[u16; INDEX],
-    counts: Counts,
+    sig: &Signature<'_>,
     s: &[u8],
     index: &[u16; RULE_INDEX],
     known: usize,
 ) -> Result<(), Refusal>
-    requires indexed { Indexed sig.now symbols.now counts }
     requires known { Known s.now index.now known }
     ensures { (fs : List definition.Field) → Tailed s.now index.now fs
         → numbers_in s.now index.now known ≡ named_in fs → fault_of result ≡ tail_fault fs }
 {
-    check_section(sig, symbols, counts, s, index, known, LETTER_M, SECTION_M)?;
-    check_section(sig, symbols, counts, s, index, known, LETTER_K, SECTION_K)?;
-    check_section(sig, symbols, counts, s, index, known, LETTER_X, SECTION_X)?;
+    check_section(sig, s, index, known, LETTER_M, SECTION_M)?;
+    check_section(sig, s, index, known, LETTER_K, SECTION_K)?;
+    check_section(sig, s, index, known, LETTER_X, SECTION_X)?;
     Ok(())
 }
 
 // The rule's answer; where it is accepted, the index holds where its sections start and where its elements stand.
 // Where it is refused, the entries of the index are left free: any may have been written, and only their number holds.
 pub fn read_rule(
-    sig: &[u8],
-    symbols: &[u16; INDEX],
-    counts: Counts,
+    sig: &Signature<'_>,
     s: &[u8],
     index: &mut [u16; RULE_INDEX],
 ) -> Result<usize, Refusal>
-    requires indexed { Indexed sig.now symbols.now counts }
     requires index_len { length index.old ≡ rule_index }
     ensures result_value { rule_reading s.now result
-        ≡ read_rule (signature_at sig.now symbols.now counts) s.now }
-    ensures usable { Usable (signature_at sig.now symbols.now counts) s.now index.new result }
+        ≡ read_rule sig.now s.now }
+    ensures usable { Usable sig.now s.now index.new result }
     ensures index_len_unchanged { length index.new ≡ length index.old }
 {
     if RULE_BYTES < s.len() {
@@ -262,9 +241,9 @@ pub fn read_rule(
     }
     let p = pass(s, index);
     let n = p.structures;
-    check_section(sig, symbols, counts, s, index, 0, LETTER_N, SECTION_N)?;
-    check_structures(sig, symbols, counts, s, index, n)?;
-    check_tail(sig, symbols, counts, s, index, n)?;
+    check_section(sig, s, index, 0, LETTER_N, SECTION_N)?;
+    check_structures(sig, s, index, n)?;
+    check_tail(sig, s, index, n)?;
     if !p.whole {
         return Err(Refusal::BadFields);
     }

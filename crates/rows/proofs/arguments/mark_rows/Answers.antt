@@ -13,7 +13,7 @@ pub loop-at-preserved : goal.loop-at-preserved
 loop-at-preserved c =
     let q = c.read_row-row.ensures in
     let h = c.loop-at-test.true in let v = c.loop-at.invariant in
-    let p = c.row_parents-parents.ensures ∙ ap length (c.symbol_of.ensures.result_value (signature_at c.args.sig.now c.args.symbols.now c.args.counts)) in
+    let p = c.row_parents-parents.ensures ∙ ap length (c.symbol_of.ensures.result_value c.args.sig.now) in
     let b = c.behind in (
       c.mark.ensures.flags_len,
       λ fs r. along_next (v.1 fs r) h q,

@@ -16,7 +16,7 @@ invariant-loop-at l =
     (length l.flags ≡ places)
     × ((fs : List Field) → Run l.s l.from l.end fs → Along l.s l.end fs l.at)
     × ((seen : List ℕ) (fs : List Field) → Run l.s l.from l.end fs → Marks l.initial.flags (element_numbers l.s l.index l.k) seen
-    → Marking (signature_at l.sig l.symbols l.counts) l.kind l.s (element_numbers l.s l.index l.k) l.end seen fs l.flags l.at)
+    → Marking l.sig l.kind l.s (element_numbers l.s l.index l.k) l.end seen fs l.flags l.at)
 
 abbrev pub decreases-loop-at : goal.decreases-loop-at
 decreases-loop-at l = l.end - l.at

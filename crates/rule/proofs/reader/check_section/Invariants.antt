@@ -1,7 +1,6 @@
 use Rattle.rule.proofs.Checking.{Checking}
 use Rattle.rule.specs.Faults.{last_field, LastIn, check_of}
 use Rattle.rule.specs.Elements.{numbers_in}
-use Rattle.signature.specs.Index.{signature_at}
 use Rattle.records.specs.Places.{Run}
 use Rattle.definition.specs.Records.{Field, with_letter}
 use lib.ListN.{length, get_or}
@@ -13,7 +12,7 @@ abbrev pub invariant-loop-at : goal.invariant-loop-at
 invariant-loop-at l =
     (l.count ≤ l.at) × LastIn l.last (length l.s)
     × ((fs : List Field) → Run l.s (get_or l.index l.section 0) (get_or l.index (l.section + 1) 0) (with_letter l.letter fs)
-    → Checking l.s l.letter (check_of (signature_at l.sig l.symbols l.counts) (numbers_in l.s l.index l.structures) l.letter)
+    → Checking l.s l.letter (check_of l.sig (numbers_in l.s l.index l.structures) l.letter)
     l.to fs l.at l.count (last_field l.s l.letter l.last))
 
 abbrev pub decreases-loop-at : goal.decreases-loop-at
