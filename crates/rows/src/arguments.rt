@@ -8,10 +8,9 @@ ghost use Rattle.definition.specs.Records as definition;
 ghost use Rattle.definition.specs.Rule.{Structure, row_of};
 ghost use Rattle.definition.specs.Rows as definition_rows;
 ghost use Rattle.definition.specs.Rows.{constrained};
-ghost use Rattle.definition.specs.Signature.{Signature};
+ghost use Rattle.definition.specs.Signature as definition_signature;
 ghost use Rattle.records.specs.Places.{Run};
 ghost use Rattle.signature.specs.Index.{signature_at, Indexed};
-ghost use Rattle.signature.specs.declared.ids.Counts.{Counts};
 ghost use Rattle.rule.specs.Elements.{count_at, element_numbers, Elements};
 ghost use Rattle.flags.specs.Flags.{places};
 ghost use Rattle.rule.specs.Lists.{els_in, ElsInside};
@@ -25,7 +24,7 @@ use rule::ids::{PLACE_A, PLACE_R, RULE_INDEX};
 use rule::lists::{Els, behind, el_at};
 use rule::rows::read_row;
 use rule::sections::section_of;
-use signature::ids::{Counts, FUNCTION, FuncId, PREDICATE, PredId};
+use signature::ids::{FUNCTION, FuncId, PREDICATE, PredId};
 use signature::lookup::Signature;
 
 // The symbol of an R or A row.
@@ -37,8 +36,8 @@ enum RowSymbol {
 
 // By the rows' kind a number is a predicate's or a function's.
 fn symbol_of(kind: u8, number: u16) -> RowSymbol
-    ensures result_value { (sig : Signature) → parents_of sig result ≡ (row_symbol sig kind number).parents }
-    ensures declared { (counts : Counts) → number < symbols_of counts kind → Declared counts result }
+    ensures result_value { (sig : definition_signature.Signature) → parents_of sig result ≡ (row_symbol sig kind number).parents }
+    ensures declared { (sig : definition_signature.Signature) → number < symbols_of sig kind → Declared sig result }
 {
     if kind == PREDICATE {
         RowSymbol::Pred(PredId(number))
@@ -49,7 +48,7 @@ fn symbol_of(kind: u8, number: u16) -> RowSymbol
 
 // How many parents a row lists before its arguments.
 fn row_parents(sig: &Signature<'_>, symbol: RowSymbol) -> usize
-    requires declared { Declared counts symbol }
+    requires declared { Declared sig.now symbol }
     ensures { result ≡ length (parents_of sig.now symbol) }
 {
     match symbol {
@@ -87,7 +86,7 @@ fn mark_rows(
 )
     requires k_lt_structure_limit { (k < structure_limit) × (length flags.old ≡ places) }
     requires elements { Elements s.now index.now k }
-    requires rows_known { RowsKnown sig.now (symbols_of counts kind) kind s.now from end }
+    requires rows_known { RowsKnown sig.now (symbols_of sig.now kind) kind s.now from end }
     ensures by_index { (seen : List ℕ) (fs : List definition.Field) → Run s.now from end fs
         → Marks flags.old (element_numbers s.now index.now k) seen
         → Marks flags.new (element_numbers s.now index.now k)
@@ -112,9 +111,9 @@ pub fn constrained_els(
 ) -> [bool; PLACES]
     requires k_lt_structure_limit { k < structure_limit }
     requires elements { Elements s.now index.now k }
-    requires rows_known { RowsKnown sig.now counts.preds predicate s.now (section_from index.now k place_r)
+    requires rows_known { RowsKnown sig.now (length sig.now.preds) predicate s.now (section_from index.now k place_r)
         (section_to index.now k place_r) }
-    requires rows_known_2 { RowsKnown sig.now counts.funcs function s.now (section_from index.now k place_a)
+    requires rows_known_2 { RowsKnown sig.now (length sig.now.funcs) function s.now (section_from index.now k place_a)
         (section_to index.now k place_a) }
     ensures { (st : Structure) (fs gs : List definition.Field)
         → Run s.now (section_from index.now k place_r) (section_to index.now k place_r) fs
@@ -129,8 +128,6 @@ pub fn constrained_els(
     mark_rows(
         sig, s, index, k, PREDICATE, preds.from, preds.to, &mut flags,
     );
-    mark_rows(
-        sig, s, index, k, FUNCTION, funcs.from, funcs.to, &mut flags,
-    );
+    mark_rows(sig, s, index, k, FUNCTION, funcs.from, funcs.to, &mut flags);
     flags
 }

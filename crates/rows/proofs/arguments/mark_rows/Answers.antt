@@ -1,7 +1,6 @@
 -- The loop along a section: after each row its arguments are marked with those of the rows before it.
 use mathlib.Core.Path.{◌∙◌, ap}
 use lib.ListN.{length}
-use Rattle.signature.specs.Index.{signature_at}
 use Rattle.rule.proofs.RowReading.{row_stands}
 use Rattle.rows.proofs.ArgumentLaws.{along_start, along_next, known_here, marking_start, marking_next, marking_end}
 use Rattle.rows.proofs.arguments.mark_rows.Goals as goal
@@ -25,11 +24,11 @@ read_row-row-requires c =
     let k = c.requires.rows_known.rows in
     row_stands k (c.loop-at.invariant.1 _ k.run).passed c.loop-at-test.true
 
-pub row_parents-parents-requires-clause-declared : goal.row_parents-parents-requires-clause-declared
-row_parents-parents-requires-clause-declared c =
+pub row_parents-parents-requires : goal.row_parents-parents-requires
+row_parents-parents-requires c =
     let k = c.requires.rows_known in
     let h = known_here k (c.loop-at.invariant.1 _ k.rows.run) c.loop-at-test.true c.read_row-row.ensures in
-    c.symbol_of.ensures.declared c.args.counts h.named
+    record { declared = c.symbol_of.ensures.declared c.args.sig.now h.named }
 
 pub behind-requires-clause-n_le_count : goal.behind-requires-clause-n_le_count
 behind-requires-clause-n_le_count c =

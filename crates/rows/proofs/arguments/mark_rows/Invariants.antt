@@ -5,7 +5,6 @@ use lib.ListN.{length}
 use Rattle.definition.specs.Records.{Field}
 use Rattle.flags.specs.Flags.{places}
 use Rattle.records.specs.Places.{Run}
-use Rattle.signature.specs.Index.{signature_at}
 use Rattle.rule.specs.Elements.{element_numbers}
 use Rattle.rows.specs.Arguments.{Marks}
 use Rattle.rows.proofs.ArgumentLaws.{Along, Marking}
