@@ -16,7 +16,7 @@ pub enum MapFound {
     Nothing,
 }
 
-#[derive(Clone, Copy)]
+#[derive(Clone, Copy, PartialEq, Eq)]
 pub enum MorphismKind {
     If,
     SurjThen,
