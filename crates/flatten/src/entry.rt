@@ -14,7 +14,7 @@ ghost use Rattle.flatten.specs.Answers.{Untyped, Writes, answer_of, Demanded, wa
 use flags::{Held, NO_HELD};
 use naming::variables::VARIABLES;
 use plan::sources::{unmapped_auxiliary, unmapped_kind};
-use plan::table::{NO_KIND, kind_table};
+use plan::table::{Kinds, NO_KINDS, kind_table};
 use reading::{RuleReading, read_rule_into};
 use rule::elements::element_count;
 use rule::ids::{FIELDS, RULE_INDEX, STRUCTURES};
@@ -54,7 +54,7 @@ fn write_group(
     s: &[u8],
     index: &[u16; RULE_INDEX],
     n: usize,
-    kinds: &[[u8; STRUCTURES]; STRUCTURES],
+    kinds: &Kinds,
     sources: &[u8; STRUCTURES],
     masks: &[[Held; SORTS]; STRUCTURES],
     vars: &[[u16; FIELDS]; STRUCTURES],
@@ -96,7 +96,7 @@ fn flatten_morphisms(
     s: &[u8],
     index: &[u16; RULE_INDEX],
     n: usize,
-    kinds: &[[u8; STRUCTURES]; STRUCTURES],
+    kinds: &Kinds,
     mut vars: [[u16; FIELDS]; STRUCTURES],
     types: &mut [u8],
     out: &mut [u8],
@@ -116,8 +116,7 @@ fn flatten_morphisms(
     let mut target: usize = 0;
     let mut source: usize = 0;
     loop {
-        let kind = kinds[source][target];
-        if kind < NO_KIND {
+        if let Some(kind) = kinds[source][target] {
             let v = meet_map(s, index, source, target, kind, next);
             let r = walk_map(
                 sig,
@@ -173,7 +172,7 @@ fn flatten_rule(
     if unmapped_kind(s, index) {
         return Flattened::Refused(22);
     }
-    let mut kinds = [[NO_KIND; STRUCTURES]; STRUCTURES];
+    let mut kinds = NO_KINDS;
     kind_table(s, index, &mut kinds);
     flatten_morphisms(
         sig,

@@ -7,6 +7,7 @@ use Rattle.definition.specs.Base.{or_default, given}
 use Rattle.definition.specs.Walk.{pairs_between}
 use Rattle.flags.specs.declared.Mask.{Mask}
 use Rattle.rule.specs.Lookup.{rule_at}
+use Rattle.rule.specs.declared.lookup.MorphismKind as read
 use Rattle.rule.specs.MapFields.{pairs_in, MapIn, Joins}
 use Rattle.rule.specs.Structures.{structure_in, Laid}
 use Rattle.rule.specs.declared.maps.Map.{Map}
@@ -14,7 +15,7 @@ use Rattle.rows.specs.Kernel.{Merged}
 use Rattle.walk.specs.Tables.{pairs_on}
 use Rattle.walk.specs.Went.{Kinded, Met}
 
-module _ {s index : List ℕ} {source target number : ℕ} (k : Kinded s index source target number) where
+module _ {s index : List ℕ} {source target : ℕ} {said : read.MorphismKind} (k : Kinded s index source target said) where
   pub mapped : given (pairs_between (rule_at s).maps source target) ≡ true
   mapped = k.ground.mapped source target k.kind k.on
 
@@ -24,7 +25,7 @@ module _ {s index : List ℕ} {source target number : ℕ} (k : Kinded s index s
   pub met : {map : Map} {merged : Mask} {first : ℕ}
       → (or_default (pairs_between (rule_at s).maps source target) [] ≡ pairs_in s map) × (MapIn s map × Joins s source target map)
       → Merged merged (structure_in s target) (pairs_in s map)
-      → Met s index (record { morphism = record { source = source; target = target; map = map; merged = merged }; kind = number; first = first })
+      → Met s index (record { morphism = record { source = source; target = target; map = map; merged = merged }; kind = said; first = first })
   unfolding pairs_on
   met m g = record {
     kind = k.kind;

@@ -13,6 +13,7 @@ use crate::variables::put_all_variables;
 use flags::Held;
 use group::write::put_group_head;
 use naming::writer::{group_name_length, put_group_name};
+use plan::table::Kinds;
 use rule::ids::{FIELDS, RULE_INDEX, STRUCTURES};
 use walk::tables::SORTS;
 
@@ -22,7 +23,7 @@ pub fn put_group(
     s: &[u8],
     index: &[u16; RULE_INDEX],
     n: usize,
-    kinds: &[[u8; STRUCTURES]; STRUCTURES],
+    kinds: &Kinds,
     sources: &[u8; STRUCTURES],
     masks: &[[Held; SORTS]; STRUCTURES],
     vars: &[[u16; FIELDS]; STRUCTURES],
