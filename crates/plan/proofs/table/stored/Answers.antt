@@ -3,8 +3,7 @@
 -- column (`store_named`); each K can be read, so the early return is never reached (`values_bad`).
 use Rattle.plan.proofs.Storing.{store_start, store_end, store_named, store_next}
 use Rattle.plan.proofs.Scanning.{kinds_from, values_bad, values_inside, values_long}
-use mathlib.Core.Path.{◌∙◌, sym, ap}
-use mathlib.Core.Option.{some}
+use mathlib.Core.Path.{◌∙◌, sym}
 use native.Mathlib.Omega.{arith}
 use Rattle.plan.proofs.table.stored.Goals as goal
 
@@ -40,7 +39,7 @@ pub loop-at-preserved : goal.loop-at-preserved
 loop-at-preserved c =
     store_next c.loop-at.invariant c.loop-at-test.true (sym c.read_field-f.ensures.value ∙ c.in-Some.is)
     (c.source_at.ensures.by_index_2 _) (c.target_at.ensures.by_index_2 _)
-    (c.kind_number-kind.ensures ∙ ap some (c.kind_at.ensures _)) c.add.ensures
+    (c.kind_at.ensures _) c.add.ensures
 
 pub returns : goal.returns
 returns c = store_end c.loop-at.invariant c.loop-at-test.false
