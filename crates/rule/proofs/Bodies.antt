@@ -20,15 +20,15 @@ use Rattle.records.specs.Held.{field_in}
 use Rattle.records.proofs.Numbers.{length_stretch}
 use Rattle.records.proofs.Runs.{run_le, run_end}
 use Rattle.records.proofs.Index.{length_held, held_get, held_same}
-use Rattle.records.specs.Refusals.{number, fault_of}
 use Rattle.records.specs.declared.refusal.Refusal.{Refusal}
 use Rattle.std.proofs.Common.{Ok, Err}
 use Rattle.rule.specs.Layout.{letter_at, place_n, place_e, place_r, place_a, place_v, place_i, letters}
 use Rattle.rule.specs.Layout.{elements_from, section_from, section_to, number_of, within}
 use Rattle.rule.specs.Elements.{count_at, position_at, element_fields, element_numbers, numbers_in, Elements, Known}
-use Rattle.rule.specs.Faults.{Checked, name_key, row_symbols, row_columns, check_of, rest_fault}
-use Rattle.rule.specs.Answers.{Bodied, SectionChecked, Kept, Stored}
+use Rattle.rule.specs.Faults.{name_key, row_symbols, row_columns, check_of, rest_fault}
+use Rattle.rule.specs.Answers.{Bodied, Kept, Stored}
 use Rattle.rule.proofs.Drawn.{last_named_lem}
+use Rattle.rule.proofs.Checking.{SectionTold}
 
 -- Entries that were kept tell the same of the elements of earlier structures.
 module _ {index₀ index : List ℕ} {k j : ℕ} (kept : Kept index₀ index k) (h : j < k) where
@@ -95,9 +95,10 @@ module _ {s index : List ℕ} {k : ℕ} {body : List Field} (b : Bodied s index 
   unfolding section_from section_to
   run_of q letter lo hi e = let z : letters * k + (q - place_n) ≡ number_of (within k q) = omega arith in rw (z, ← e) (b.run q lo hi)
 
-  pub run_e : Run s (get_or index (letters * k + (place_e - place_n)) 0) (get_or index (letters * k + (place_e - place_n) + 1) 0) (with_letter letter_e body)
+  pub run_e : {from to : ℕ} → from ≡ get_or index (letters * k + (place_e - place_n)) 0 → to ≡ get_or index (letters * k + (place_e - place_n) + 1) 0
+      → Run s from to (with_letter letter_e body)
   unfolding letter_at
-  run_e = run_of place_e letter_e (omega arith) (omega arith) refl
+  run_e p q = rw (p, q) (run_of place_e letter_e (omega arith) (omega arith) refl)
 
   run_r : Run s (get_or index (letters * k + (place_r - place_n)) 0) (get_or index (letters * k + (place_r - place_n) + 1) 0) (with_letter letter_r body)
   unfolding letter_at
@@ -136,70 +137,66 @@ bodied_kept {k = k} h kept b = record {
 -- R, A, V and I, in that order, from what the checks of their sections told.
 module _ (sig : Signature) {s index : List ℕ} {k : ℕ} {body : List Field} (b : Bodied s index k body)
     (e : element_numbers s index k ≡ named_elements body) where
-  abbrev Told : Checked → ℕ → ℕ → Type 0
-  Told r letter q = SectionChecked r sig s index (k + 1) letter (letters * k + (q - place_n))
+  abbrev Told : Option ℕ → ℕ → ℕ → Type 0
+  Told f letter q = SectionTold f sig s index (k + 1) letter (letters * k + (q - place_n))
 
   last_is : get_or (numbers_in s index (k + 1)) (length (numbers_in s index (k + 1)) - 1) [] ≡ named_elements body
   last_is = let z : k + 1 - 1 ≡ k = omega arith in last_named_lem s index (k + 1) (omega arith) ∙ rw z e
 
-  of_r : (r : Checked) → Told r letter_r place_r
-      → fault_of r ≡ fault_among letter_r (row_fault 0 (row_symbols sig 0) (row_columns sig 0) (named_elements body)) body
-  unfolding check_of
-  of_r r h = rw (← last_is) (h body (run_r b))
+  module _ {f : Option ℕ} where
+    of_r : Told f letter_r place_r → f ≡ fault_among letter_r (row_fault 0 (row_symbols sig 0) (row_columns sig 0) (named_elements body)) body
+    unfolding check_of
+    of_r h = rw (← last_is) (h body (run_r b))
 
-  of_a : (r : Checked) → Told r letter_a place_a
-      → fault_of r ≡ fault_among letter_a (row_fault 1 (row_symbols sig 1) (row_columns sig 1) (named_elements body)) body
-  unfolding check_of
-  of_a r h = rw (← last_is) (h body (run_a b))
+    of_a : Told f letter_a place_a → f ≡ fault_among letter_a (row_fault 1 (row_symbols sig 1) (row_columns sig 1) (named_elements body)) body
+    unfolding check_of
+    of_a h = rw (← last_is) (h body (run_a b))
 
-  of_v : (r : Checked) → Told r letter_v place_v → fault_of r ≡ fault_among letter_v (name_fault 1 (name_key 1) (named_elements body)) body
-  unfolding check_of
-  of_v r h = rw (← last_is) (h body (run_v b))
+    of_v : Told f letter_v place_v → f ≡ fault_among letter_v (name_fault 1 (name_key 1) (named_elements body)) body
+    unfolding check_of
+    of_v h = rw (← last_is) (h body (run_v b))
 
-  of_i : (r : Checked) → Told r letter_i place_i → fault_of r ≡ fault_among letter_i (name_fault 2 (name_key 2) (named_elements body)) body
-  unfolding check_of
-  of_i r h = rw (← last_is) (h body (run_i b))
+    of_i : Told f letter_i place_i → f ≡ fault_among letter_i (name_fault 2 (name_key 2) (named_elements body)) body
+    unfolding check_of
+    of_i h = rw (← last_is) (h body (run_i b))
 
   abbrev Answer : Option ℕ → Type 0
   Answer f = f ≡ rest_fault sig (named_elements body) body
 
-  module _ {r : Checked} (hr : Told r letter_r place_r) where
-    pub rest_r : {f : Refusal} → r ≡ Err f → Answer (some (number f))
+  pub rest_r : {n : ℕ} → Told (some n) letter_r place_r → Answer (some n)
+  unfolding rest_fault
+  rest_r h = sym (rw (← (of_r h)))
+
+  module _ (hr : Told none letter_r place_r) where
+    pub rest_none : get_or index (letters * k + (place_a - place_n)) 0 ≡ get_or index (letters * k + (place_i - place_n + 1)) 0 → Answer none
+    unfolding rest_fault fault_among fault_from
+    rest_none same = let n = none_behind b same in sym (rw (← (of_r hr), n.0, n.1, n.2))
+
+    pub rest_a : {n : ℕ} → Told (some n) letter_a place_a → Answer (some n)
     unfolding rest_fault
-    rest_r d = sym (rw (← (of_r r hr), d))
+    rest_a h = sym (rw (← (of_r hr), ← (of_a h)))
 
-    module _ {u : Unit} (dr : r ≡ Ok u) where
-      pub rest_none : get_or index (letters * k + (place_a - place_n)) 0 ≡ get_or index (letters * k + (place_i - place_n + 1)) 0 → Answer none
-      unfolding rest_fault fault_among fault_from
-      rest_none same = let n = none_behind b same in sym (rw (← (of_r r hr), dr, n.0, n.1, n.2))
+    module _ (ha : Told none letter_a place_a) where
+      pub rest_v : {n : ℕ} → Told (some n) letter_v place_v → Answer (some n)
+      unfolding rest_fault
+      rest_v h = sym (rw (← (of_r hr), ← (of_a ha), ← (of_v h)))
 
-      module _ {a : Checked} (ha : Told a letter_a place_a) where
-        pub rest_a : {f : Refusal} → a ≡ Err f → Answer (some (number f))
-        unfolding rest_fault
-        rest_a d = sym (rw (← (of_r r hr), dr, ← (of_a a ha), d))
-
-        module _ {w : Unit} (da : a ≡ Ok w) {v : Checked} (hv : Told v letter_v place_v) where
-          pub rest_v : {f : Refusal} → v ≡ Err f → Answer (some (number f))
-          unfolding rest_fault
-          rest_v d = sym (rw (← (of_r r hr), dr, ← (of_a a ha), da, ← (of_v v hv), d))
-
-          pub rest_i : {u : Unit} → v ≡ Ok u → (i : Checked) → Told i letter_i place_i → Answer (fault_of i)
-          unfolding rest_fault
-          rest_i dv i h = sym (rw (← (of_r r hr), dr, ← (of_a a ha), da, ← (of_v v hv), dv, ← (of_i i h)))
+      pub rest_i : Told none letter_v place_v → {f : Option ℕ} → Told f letter_i place_i → Answer f
+      unfolding rest_fault
+      rest_i hv h = sym (rw (← (of_r hr), ← (of_a ha), ← (of_v hv), ← (of_i h)))
 
 -- E before them.
 module _ (sig : Signature) (body : List Field) where
-  abbrev OfE : Checked → Type 0
-  OfE r = fault_of r ≡ fault_among letter_e (element_fault sig (named_elements body)) body
+  abbrev OfE : Option ℕ → Type 0
+  OfE f = f ≡ fault_among letter_e (element_fault sig (named_elements body)) body
 
-  pub body_e : {r : Checked} {f : Refusal} → OfE r → r ≡ Err f → some (number f) ≡ body_fault sig (named_elements body) body
+  pub body_e : {n : ℕ} → OfE (some n) → some n ≡ body_fault sig (named_elements body) body
   unfolding body_fault
-  body_e h d = sym (rw (← h, d))
+  body_e h = sym (rw (← h))
 
-  pub body_rest : {r : Checked} {u : Unit} (t : Checked) → OfE r → r ≡ Ok u → fault_of t ≡ rest_fault sig (named_elements body) body
-      → fault_of t ≡ body_fault sig (named_elements body) body
+  pub body_rest : {f : Option ℕ} → OfE none → f ≡ rest_fault sig (named_elements body) body → f ≡ body_fault sig (named_elements body) body
   unfolding body_fault rest_fault row_columns name_key
-  body_rest t h d k = k ∙ sym (rw (← h, d))
+  body_rest h k = k ∙ sym (rw (← h))
 
 -- A fault of a later field: what was stored is kept.
 pub stored_not : {u : Unit} {f : Refusal} {s index₀ index : List ℕ} {k : ℕ} → Stored (Ok u) s index₀ index k → Stored (Err f) s index₀ index k

@@ -12,10 +12,10 @@ use Rattle.laws.proofs.Lists.{and_left, and_right}
 use Rattle.records.specs.Places.{field_at, field_of, Run, got}
 use Rattle.std.proofs.Common.{None}
 use Rattle.records.proofs.Runs.{Behind, run_got, run_bad, run_end}
-use Rattle.records.specs.Refusals.{number, fault_of}
-use Rattle.rule.specs.Faults.{Checked}
-use Rattle.records.specs.declared.refusal.Refusal.{Refusal}
-use Rattle.std.proofs.Common.{Ok, Err}
+use Rattle.rule.specs.Faults.{check_of}
+use Rattle.rule.specs.Elements.{numbers_in}
+use Rattle.definition.specs.Signature.{Signature}
+use lib.ListN.{get_or}
 
 abbrev pub OfLetter : ℕ → List Field → Type 0
 OfLetter letter fs = all (λ (f : Field). eqb f.letter letter) fs ≡ true
@@ -36,6 +36,11 @@ letter_head letter f fs o = and_left _ _ o
 letter_tail : (letter : ℕ) (f : Field) (fs : List Field) → OfLetter letter (f ∷ fs) → OfLetter letter fs
 unfolding all
 letter_tail letter f fs o = and_right (eqb f.letter letter) _ o
+
+-- What the check of a section told: the first fault of its fields, or none.
+abbrev pub SectionTold : Option ℕ → Signature → List ℕ → List ℕ → ℕ → ℕ → ℕ → Type 0
+SectionTold f sig s index n letter section = (fs : List Field) → Run s (get_or index section 0) (get_or index (section + 1) 0) (with_letter letter fs)
+    → f ≡ fault_among letter (check_of sig (numbers_in s index n) letter) fs
 
 -- What is left at a position, behind so many fields of which the last is known.
 pub record Checking (s : List ℕ) (letter : ℕ) (check : ℕ → Option Field → Field → Option ℕ) (to : ℕ) (fs : List Field) (at count : ℕ)
@@ -78,17 +83,15 @@ module _ {s : List ℕ} {letter : ℕ} {check : ℕ → Option Field → Field �
               let q : l ≡ letter = eqb-true l letter (letter_head letter (field_of s l start len) b.rest o) in
               record { is = q; rest = b.rest; same = b.same ∙ rw q; run = b.run; letters = letter_tail letter (field_of s l start len) b.rest o }
 
-      pub check_fault : {r : Checked} {f : Refusal} → r ≡ Err f → fault_of r ≡ check count last (field_of s letter start len)
-          → some (number f) ≡ fault_among letter check fs
+      pub check_fault : {n : ℕ} → some n ≡ check count last (field_of s letter start len) → some n ≡ fault_among letter check fs
       unfolding fault_from
-      check_fault d k = sym (w.fault ∙ rw (first.same, ← k, d))
+      check_fault k = sym (w.fault ∙ rw (first.same, ← k))
 
       pub passed : (rest : List Field) → w.rest ≡ field_of s letter start len ∷ rest → none ≡ check count last (field_of s letter start len)
           → fault_from check count last w.rest ≡ fault_from check (count + 1) (some (field_of s letter start len)) rest
       unfolding fault_from
       passed rest q k = rw (q, ← k)
 
-      unfoldable pub check_next : {r : Checked} {u : Unit} → r ≡ Ok u → fault_of r ≡ check count last (field_of s letter start len)
+      unfoldable pub check_next : none ≡ check count last (field_of s letter start len)
           → Checking s letter check to fs next (count + 1) (some (field_of s letter start len))
-      check_next d k = let f = first in
-          record { rest = f.rest; run = f.run; letters = f.letters; fault = w.fault ∙ passed f.rest f.same (rw d at k) }
+      check_next k = let f = first in record { rest = f.rest; run = f.run; letters = f.letters; fault = w.fault ∙ passed f.rest f.same k }

@@ -7,6 +7,7 @@ use mathlib.Core.List.{List, [], ◌∷◌}
 use mathlib.Core.Logic.{◌⊎◌, ⊎_elim}
 use mathlib.Core.Option.{Option, none, some}
 use mathlib.Core.Path.{◌≡◌, refl, sym, ◌∙◌, ap}
+use lib.Bits.{bit_and, and_mask}
 use lib.Dec.{eqb, ltb, leb}
 use lib.ListN.{length, get_or, take, drop}
 use borrow.Author.Tests.{eqb-true, le-ltb, eq-eqb, ne_eqb, ltb-true, ltb-false, not-false}
@@ -153,7 +154,7 @@ module _ (s : List ℕ) (start len : ℕ) (h : start + len ≤ length s) (letter
     pairs = pairs_of (numbers (stretch s (start + 4) (4 * (len / 4 - 1))))
 
     pub map_tests : map_fault (numbers_in s index n) before last (field_of s letter start len) ≡ first (
-        (3, ltb len 4 || not (eqb (len % 4) 0))
+        (3, ltb len 4 || not (eqb (bit_and len 3) 0))
         ∷ (4, leb map_limit before)
         ∷ (
           5,
@@ -163,7 +164,7 @@ module _ (s : List ℕ) (start len : ℕ) (h : start + len ≤ length s) (letter
         ∷ (6, not_above (λ (g : Field). take 2 (numbers g.content)) last (field_of s letter start len) || not (keys_ascend pairs)) ∷ [])
     unfolding map_fault lowest map_of pair_named
     map_tests =
-        rw size (unless (ltb len 4 || not (eqb (len % 4) 0)) _ (λ e.
+        rw (size, and_mask len 2) (unless (ltb len 4 || not (eqb (len % 4) 0)) _ (λ e.
         let l : 4 ≤ len = ltb-false len 4 (or_left (ltb len 4) (not (eqb (len % 4) 0)) e) in
         let m : len % 4 ≡ 0 = eqb-true (len % 4) 0 (not-false (eqb (len % 4) 0) (or_right (ltb len 4) (not (eqb (len % 4) 0)) e)) in
         let z : len - 4 ≡ 4 * (len / 4 - 1) = omega arith in

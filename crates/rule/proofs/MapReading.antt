@@ -1,12 +1,12 @@
 -- A map of an accepted rule, as its bytes have it.
 use Prim.Native.Nat.{ℕ, zero, suc, ◌+◌, ◌-◌, ◌*◌, ◌/◌, ◌≤◌, ◌<◌}
 use native.Mathlib.Omega.{arith}
-use mathlib.Core.Bool.{Bool, true, false}
+use mathlib.Core.Bool.{true}
 use mathlib.Core.List.{List, [], ◌∷◌}
 use mathlib.Core.Option.{Option, none, some}
 use mathlib.Core.Path.{◌≡◌, refl, sym, ◌∙◌, ap}
 use lib.ListN.{length, take}
-use Rattle.definition.specs.Base.{or_default, given}
+use Rattle.definition.specs.Base.{or_default}
 use Rattle.definition.specs.Letters.{letter_m}
 use Rattle.definition.specs.Records.{numbers}
 use Rattle.definition.specs.Rule.{Pair, map_of, pairs_of, keys_ascend}
@@ -16,7 +16,6 @@ use Rattle.records.proofs.Numbers.{length_stretch, take_stretch, drop_stretch}
 use Rattle.laws.proofs.Numbers.{drop_numbers}
 use Rattle.rule.specs.Elements.{element_numbers}
 use Rattle.rule.specs.Lookup.{Ready, rule_at, FindsMap}
-use Rattle.std.proofs.Common as std
 use Rattle.std.proofs.Common.{Some, None}
 use Rattle.records.specs.declared.fields.Field as read
 use Rattle.rule.proofs.Finding.{numbers_length, numbers_ascend}
@@ -92,15 +91,12 @@ pub record Read (s : List ℕ) (source target : ℕ) (m : Map) : Type 0 where
   pub inside : MapIn s m
   pub joins : Joins s source target m
 
-module _ {s index : List ℕ} (w : Ready s index) (source target : ℕ) {r : std.Option read.Field} (f : FindsMap r s (pairs_between (rule_at s).maps source target)) where
-  pub never_missed : {A : Type 0} → given (pairs_between (rule_at s).maps source target) ≡ true → r ≡ None → A
-  never_missed h e = let q = found_none (rw e at f) in let z : ◌≡◌ {A = Bool} false true = rw q at h in let y : ◌≡◌ {A = ℕ} 0 1 = cc in absurd (omega arith)
-
-  pub map_read : {m : read.Field} {n : ℕ} → r ≡ Some m → n ≡ length (map_of (field_of s letter_m m.start m.len)).pairs
-      → Read s source target (record { at = m.start + 4; pairs = n })
-  map_read {m} e c =
+module _ {s index : List ℕ} (w : Ready s index) (source target : ℕ) {m : read.Field}
+    (f : FindsMap (Some m) s (pairs_between (rule_at s).maps source target)) where
+  pub map_read : {n : ℕ} → n ≡ length (map_of (field_of s letter_m m.start m.len)).pairs → Read s source target (record { at = m.start + 4; pairs = n })
+  map_read c =
       let start = m.start in let len = m.len in
-      let q = found_at (rw e at f) in
+      let q = found_at f in
       rw (c ∙ sym (pairs_are s start len q.1 letter_m)) record {
         pairs = rw q.0 (map_pairs_are s start len q.1 q.2);
         inside = map_in s start len q.1 q.2 w source target q.0;

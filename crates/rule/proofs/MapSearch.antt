@@ -4,7 +4,7 @@ use native.Mathlib.Omega.{arith}
 use mathlib.Core.Bool.{Bool, true, false, ◌&&◌}
 use mathlib.Core.List.{List, ◌∷◌}
 use mathlib.Core.Option.{none, some}
-use mathlib.Core.Path.{◌≡◌, refl, sym, ◌∙◌}
+use mathlib.Core.Path.{◌≡◌, refl, ◌∙◌}
 use lib.Dec.{eqb}
 use lib.ListN.{length, get_or}
 use Rattle.definition.specs.Base.{pick, or_else, each, first_of}
@@ -62,18 +62,18 @@ module _ {s : List ℕ} {source target to at : ℕ} (w : Seeking s source target
       unfolding first_of each map_of
       first_is rest = refl
 
-      pub seek_hit : {r : Bool} → r ≡ joined → r ≡ true → FindsMap (got letter start len next) s (pairs_between (rule_at s).maps source target)
-      seek_hit q t = let b = run_got w.run lt e in
-          record { is = (w.left ∙ rw (b.same, first_is b.rest, ← q, t), seek_inside, seek_long) }
+      pub seek_hit : true ≡ joined → FindsMap (got letter start len next) s (pairs_between (rule_at s).maps source target)
+      seek_hit q = let b = run_got w.run lt e in
+          record { is = (w.left ∙ rw (b.same, first_is b.rest, ← q), seek_inside, seek_long) }
 
-      missed : (rest : List Field) → w.rest ≡ field_of s letter start len ∷ rest → joined ≡ false
+      missed : (rest : List Field) → w.rest ≡ field_of s letter start len ∷ rest → false ≡ joined
           → first_of (map_of_pair source target) (each map_of w.rest) ≡ first_of (map_of_pair source target) (each map_of rest)
-      missed rest q t = rw (q, first_is rest, t)
+      missed rest q t = rw (q, first_is rest, ← t)
 
-      pub seek_next : {r : Bool} → r ≡ joined → r ≡ false → Seeking s source target to next
-      seek_next q t = let b = run_got w.run lt e in record {
+      pub seek_next : false ≡ joined → Seeking s source target to next
+      seek_next q = let b = run_got w.run lt e in record {
         rest = b.rest;
         run = b.run;
         long = long_rest 4 (field_of s letter start len) b.rest (rw b.same at w.long);
-        left = w.left ∙ missed b.rest b.same (sym q ∙ t);
+        left = w.left ∙ missed b.rest b.same q;
       }

@@ -15,12 +15,11 @@ use Rattle.records.specs.Held.{held_at}
 use Rattle.records.proofs.Link.{got_is}
 use Rattle.records.proofs.Runs.{run_end}
 use Rattle.records.proofs.Index.{got_field, held_store, held_same}
-use Rattle.records.specs.Refusals.{number, fault_of}
 use Rattle.records.specs.declared.refusal.Refusal.{Refusal}
 use Rattle.std.proofs.Common.{Some, None, Ok, Err}
 use Rattle.rule.specs.Layout.{elements_from, counts_from, rule_index}
 use Rattle.rule.specs.Elements.{count_at, position_at, element_at, element_fields}
-use Rattle.rule.specs.Faults.{Checked, AboveLast, Fits}
+use Rattle.rule.specs.Faults.{AboveLast, Fits}
 use Rattle.rule.specs.Answers.{Kept, Stored, Holds}
 use Rattle.std.proofs.Common as std
 use Rattle.records.specs.declared.fields.Field as read
@@ -179,16 +178,12 @@ module _ {s index : List ℕ} {check : ℕ → Option Field → Field → Option
         ≡ held_at s (set index (elements_from + field_limit * k + count) at) (elements_from + field_limit * k) (count + 1) ++ rest
     stored rest q r h = rw (r, held_store s index (elements_from + field_limit * k) count at h, got_field s at e, q, append_assoc)
 
-    pub list_next : {r : Checked} {u : Unit} → r ≡ Ok u → fault_of r ≡ check count last (field_of s letter_e start len)
+    pub list_next : none ≡ check count last (field_of s letter_e start len)
         → elements_from + field_limit * k + count < length index
         → Listing s (set index (elements_from + field_limit * k + count) at) check to k body next (count + 1) (some (field_of s letter_e start len))
     unfolding check_next
-    list_next d c h = let f = first w.checking lt e in
-        record { checking = check_next w.checking lt e d c; held = w.held ∙ stored f.rest f.is f.same h }
+    list_next c h = let f = first w.checking lt e in
+        record { checking = check_next w.checking lt e c; held = w.held ∙ stored f.rest f.is f.same h }
 
 pub holds_not : {f : Refusal} {s index : List ℕ} {k : ℕ} {body : List Field} → Holds (Err f) s index k body
 holds_not = record { is = tt }
-
-pub read_fits : {r : Checked} {u : Unit} {s : List ℕ} {start len before : ℕ} {last : std.Option read.Field} → r ≡ Ok u → Fits r s start len before last
-    → before < field_limit
-read_fits e f = (rw e at f).is.1

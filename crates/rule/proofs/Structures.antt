@@ -5,7 +5,7 @@ use native.Mathlib.Decide.{ℕ_discrete}
 use native.Mathlib.Numerals.{add-one}
 use mathlib.Core.List.{List, [], ◌∷◌}
 use mathlib.Core.Logic.{⊎_elim}
-use mathlib.Core.Option.{none, some}
+use mathlib.Core.Option.{Option, none, some}
 use mathlib.Core.Path.{◌≡◌, refl, sym, ◌∙◌}
 use lib.ListN.{length, get_or, drop, drop_of_length-le}
 use lib.Seq.{drop-cons}
@@ -14,12 +14,10 @@ use Rattle.definition.specs.Limits.{structure_limit}
 use Rattle.definition.specs.Records.{Field, Block, with_letter}
 use Rattle.definition.specs.Signature.{Signature}
 use Rattle.definition.specs.Rule.{named_elements, structure_fault, body_fault, structures_fault}
-use Rattle.records.specs.Refusals.{number, fault_of}
 use Rattle.records.specs.declared.refusal.Refusal.{Refusal}
 use Rattle.std.proofs.Common.{Ok, Err}
 use Rattle.rule.specs.Layout.{no_block, place_s, section_from, number_of, within}
 use Rattle.rule.specs.Elements.{element_fields, Known}
-use Rattle.rule.specs.Faults.{Checked, Below}
 use Rattle.rule.specs.Answers.{HeadAt, Bodied, Structured, Kept, Holds, AllHold}
 use Rattle.rule.proofs.Bodies.{kept_fields, bodied_kept}
 
@@ -54,35 +52,36 @@ module _ {s index₀ : List ℕ} {n : ℕ} {bs : List Block} (w : Structured s i
         past = drop_of_length-le bs short
 
     -- Structure k: what the check of its head told, then what that of its body told.
-    module _ (lt : k < n) (known : Known s index k) (h : Checked)
-        (head : (f : Field) → HeadAt s (section_from index k place_s) f → fault_of h ≡ structure_fault k f) where
-      head_fault_lem : fault_of h ≡ structure_fault k (get_or bs k no_block).head
-      head_fault_lem = head _ (head_here lt known.few)
+    module _ (lt : k < n) (known : Known s index k) where
+      abbrev Head : Option ℕ → Type 0
+      Head f = (h : Field) → HeadAt s (section_from index k place_s) h → f ≡ structure_fault k h
 
-      pub go_head : {f : Refusal} → h ≡ Err f → some (number f) ≡ structures_fault sig 0 bs
+      abbrev Body : Option ℕ → Type 0
+      Body f = (fs : List Field) → Bodied s index k fs → f ≡ body_fault sig (named_elements fs) fs
+
+      pub go_head : {m : ℕ} → Head (some m) → some m ≡ structures_fault sig 0 bs
       unfolding structures_fault
-      go_head d = sym (g.left ∙ rw (block_on lt, ← head_fault_lem, d))
+      go_head head = sym (g.left ∙ rw (block_on lt, ← (head _ (head_here lt known.few))))
 
-      module _ {u : Unit} (dh : h ≡ Ok u) (below : Below h k) (b : Checked)
-          (body : (fs : List Field) → Bodied s index k fs → fault_of b ≡ body_fault sig (named_elements fs) fs) where
+      module _ (head : Head none) (below : k < structure_limit) where
         here : Bodied s index k (get_or bs k no_block).body
-        here = let l = (rw dh at below).is in bodied_kept l kept (w.body k lt l)
+        here = bodied_kept below kept (w.body k lt below)
 
-        pub go_body : {f : Refusal} → b ≡ Err f → some (number f) ≡ structures_fault sig 0 bs
+        pub go_body : {m : ℕ} → Body (some m) → some m ≡ structures_fault sig 0 bs
         unfolding structures_fault
-        go_body d = sym (g.left ∙ rw (block_on lt, ← head_fault_lem, dh, ← (body _ here), d))
+        go_body body = sym (g.left ∙ rw (block_on lt, ← (head _ (head_here lt known.few)), ← (body _ here)))
 
-        onward : {v : Unit} → b ≡ Ok v → structures_fault sig k (drop k bs) ≡ structures_fault sig (k + 1) (drop (k + 1) bs)
+        onward : Body none → structures_fault sig k (drop k bs) ≡ structures_fault sig (k + 1) (drop (k + 1) bs)
         unfolding structures_fault
-        onward d = rw (block_on lt, ← head_fault_lem, dh, ← (body _ here), d)
+        onward body = rw (block_on lt, ← (head _ (head_here lt known.few)), ← (body _ here))
 
         -- The next structure.
-        pub go_next : {index' : List ℕ} {v : Unit} → b ≡ Ok v → Kept index index' k → ((fs : List Field) → Bodied s index k fs → Holds b s index' k fs)
+        pub go_next : {index' : List ℕ} {u : Unit} → Body none → Kept index index' k → ((fs : List Field) → Bodied s index k fs → Holds (Ok u) s index' k fs)
             → Going sig s index' bs (k + 1)
-        go_next {index'} d kk holds = record { left = g.left ∙ onward d; held = λ j l. go j l (ℕ_discrete j k) }
+        go_next {index'} body kk holds = record { left = g.left ∙ onward body; held = λ j l. go j l (ℕ_discrete j k) }
           where
             go : (j : ℕ) → j < k + 1 → Dec (j ≡ k) → element_fields s index' j ≡ with_letter letter_e (get_or bs j no_block).body
-            go j l (yes q) = rw q (rw d at (holds _ here)).is
+            go j l (yes q) = rw q (holds _ here).is
             go j l (no q) = let m : j < k = omega arith in kept_fields kk m (known.elements j m) ∙ g.held j m
 
 pub all_held_lem : {sig : Signature} {s index : List ℕ} {bs : List Block} {k n : ℕ} → Going sig s index bs k → n ≤ k → {u : Unit} → AllHold (Ok u) s index n bs

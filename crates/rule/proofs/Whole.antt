@@ -5,7 +5,7 @@ use native.Mathlib.Decide.{dec_lt}
 use mathlib.Core.Bool.{Bool, true, false}
 use mathlib.Core.List.{List, [], ◌∷◌, ◌++◌, append-nil}
 use mathlib.Core.Logic.{inl, inr, ⊎_elim}
-use mathlib.Core.Option.{none, some}
+use mathlib.Core.Option.{Option, none, some}
 use mathlib.Core.Path.{◌≡◌, refl, sym, ◌∙◌, ap}
 use lib.Dec.{eqb}
 use lib.ListN.{length, get_or, length-append}
@@ -18,18 +18,17 @@ use Rattle.definition.specs.Signature.{Signature}
 use Rattle.definition.specs.Rule.{head_fault, named_elements, structures_fault, named_in, rule_fault, rule_part, rule_of, read_rule, map_fault, kind_fault}
 use Rattle.definition.specs.Rule.{auxiliary_fault}
 use Rattle.records.specs.Places.{field_of, Run, none, more}
-use Rattle.records.specs.Refusals.{number, fault_of}
-use Rattle.records.specs.declared.refusal.Refusal.{Refusal}
-use Rattle.std.proofs.Common.{Ok, Err}
+use Rattle.std.proofs.Common.{Ok}
 use Rattle.rule.specs.Layout.{letter_at, front, within, back, no_block, block_at, fields_in, Sectioned, section_from, section_to, behind_from}
 use Rattle.rule.specs.Layout.{behind_to, number_of}
 use Rattle.rule.specs.Layout.{place_s, place_e, place_i, place_m, place_k, place_x}
 use Rattle.rule.specs.Elements.{element_fields, element_numbers, numbers_in, Known}
-use Rattle.rule.specs.Faults.{Checked, check_of, tail_fault}
-use Rattle.rule.specs.Answers.{HeadAt, Bodied, SectionChecked, Structured, Tailed, Ended, Over, Passes, Kept, AllHold, Indexed}
+use Rattle.rule.specs.Faults.{check_of, tail_fault}
+use Rattle.rule.specs.Answers.{HeadAt, Bodied, Structured, Tailed, Ended, Over, Passes, Kept, AllHold, Indexed}
 use Rattle.rule.proofs.Blocks.{blocks_append, head_letter}
 use Rattle.rule.proofs.Letters.{letter_test, place_is}
 use Rattle.rule.proofs.Bodies.{named_is, bodied_kept}
+use Rattle.rule.proofs.Checking.{SectionTold}
 use Rattle.laws.proofs.Numbers.{with_append}
 
 -- The letters of a structure's fields are not S.
@@ -178,37 +177,40 @@ letter_x_lem = refl
 
 -- M, K and X, from what the checks of their sections told.
 module _ (sig : Signature) {s index : List ℕ} (n : ℕ) {fs : List Field} (b : Tailed s index fs) (e : numbers_in s index n ≡ named_in fs) where
-  of_m : (r : Checked) → SectionChecked r sig s index n letter_m (number_of (back place_m)) → fault_of r ≡ fault_among letter_m (map_fault (named_in fs)) fs
-  unfolding check_of
-  of_m r h = rw (← e) (h fs (tail_run b place_m letter_m (omega arith) (omega arith) letter_m_lem))
+  abbrev Told : Option ℕ → ℕ → ℕ → Type 0
+  Told f letter q = SectionTold f sig s index n letter (number_of (back q))
 
-  of_k : (r : Checked) → SectionChecked r sig s index n letter_k (number_of (back place_k)) → fault_of r ≡ fault_among letter_k (kind_fault (named_in fs)) fs
-  unfolding check_of
-  of_k r h = rw (← e) (h fs (tail_run b place_k letter_k (omega arith) (omega arith) letter_k_lem))
+  module _ {f : Option ℕ} where
+    of_m : Told f letter_m place_m → f ≡ fault_among letter_m (map_fault (named_in fs)) fs
+    unfolding check_of
+    of_m h = rw (← e) (h fs (tail_run b place_m letter_m (omega arith) (omega arith) letter_m_lem))
 
-  of_x : (r : Checked) → SectionChecked r sig s index n letter_x (number_of (back place_x)) → fault_of r ≡ fault_among letter_x (auxiliary_fault (named_in fs)) fs
-  unfolding check_of
-  of_x r h = rw (← e) (h fs (tail_run b place_x letter_x (omega arith) (omega arith) letter_x_lem))
+    of_k : Told f letter_k place_k → f ≡ fault_among letter_k (kind_fault (named_in fs)) fs
+    unfolding check_of
+    of_k h = rw (← e) (h fs (tail_run b place_k letter_k (omega arith) (omega arith) letter_k_lem))
 
-  module _ {m : Checked} (hm : SectionChecked m sig s index n letter_m (number_of (back place_m))) where
-    pub tail_m : {f : Refusal} → m ≡ Err f → some (number f) ≡ tail_fault fs
+    of_x : Told f letter_x place_x → f ≡ fault_among letter_x (auxiliary_fault (named_in fs)) fs
+    unfolding check_of
+    of_x h = rw (← e) (h fs (tail_run b place_x letter_x (omega arith) (omega arith) letter_x_lem))
+
+  pub tail_m : {x : ℕ} → Told (some x) letter_m place_m → some x ≡ tail_fault fs
+  unfolding tail_fault
+  tail_m h = sym (rw (← (of_m h)))
+
+  module _ (hm : Told none letter_m place_m) where
+    pub tail_k : {x : ℕ} → Told (some x) letter_k place_k → some x ≡ tail_fault fs
     unfolding tail_fault
-    tail_m d = sym (rw (← (of_m m hm), d))
+    tail_k h = sym (rw (← (of_m hm), ← (of_k h)))
 
-    module _ {u : Unit} (dm : m ≡ Ok u) {k : Checked} (hk : SectionChecked k sig s index n letter_k (number_of (back place_k))) where
-      pub tail_k : {f : Refusal} → k ≡ Err f → some (number f) ≡ tail_fault fs
-      unfolding tail_fault
-      tail_k d = sym (rw (← (of_m m hm), dm, ← (of_k k hk), d))
-
-      pub tail_x : {v : Unit} → k ≡ Ok v → (x : Checked) → SectionChecked x sig s index n letter_x (number_of (back place_x)) → fault_of x ≡ tail_fault fs
-      unfolding tail_fault
-      tail_x dk x h = sym (rw (← (of_m m hm), dm, ← (of_k k hk), dk, ← (of_x x h)))
+    pub tail_x : Told none letter_k place_k → {f : Option ℕ} → Told f letter_x place_x → f ≡ tail_fault fs
+    unfolding tail_fault
+    tail_x hk h = sym (rw (← (of_m hm), ← (of_k hk), ← (of_x h)))
 
 -- N.
-pub of_n : (sig : Signature) (named : List (List ℕ)) (fs : List Field) (r : Checked) → fault_of r ≡ fault_among letter_n (check_of sig named letter_n) fs
-    → fault_of r ≡ fault_among letter_n head_fault fs
+pub of_n : {f : Option ℕ} (sig : Signature) (named : List (List ℕ)) (fs : List Field) → f ≡ fault_among letter_n (check_of sig named letter_n) fs
+    → f ≡ fault_among letter_n head_fault fs
 unfolding check_of
-of_n sig named fs r h = h
+of_n sig named fs h = h
 
 -- The answer, by the first fault.
 pub read_long : (sig : Signature) (s : List ℕ) → rule_bytes < length s → refused 1 ≡ read_rule sig s
@@ -228,26 +230,32 @@ module _ (sig : Signature) (s : List ℕ) (short : length s ≤ rule_bytes) wher
   abbrev fields : List Field
   fields = (rule_part s).fields
 
-  pub read_head : {h : Checked} {f : Refusal} → fault_of h ≡ fault_among letter_n head_fault fields → h ≡ Err f → refused (number f) ≡ read_rule sig s
+  abbrev Head : Option ℕ → Type 0
+  Head f = f ≡ fault_among letter_n head_fault fields
+
+  abbrev Structures : Option ℕ → Type 0
+  Structures f = f ≡ structures_fault sig 0 (blocks letter_s fields)
+
+  pub read_head : {n : ℕ} → Head (some n) → refused n ≡ read_rule sig s
   unfolding rule_fault
-  read_head h d = read_fault (rw (← h, d))
+  read_head h = read_fault (rw (← h))
 
-  module _ {h : Checked} (eh : fault_of h ≡ fault_among letter_n head_fault fields) {u : Unit} (dh : h ≡ Ok u) where
-    pub read_structures : {b : Checked} {f : Refusal} → fault_of b ≡ structures_fault sig 0 (blocks letter_s fields) → b ≡ Err f → refused (number f) ≡ read_rule sig s
+  module _ (head : Head none) where
+    pub read_structures : {n : ℕ} → Structures (some n) → refused n ≡ read_rule sig s
     unfolding rule_fault
-    read_structures e d = read_fault (rw (← eh, dh, ← e, d))
+    read_structures e = read_fault (rw (← head, ← e))
 
-    module _ {b : Checked} (eb : fault_of b ≡ structures_fault sig 0 (blocks letter_s fields)) {v : Unit} (db : b ≡ Ok v) where
-      whole_fault : (x : Checked) → fault_of x ≡ tail_fault fields → rule_fault sig fields ≡ fault_of x
+    module _ (structures : Structures none) where
+      whole_fault : {f : Option ℕ} → f ≡ tail_fault fields → rule_fault sig fields ≡ f
       unfolding rule_fault tail_fault
-      whole_fault x e = rw (← eh, dh, ← eb, db) (sym e)
+      whole_fault e = rw (← head, ← structures) (sym e)
 
-      pub read_tail : {x : Checked} {f : Refusal} → fault_of x ≡ tail_fault fields → x ≡ Err f → refused (number f) ≡ read_rule sig s
-      read_tail {x} e d = read_fault (whole_fault x e ∙ rw d)
+      pub read_tail : {n : ℕ} → some n ≡ tail_fault fields → refused n ≡ read_rule sig s
+      read_tail e = read_fault (whole_fault e)
 
-      module _ {x : Checked} (ex : fault_of x ≡ tail_fault fields) {t : Unit} (dx : x ≡ Ok t) where
+      module _ (tail : none ≡ tail_fault fields) where
         pub no_fault : rule_fault sig fields ≡ none
-        no_fault = whole_fault x ex ∙ rw dx
+        no_fault = whole_fault tail
 
         pub read_part_lem : {whole : Bool} → whole ≡ (rule_part s).whole → whole ≡ false → refused 2 ≡ read_rule sig s
         read_part_lem w e = rw e at (read_none no_fault w)

@@ -29,9 +29,6 @@ LastAt (Some f) size = f.start + f.len ≤ size
 pub record LastIn (last : std.Option read.Field) (size : ℕ) : Type 0 where
   pub is : LastAt last size
 
-abbrev pub spot_of : ℕ → ℕ → ℕ → std.Option read.Field → Spot
-spot_of start len before last = record { start = start; len = len; before = before; last = last }
-
 -- What a check draws of a field, which has the letter.
 abbrev pub fault_at : (ℕ → Option Field → Field → Option ℕ) → List ℕ → ℕ → Spot → Option ℕ
 fault_at check s letter f = check f.before (last_field s letter f.last) (field_of s letter f.start f.len)

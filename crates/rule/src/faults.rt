@@ -261,7 +261,7 @@ fn keys_ascend(s: &[u8], start: usize, count: usize) -> bool
 }
 
 // An M field: source, target, and pairs of key and image.
-#[tactic(auto, using(crate::proofs::Drawn::map_tests, records::proofs::Numbers::low_bits, records::proofs::Numbers::low_bits_not))]
+#[tactic(auto, using(crate::proofs::Drawn::map_tests))]
 pub fn map_fault(
     s: &[u8],
     index: &[u16; RULE_INDEX],
@@ -385,6 +385,7 @@ fn numbers_of(letter: u8) -> usize
 // A field of any letter but S and E, which are checked where structures and elements are counted.
 // The elements of so many structures are known; R, A, V and I stand in the last of them.
 // One call serves R and A, one V and I, so that each check is compiled into this function.
+#[tactic(auto, unfolding(crate::specs::Faults::check_of), using(crate::proofs::Drawn::named_length, crate::proofs::Drawn::last_named_lem))]
 pub fn field_fault(
     sig: &[u8],
     symbols: &[u16; INDEX],

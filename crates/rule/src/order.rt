@@ -1,10 +1,10 @@
 // The order of the fields of a letter: each against the last one before it.
-ghost use Rattle.std.specs.Prelude.{◌≡◌, ℕ, ◌+◌, ◌-◌, ◌≤◌, ◌<◌, min, length, take, drop};
+ghost use Rattle.std.specs.Prelude.{◌≡◌, ℕ, ◌+◌, ◌≤◌, ◌<◌, length, take, drop};
 ghost use Rattle.definition.specs.Records as definition;
 ghost use Rattle.definition.specs.Records.{numbers, not_above};
 ghost use Rattle.definition.specs.Rule.{row_key};
 ghost use Rattle.records.specs.Places.{field_of};
-ghost use Rattle.rule.specs.Faults.{last_field, LastIn, spot_of};
+ghost use Rattle.rule.specs.Faults.{last_field, LastIn};
 
 use records::fields::Field;
 use records::order::{less_bytes, less_numbers};
@@ -16,17 +16,6 @@ pub struct Spot {
     pub len: usize,
     pub before: usize,
     pub last: Option<Field>,
-}
-
-pub fn spot_of(start: usize, len: usize, before: usize, last: Option<Field>) -> Spot
-    ensures { result ≡ spot_of start len before last }
-{
-    Spot {
-        start,
-        len,
-        before,
-        last,
-    }
 }
 
 // By the first numbers, so many of them.

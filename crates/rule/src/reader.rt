@@ -31,7 +31,7 @@ use crate::ids::{
     LETTER_R, LETTER_V, LETTER_X, LETTERS, RULE_BYTES, RULE_INDEX, SECTION_A, SECTION_E, SECTION_I,
     SECTION_K, SECTION_M, SECTION_N, SECTION_R, SECTION_S, SECTION_V, SECTION_X,
 };
-use crate::order::spot_of;
+use crate::order::Spot;
 use crate::pass::pass;
 use records::fields::{Field, read_field};
 use records::refusal::Refusal;
@@ -69,7 +69,12 @@ fn check_section(
     let mut last: Option<Field> = None;
     while at < to {
         let f = read_field(s, at).ok_or(Refusal::BadFields)?;
-        let spot = spot_of(f.start, f.len, count, last);
+        let spot = Spot {
+            start: f.start,
+            len: f.len,
+            before: count,
+            last,
+        };
         field_fault(sig, symbols, counts, s, index, structures, letter, spot)?;
         count += 1;
         last = Some(f);
@@ -103,7 +108,12 @@ fn check_elements(
     let mut last: Option<Field> = None;
     while at < to {
         let f = read_field(s, at).ok_or(Refusal::BadFields)?;
-        let spot = spot_of(f.start, f.len, count, last);
+        let spot = Spot {
+            start: f.start,
+            len: f.len,
+            before: count,
+            last,
+        };
         element_fault(sig, symbols, counts, s, from, to, spot)?;
         index[ELEMENTS_FROM + FIELDS * k + count] = at as u16;
         count += 1;

@@ -7,13 +7,9 @@ use Rattle.definition.specs.Records.{Block}
 use lib.ListN.{length}
 use mathlib.Core.Path.{◌≡◌}
 use mathlib.Core.List.{List}
-use Prim.Native.Nat.{◌-◌, ◌≤◌}
 use Rattle.rule.proofs.reader.check_structures.Given as goal
 
 abbrev pub invariant-loop-k : goal.invariant-loop-k
 invariant-loop-k l =
-    (l.k ≤ l.structures) × (length l.index ≡ rule_index) × Kept l.initial.index l.index 0 × Known l.s l.index l.k
+    (length l.index ≡ rule_index) × Kept l.initial.index l.index 0 × Known l.s l.index l.k
     × ((bs : List Block) → Structured l.s l.initial.index l.structures bs → Going (signature_at l.sig l.symbols l.counts) l.s l.index bs l.k)
-
-abbrev pub decreases-loop-k : goal.decreases-loop-k
-decreases-loop-k l = l.structures - l.k
