@@ -10,7 +10,7 @@ use Rattle.definition.specs.Rule.{Structure, Element, element_of}
 use Rattle.definition.specs.Names.{numbers_of}
 use Rattle.laws.proofs.Lists.{length_each, mem_at}
 use Rattle.rule.specs.Elements.{count_at, element_fields, element_numbers, Elements, Finds}
-use Rattle.std.proofs.Common.{Some, None}
+use Rattle.std.proofs.Common.{Some}
 use Rattle.rule.proofs.Finding.{numbers_length, numbers_get}
 use Rattle.rule.specs.ElementFields.{element_in, elements_in, element_from}
 use Rattle.rule.specs.declared.elements.Element as read

@@ -17,9 +17,14 @@ pub fn incoming_source(s: &[u8], index: &[u16; RULE_INDEX], target: usize) -> Op
     let maps = section_behind(s, index, PLACE_M);
     let mut at = maps.from;
     while at < maps.to {
-        let Some(Field {
-            start, len, next, ..
-        }) = read_field(s, at)
+        let Some(
+            Field {
+                start,
+                len,
+                next,
+                ..
+            },
+        ) = read_field(s, at)
         else {
             return None;
         };
@@ -39,9 +44,14 @@ pub fn unmapped_auxiliary(s: &[u8], index: &[u16; RULE_INDEX]) -> bool
     let auxiliaries = section_behind(s, index, PLACE_X);
     let mut at = auxiliaries.from;
     while at < auxiliaries.to {
-        let Some(Field {
-            start, len, next, ..
-        }) = read_field(s, at)
+        let Some(
+            Field {
+                start,
+                len,
+                next,
+                ..
+            },
+        ) = read_field(s, at)
         else {
             return true;
         };
@@ -61,9 +71,14 @@ pub fn unmapped_kind(s: &[u8], index: &[u16; RULE_INDEX]) -> bool
     let kinds = section_behind(s, index, PLACE_K);
     let mut at = kinds.from;
     while at < kinds.to {
-        let Some(Field {
-            start, len, next, ..
-        }) = read_field(s, at)
+        let Some(
+            Field {
+                start,
+                len,
+                next,
+                ..
+            },
+        ) = read_field(s, at)
         else {
             return true;
         };

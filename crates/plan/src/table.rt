@@ -45,9 +45,14 @@ fn stored(s: &[u8], index: &[u16; RULE_INDEX], table: &mut Kinds)
     let kinds = section_behind(s, index, PLACE_K);
     let mut at = kinds.from;
     while at < kinds.to {
-        let Some(Field {
-            start, len, next, ..
-        }) = read_field(s, at)
+        let Some(
+            Field {
+                start,
+                len,
+                next,
+                ..
+            },
+        ) = read_field(s, at)
         else {
             return;
         };
@@ -71,9 +76,14 @@ fn complete(s: &[u8], index: &[u16; RULE_INDEX], table: &mut Kinds)
     let auxiliaries = section_behind(s, index, PLACE_X);
     let mut at = auxiliaries.from;
     while at < auxiliaries.to {
-        let Some(Field {
-            start, len, next, ..
-        }) = read_field(s, at)
+        let Some(
+            Field {
+                start,
+                len,
+                next,
+                ..
+            },
+        ) = read_field(s, at)
         else {
             return;
         };

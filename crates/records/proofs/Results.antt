@@ -19,3 +19,7 @@ module _ {T E : Type 0} {r : Result T E} (e : E) where
   pub was_none : {o : Option T} {d : E} → r ≡ ok_or o e → r ≡ Err d → o ≡ None
   was_none {o = Some y} v h = grind arith
   was_none {o = None} v h = refl
+
+  pub which_err : (o : Option T) {d : E} → r ≡ ok_or o e → r ≡ Err d → d ≡ e
+  which_err (Some y) v h = grind arith
+  which_err None v h = grind arith

@@ -5,7 +5,7 @@ use Rattle.rule.proofs.Finding.{numbers_ascend}
 use Rattle.rule.proofs.ListLaws.{els_all}
 use Rattle.rows.proofs.ArgumentLaws.{mark_none, mark_at, seen_more}
 use Rattle.rows.proofs.Places.{found_place}
-use Rattle.rows.proofs.arguments.mark.Goals.{in-At, in_default}
+use Rattle.rows.proofs.arguments.mark.Goals.{in-Some, in_default}
 use Rattle.rows.proofs.arguments.mark.Goals as goal
 
 pub loop-j-init : goal.loop-j-init
@@ -19,7 +19,7 @@ loop-j-preserved c =
     let v = c.loop-j.invariant in
     let more = seen_more c.requires.els_inside _ c.loop-j-test.true c.el_at.ensures in
     elim c.match-find_element.branch [
-      | in-At w ↦ rw w.flags-is (
+      | in-Some w ↦ rw w.flags-is (
         rw length-set v.0,
         λ seen m.
             let f = rw w.in-Some.is at c.find_element.ensures in
