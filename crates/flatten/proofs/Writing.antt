@@ -23,7 +23,7 @@ use Rattle.rule.specs.Lookup.{rule_at}
 use Rattle.reading.specs.Answers.{rule_answer, RuleUsable}
 use Rattle.reading.specs.Verdicts.{rule_read}
 use Rattle.reading.specs.declared.RuleReading.TheVariants as reading
-use Rattle.plan.specs.Table.{Tabled}
+use Rattle.plan.specs.Table.{Entries, Tabled}
 use Rattle.walk.specs.Tables.{Tables}
 use Rattle.walk.specs.Ended.{Readable, Ground, Finished, Ended}
 use Rattle.std.proofs.Common.{Result, Ok, Err}
@@ -61,7 +61,7 @@ refused_at_once out e = record { answer = rw e; buffer = rw e }
 abbrev End : Signature → List ℕ → Tables → List ℕ → Type 0
 End sig s tb types = (state : State) × (whole_walk sig s ≡ accepted state) × Finished sig s tb types state
 
-abbrev pub ending : {sig : Signature} {s index types : List ℕ} {kinds : List (List ℕ)} {tb : Tables} → End sig s tb types → Ground sig s index
+abbrev pub ending : {sig : Signature} {s index types : List ℕ} {kinds : Entries} {tb : Tables} → End sig s tb types → Ground sig s index
     → Tabled kinds (completed (rule_at s).maps (rule_at s).kinds (rule_at s).auxiliaries) → Ended s index types kinds tb
 ending {sig} w gr td = record { sig = sig; state = w.0; ground = gr; tabled = td; finished = w.2 }
 
@@ -86,7 +86,7 @@ module _ (sig : Signature) (s : List ℕ) (room : ℕ) where
   walk_stopped w = rw w.is
 
   -- The group is written for the state that the walk ended in.
-  pub ended_writes : {index types : List ℕ} {kinds : List (List ℕ)} {tb : Tables} {q : Result ℕ Refusal} {out₀ out : List ℕ} → (x : End sig s tb types)
+  pub ended_writes : {index types : List ℕ} {kinds : Entries} {tb : Tables} {q : Result ℕ Refusal} {out₀ out : List ℕ} → (x : End sig s tb types)
       → (g : Ground sig s index) (td : Tabled kinds (completed (rule_at s).maps (rule_at s).kinds (rule_at s).auxiliaries))
       → ((e : Ended s index types kinds tb) → Writes q out₀ out (fitted room (group_bytes_of (group_left (rule_at s) e.state))))
       → Writes q out₀ out (walk_outcome sig s room)

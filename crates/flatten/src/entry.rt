@@ -14,7 +14,7 @@ ghost use Rattle.flatten.specs.Answers.{Untyped, Writes, outcome_in, answer_of, 
 use flags::{Held, NO_HELD};
 use naming::variables::VARIABLES;
 use plan::sources::{unmapped_auxiliary, unmapped_kind};
-use plan::table::{NO_KIND, kind_table};
+use plan::table::{Kinds, NO_KINDS, kind_table};
 use reading::{RuleReading, read_rule_into};
 use records::refusal::Refusal;
 use rule::elements::element_count;
@@ -38,7 +38,7 @@ fn write_group(
     s: &[u8],
     index: &[u16; RULE_INDEX],
     n: usize,
-    kinds: &[[u8; STRUCTURES]; STRUCTURES],
+    kinds: &Kinds,
     sources: &[u8; STRUCTURES],
     masks: &[[Held; SORTS]; STRUCTURES],
     vars: &[[u16; FIELDS]; STRUCTURES],
@@ -67,7 +67,7 @@ fn flatten_morphisms(
     s: &[u8],
     index: &[u16; RULE_INDEX],
     n: usize,
-    kinds: &[[u8; STRUCTURES]; STRUCTURES],
+    kinds: &Kinds,
     mut vars: [[u16; FIELDS]; STRUCTURES],
     types: &mut [u8],
     out: &mut [u8],
@@ -86,8 +86,7 @@ fn flatten_morphisms(
     let mut next = element_count(index, 0) as u16;
     for target in 0..n {
         for source in 0..n {
-            let kind = kinds[source][target];
-            if kind < NO_KIND {
+            if let Some(kind) = kinds[source][target] {
                 let v = meet_map(s, index, source, target, kind, next);
                 let m = walk_map(
                     sig,
@@ -132,7 +131,7 @@ fn flatten_rule(
     if unmapped_kind(s, index) {
         return Err(Refusal::UnmappedKind);
     }
-    let mut kinds = [[NO_KIND; STRUCTURES]; STRUCTURES];
+    let mut kinds = NO_KINDS;
     kind_table(s, index, &mut kinds);
     flatten_morphisms(
         sig,

@@ -11,8 +11,7 @@ use Rattle.definition.specs.Base.{any, first_of, given, or_default}
 use Rattle.definition.specs.Rule.{Map, Kind, Auxiliary}
 use Rattle.definition.specs.Walk.{incoming_source, pairs_between}
 use Rattle.rule.specs.Lookup.{FindsMap}
-use Rattle.rule.specs.declared.lookup.MapFound.{MapFound}
-use Rattle.rule.specs.declared.lookup.MapFound.TheVariants as map
+use Rattle.records.specs.declared.fields.Field as read
 use Rattle.rule.proofs.MapReading.{found_at, found_none}
 use Rattle.plan.specs.Sources.{source_is}
 
@@ -59,12 +58,15 @@ module _ (maps : List Map) (x : Auxiliary) {target : ℕ} (r : std.Option ℕ) (
 abbrev pub no_map : List Map → Kind → Bool
 no_map maps k = not (given (pairs_between maps k.source k.target))
 
-module _ (maps : List Map) (k : Kind) {s : List ℕ} {source target : ℕ} {r : MapFound} (p : source ≡ k.source) (q : target ≡ k.target)
-    (w : FindsMap r s (pairs_between maps source target)) where
-  pub no_map_here : r ≡ map.Nothing → (rest : List Kind) → any (no_map maps) (k ∷ rest) ≡ true
+module _ (maps : List Map) (k : Kind) {s : List ℕ} {source target : ℕ} (p : source ≡ k.source) (q : target ≡ k.target) where
+  pub no_map_here : (r : std.Option read.Field) → FindsMap r s (pairs_between maps source target) → is_some r ≡ false → (rest : List Kind)
+      → any (no_map maps) (k ∷ rest) ≡ true
   unfolding any
-  no_map_here e rest = rw (← p, ← q, found_none (rw e at w))
+  no_map_here (Some f) w e rest = cc
+  no_map_here None w e rest = rw (← p, ← q, found_none w)
 
-  pub no_map_behind : {start len : ℕ} → r ≡ map.At start len → (rest : List Kind) → any (no_map maps) (k ∷ rest) ≡ any (no_map maps) rest
+  pub no_map_behind : (r : std.Option read.Field) → FindsMap r s (pairs_between maps source target) → is_some r ≡ true → (rest : List Kind)
+      → any (no_map maps) (k ∷ rest) ≡ any (no_map maps) rest
   unfolding any
-  no_map_behind e rest = rw (← p, ← q, (found_at (rw e at w)).0)
+  no_map_behind (Some f) w e rest = rw (← p, ← q, (found_at w).0)
+  no_map_behind None w e rest = cc

@@ -1,67 +1,69 @@
 -- A table of kinds: without any, and with the kind of a pair added.
-use Prim.Native.Nat.{ℕ, zero, suc, ◌≤◌, ◌<◌}
+use Prim.Native.Nat.{ℕ, ◌<◌}
 use native.Mathlib.Omega.{arith}
 use native.Mathlib.Decide.{ℕ_discrete}
 use mathlib.Core.Bool.{Bool, true, false, and-false}
-use mathlib.Core.List.{List, [], ◌∷◌}
-use mathlib.Core.Option.{Option, none, some}
-use mathlib.Core.Path.{◌≡◌, refl, sym, ◌∙◌}
+use mathlib.Core.List.{List, []}
+use mathlib.Core.Option as option
+use mathlib.Core.Option.{none, some}
+use mathlib.Core.Path.{◌≡◌, refl, sym, ◌∙◌, ap}
 use lib.Dec.{eqb}
-use lib.ListN.{length, get_or, set, replicate, length-set, length-replicate, get_or-replicate, get_or-eq_default}
+use lib.ListN.{length, get_or, set, replicate, length-set, length-replicate, get_or-replicate}
 use lib.Seq.{get_or-set_same, get_or-set_other}
 use borrow.Author.Tests.{eq-eqb, ne_eqb, eqb-true}
+use Rattle.std.specs.Prelude.{Some, None, is_some}
 use Rattle.definition.specs.Base.{pick, or_else, first_of}
 use Rattle.definition.specs.Limits.{structure_limit}
-use Rattle.definition.specs.Rule.{Kind, MorphismKind, If, SurjThen, NonSurjThen, Noop}
+use Rattle.definition.specs.Rule.{Kind, MorphismKind}
 use Rattle.definition.specs.Walk.{of_pair, add_pair}
 use Rattle.laws.proofs.KindTable.{added_at}
 use Rattle.laws.proofs.Choices.{or_none}
-use Rattle.laws.proofs.Lists.{and_left, and_right}
+use Rattle.laws.proofs.Lists.{and_left, and_right, never}
 use Rattle.laws.specs.KindTable.{kind_at}
-use Rattle.plan.specs.Table.{kind_in, entry_at, Tabled}
+use Rattle.rule.specs.Lookup.{kind_is}
+use Rattle.rule.specs.declared.lookup.MorphismKind as read
+use Rattle.plan.specs.Table.{Entry, Entries, kind_in, entry_at, Tabled}
 
--- A number below 4 is that of a kind, another is not.
-pub kind_some : (n : ℕ) → n < 4 → (k : MorphismKind) × (kind_in n ≡ some k)
-unfolding kind_in
-kind_some zero h = (If, refl)
-kind_some (suc zero) h = (SurjThen, refl)
-kind_some (suc (suc zero)) h = (NonSurjThen, refl)
-kind_some (suc (suc (suc zero))) h = (Noop, refl)
-kind_some (suc (suc (suc (suc n)))) h = absurd (omega arith)
+-- An entry has a kind or none.
+pub kind_some : (e : Entry) → is_some e ≡ true → (k : MorphismKind) × (kind_in e ≡ some k)
+kind_some (Some k) h = (kind_is k, refl)
+kind_some None h = never h refl
 
-pub kind_none : (n : ℕ) → 4 ≤ n → kind_in n ≡ none
-unfolding kind_in
-kind_none n h = get_or-eq_default (some If ∷ some SurjThen ∷ some NonSurjThen ∷ some Noop ∷ []) none h
+pub kind_none : (e : Entry) → is_some e ≡ false → kind_in e ≡ none
+kind_none (Some k) h = never refl h
+kind_none None h = refl
 
 -- The table that `kind_table` is lent: no pair has a kind.
-abbrev pub empty_table : List (List ℕ)
-empty_table = replicate structure_limit (replicate {A = ℕ} structure_limit 4)
+abbrev pub empty_row : List Entry
+empty_row = replicate structure_limit None
+
+abbrev pub empty_table : Entries
+empty_table = replicate structure_limit empty_row
 
 pub empty_table_lem : Tabled empty_table []
 unfolding kind_at first_of
 empty_table_lem = record {
-  long = length-replicate structure_limit (replicate {A = ℕ} structure_limit 4);
-  wide = λ source h. rw (get_or-replicate structure_limit source (replicate {A = ℕ} structure_limit 4) [] h) (length-replicate {A = ℕ} structure_limit 4);
+  long = length-replicate structure_limit empty_row;
+  wide = λ source h. rw (get_or-replicate structure_limit source empty_row [] h) (length-replicate {A = Entry} structure_limit None);
   same = λ source target h l.
-      rw (get_or-replicate structure_limit source (replicate {A = ℕ} structure_limit 4) [] h, get_or-replicate {A = ℕ} structure_limit target 4 0 l)
-      (kind_none 4 (omega arith));
+      rw (get_or-replicate structure_limit source empty_row [] h, get_or-replicate {A = Entry} structure_limit target None None l);
 }
 
 clash : {A B : Type 0} (x : A) → some x ≡ none → B
 clash x e = let z : ◌≡◌ {A = ℕ} 0 1 = cc in absurd (omega arith)
 
 -- The table of the same kinds by another list.
-pub tabled_as : {table : List (List ℕ)} {ks js : List Kind} → Tabled table ks
+pub tabled_as : {table : Entries} {ks js : List Kind} → Tabled table ks
     → ((source target : ℕ) → kind_at js source target ≡ kind_at ks source target) → Tabled table js
 tabled_as w e = record { long = w.long; wide = w.wide; same = λ source target h l. w.same source target h l ∙ sym (e source target) }
 
-module _ {table : List (List ℕ)} {ks : List Kind} (w : Tabled table ks) (k : Kind) {source target : ℕ}
+module _ {table : Entries} {ks : List Kind} (w : Tabled table ks) (k : Kind) {source target : ℕ}
     (source_in : source < structure_limit) (target_in : target < structure_limit) (p : source ≡ k.source) (q : target ≡ k.target) where
   -- The pair has a kind.
-  pub kept : entry_at table source target < 4 → Tabled table (add_pair ks k)
+  pub kept : is_some (entry_at table source target) ≡ true → Tabled table (add_pair ks k)
   kept h = tabled_as w (λ i j. added_at ks k i j ∙ go i j (kind_at ks i j) refl (of_pair i j k) refl)
     where
-      go : (i j : ℕ) (o : Option MorphismKind) → kind_at ks i j ≡ o → (c : Bool) → of_pair i j k ≡ c → or_else o (pick c (some k.kind) none) ≡ o
+      go : (i j : ℕ) (o : option.Option MorphismKind) → kind_at ks i j ≡ o → (c : Bool) → of_pair i j k ≡ c → or_else o (pick c (some k.kind) none) ≡ o
       go i j (some x) e c f = refl
       go i j none e false f = refl
       go i j none e true f =
@@ -72,11 +74,11 @@ module _ {table : List (List ℕ)} {ks : List Kind} (w : Tabled table ks) (k : K
           clash x.0 (sym x.1 ∙ w.same source target source_in target_in ∙ n)
 
   -- The pair has none yet.
-  module _ (n : ℕ) (m : kind_in n ≡ some k.kind) (free : 4 ≤ entry_at table source target) where
-    abbrev row : List ℕ
-    row = set (get_or table source []) target n
+  module _ (n : read.MorphismKind) (m : kind_is n ≡ k.kind) (free : is_some (entry_at table source target) ≡ false) where
+    abbrev row : List Entry
+    row = set (get_or table source []) target (Some n)
 
-    abbrev more : List (List ℕ)
+    abbrev more : Entries
     more = set table source row
 
     row_here : get_or more source [] ≡ row
@@ -86,7 +88,7 @@ module _ {table : List (List ℕ)} {ks : List Kind} (w : Tabled table ks) (k : K
     row_there i e = get_or-set_other table source i row [] e
 
     wide : (i : ℕ) → i < structure_limit → Dec (i ≡ source) → length (get_or more i []) ≡ structure_limit
-    wide i h (yes e) = rw (e, row_here) (length-set (get_or table source []) target n ∙ w.wide source source_in)
+    wide i h (yes e) = rw (e, row_here) (length-set (get_or table source []) target (Some n) ∙ w.wide source source_in)
     wide i h (no e) = rw (row_there i e) (w.wide i h)
 
     here : kind_at (add_pair ks k) source target ≡ some k.kind
@@ -100,16 +102,16 @@ module _ {table : List (List ℕ)} {ks : List Kind} (w : Tabled table ks) (k : K
     same : (i j : ℕ) → i < structure_limit → j < structure_limit → Dec (i ≡ source) → Dec (j ≡ target)
         → kind_in (entry_at more i j) ≡ kind_at (add_pair ks k) i j
     same i j a b (yes e) (yes f) =
-        rw (e, f, row_here, get_or-set_same (get_or table source []) target n 0 (omega (arith, w.wide source source_in))) (m ∙ sym here)
+        rw (e, f, row_here, get_or-set_same (get_or table source []) target (Some n) None (omega (arith, w.wide source source_in))) (ap some m ∙ sym here)
     same i j a b (yes e) (no f) =
         let x : of_pair i j k ≡ false = rw (ne_eqb k.target j (λ z. f (sym (q ∙ z)))) (and-false (eqb k.source i)) in
-        let y : entry_at more i j ≡ entry_at table i j = rw (e, row_here) (get_or-set_other (get_or table source []) target j n 0 f) in
+        let y : entry_at more i j ≡ entry_at table i j = rw (e, row_here) (get_or-set_other (get_or table source []) target j (Some n) None f) in
         rw y (w.same i j a b ∙ sym (there i j x))
     same i j a b (no e) f =
         let x : of_pair i j k ≡ false = rw (ne_eqb k.source i (λ z. e (sym (p ∙ z)))) in
         rw (row_there i e) (w.same i j a b ∙ sym (there i j x))
 
-    pub grown : Tabled (set table source (set (get_or table source []) target n)) (add_pair ks k)
+    pub grown : Tabled (set table source (set (get_or table source []) target (Some n))) (add_pair ks k)
     grown = record {
       long = length-set table source row ∙ w.long;
       wide = λ i h. wide i h (ℕ_discrete i source);

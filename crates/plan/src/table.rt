@@ -1,10 +1,9 @@
 // The kinds of all pairs of structures: those of K, then those that the X add.
 ghost use Rattle.std.specs.Prelude.{[], ◌≡◌, ◌<◌};
-ghost use Rattle.std.proofs.Math.Option.{some};
 ghost use Rattle.definition.specs.Limits.{structure_limit};
 ghost use Rattle.definition.specs.Walk.{auxiliary_kind, completed};
 ghost use Rattle.rule.specs.Lookup.{Ready, rule_at, kind_is};
-ghost use Rattle.plan.specs.Table.{kind_in, Tabled, Adds};
+ghost use Rattle.plan.specs.Table.{Tabled, Adds};
 
 use crate::sources::incoming_source;
 use records::fields::{Field, read_field};
@@ -12,52 +11,33 @@ use rule::ids::{PLACE_K, PLACE_X, RULE_INDEX, STRUCTURES};
 use rule::lookup::{MorphismKind, class_at, kind_at, source_at, structure_at, target_at};
 use rule::sections::section_behind;
 
-// The kinds as numbers, and a pair without one.
-pub const IF: u8 = 0;
+// The kind of each pair of structures, by source, then target, where it has one.
+pub type Kinds = [[Option<MorphismKind>; STRUCTURES]; STRUCTURES];
 
-pub const SURJ_THEN: u8 = 1;
-
-pub const NON_SURJ_THEN: u8 = 2;
-
-pub const NOOP: u8 = 3;
-
-pub const NO_KIND: u8 = 4;
-
-// A kind's number.
-fn kind_number(kind: MorphismKind) -> u8
-    ensures { kind_in result ≡ some (kind_is kind) }
-{
-    match kind {
-        MorphismKind::If => IF,
-        MorphismKind::SurjThen => SURJ_THEN,
-        MorphismKind::NonSurjThen => NON_SURJ_THEN,
-        MorphismKind::Noop => NOOP,
-    }
-}
+pub const NO_KINDS: Kinds = [[None; STRUCTURES]; STRUCTURES];
 
 // The kind that an X adds: Noop for class 0, else If.
-fn auxiliary_kind(class: u8) -> u8
-    ensures { kind_in result ≡ some (auxiliary_kind class) }
+fn auxiliary_kind(class: u8) -> MorphismKind
+    ensures { kind_is result ≡ auxiliary_kind class }
 {
-    if class == 0 {
-        return NOOP;
+    match class {
+        0 => MorphismKind::Noop,
+        _ => MorphismKind::If,
     }
-    IF
 }
 
 // A pair's kind into the table, unless the pair has one by then.
-fn add(table: &mut [[u8; STRUCTURES]; STRUCTURES], source: usize, target: usize, kind: u8)
+fn add(table: &mut Kinds, source: usize, target: usize, kind: MorphismKind)
     requires { (source < structure_limit) × (target < structure_limit) }
     ensures { Adds table.old table.new source target kind }
 {
-    if table[source][target] < NO_KIND {
-        return;
+    if table[source][target].is_none() {
+        table[source][target] = Some(kind);
     }
-    table[source][target] = kind;
 }
 
 // The kinds of K, into a table without any.
-fn stored(s: &[u8], index: &[u16; RULE_INDEX], table: &mut [[u8; STRUCTURES]; STRUCTURES])
+fn stored(s: &[u8], index: &[u16; RULE_INDEX], table: &mut Kinds)
     requires ready { Ready s.now index.now }
     requires tabled { Tabled table.old [] }
     ensures { Tabled table.new (rule_at s.now).kinds }
@@ -76,19 +56,18 @@ fn stored(s: &[u8], index: &[u16; RULE_INDEX], table: &mut [[u8; STRUCTURES]; ST
         else {
             return;
         };
-        let kind = kind_number(kind_at(s, start, len));
         add(
             table,
             source_at(s, start, len),
             target_at(s, start, len),
-            kind,
+            kind_at(s, start, len),
         );
         at = next;
     }
 }
 
 // Behind the kinds of a table those that the X add, in order.
-fn complete(s: &[u8], index: &[u16; RULE_INDEX], table: &mut [[u8; STRUCTURES]; STRUCTURES])
+fn complete(s: &[u8], index: &[u16; RULE_INDEX], table: &mut Kinds)
     requires ready { Ready s.now index.now }
     requires tabled { Tabled table.old (rule_at s.now).kinds }
     ensures { Tabled table.new
@@ -120,9 +99,8 @@ fn complete(s: &[u8], index: &[u16; RULE_INDEX], table: &mut [[u8; STRUCTURES]; 
     }
 }
 
-// The kind of each pair of structures, by its source, then its target, into a table without kinds. It is the caller's, so that none
-// is copied.
-pub fn kind_table(s: &[u8], index: &[u16; RULE_INDEX], table: &mut [[u8; STRUCTURES]; STRUCTURES])
+// The kinds of all pairs into a table without kinds, which is the caller's, so that none is copied.
+pub fn kind_table(s: &[u8], index: &[u16; RULE_INDEX], table: &mut Kinds)
     requires ready { Ready s.now index.now }
     requires tabled { Tabled table.old [] }
     ensures { Tabled table.new

@@ -20,13 +20,11 @@ use Rattle.records.specs.Held.{field_in}
 use Rattle.records.proofs.Numbers.{length_stretch}
 use Rattle.records.proofs.Runs.{run_le, run_end}
 use Rattle.records.proofs.Index.{length_held, held_get, held_same}
-use Rattle.records.specs.declared.refusal.Refusal.{Refusal}
-use Rattle.std.proofs.Common.{Ok, Err}
 use Rattle.rule.specs.Layout.{letter_at, place_n, place_e, place_r, place_a, place_v, place_i, letters}
 use Rattle.rule.specs.Layout.{elements_from, section_from, section_to, number_of, within}
 use Rattle.rule.specs.Elements.{count_at, position_at, element_fields, element_numbers, numbers_in, Elements, Known}
 use Rattle.rule.specs.Faults.{name_key, row_symbols, row_columns, check_of, rest_fault}
-use Rattle.rule.specs.Answers.{Bodied, Kept, Stored}
+use Rattle.rule.specs.Answers.{Bodied, Kept}
 use Rattle.rule.proofs.Drawn.{last_named_lem}
 use Rattle.rule.proofs.Checking.{SectionTold}
 
@@ -197,17 +195,6 @@ module _ (sig : Signature) (body : List Field) where
   pub body_rest : {f : Option ℕ} → OfE none → f ≡ rest_fault sig (named_elements body) body → f ≡ body_fault sig (named_elements body) body
   unfolding body_fault rest_fault row_columns name_key
   body_rest h k = k ∙ sym (rw (← h))
-
--- A fault of a later field: what was stored is kept.
-pub stored_not : {u : Unit} {f : Refusal} {s index₀ index : List ℕ} {k : ℕ} → Stored (Ok u) s index₀ index k → Stored (Err f) s index₀ index k
-stored_not w = record { kept = w.kept; known = tt }
-
--- Nothing has been stored.
-pub kept_same : {index : List ℕ} → Kept index index 0
-kept_same = record { before = λ i h. refl; counts = λ j h. refl }
-
-pub known_none : {s index : List ℕ} → Known s index 0
-known_none = record { few = omega arith; elements = λ k h. absurd (omega arith) }
 
 pub known_here : {s index : List ℕ} {k n : ℕ} → Known s index k → n ≤ k → k ≤ n → Known s index n
 known_here w a b = record { few = omega (arith, w.few); elements = λ j h. w.elements j (omega arith) }

@@ -10,8 +10,7 @@ use Rattle.definition.specs.Base.{cons_if, keep, all}
 use Rattle.definition.specs.Records.{Field, with_letter, fault_from, fault_among}
 use Rattle.laws.proofs.Lists.{and_left, and_right}
 use Rattle.records.specs.Places.{field_at, field_of, Run, got}
-use Rattle.std.proofs.Common.{None}
-use Rattle.records.proofs.Runs.{Behind, run_got, run_bad, run_end}
+use Rattle.records.proofs.Runs.{Behind, run_got, run_end}
 use Rattle.rule.specs.Faults.{check_of}
 use Rattle.rule.specs.Elements.{numbers_in}
 use Rattle.definition.specs.Signature.{Signature}
@@ -62,9 +61,6 @@ module _ {s : List ℕ} {letter : ℕ} {check : ℕ → Option Field → Field �
   check_end h = sym (w.fault ∙ rw (run_end w.run h))
 
   module _ (lt : at < to) where
-    pub check_bad : {A : Type 0} → field_at s at ≡ None → A
-    check_bad e = run_bad w.run lt e
-
     module _ {l start len next : ℕ} (e : field_at s at ≡ got l start len next) where
       -- The first of what is left has the letter.
       pub record First : Type 0 where

@@ -4,7 +4,6 @@ use native.Mathlib.Omega.{arith}
 use native.Mathlib.Nat.{add-zero}
 use mathlib.Core.Bool.{Bool, true, false, not, ◌||◌}
 use mathlib.Core.List.{List, [], ◌∷◌}
-use mathlib.Core.Logic.{◌⊎◌, ⊎_elim}
 use mathlib.Core.Option.{Option, none, some}
 use mathlib.Core.Path.{◌≡◌, refl, sym, ◌∙◌, ap}
 use lib.Bits.{bit_and, and_mask}
@@ -12,7 +11,7 @@ use lib.Dec.{eqb, ltb, leb}
 use lib.ListN.{length, get_or, take, drop}
 use borrow.Author.Tests.{eqb-true, le-ltb, eq-eqb, ne_eqb, ltb-true, ltb-false, not-false}
 use Rattle.definition.specs.Base.{pick, less, all, has, lowest, empty, span}
-use Rattle.definition.specs.Letters.{letter_r, letter_a, letter_v, letter_i, predicate, function}
+use Rattle.definition.specs.Letters.{predicate, function}
 use Rattle.definition.specs.Limits.{structure_limit, field_limit, map_limit, name_bytes}
 use Rattle.definition.specs.Records.{Field, numbers, number_at, not_above, bad_name, odd}
 use Rattle.definition.specs.Signature.{Signature, type_parents, pred_of, func_of, column_count, arity, symbol_count}
@@ -25,11 +24,10 @@ use Rattle.records.proofs.Numbers.{length_stretch, stretch_at, drop_stretch, tak
 use Rattle.signature.specs.Relations.{kind_of}
 use Rattle.signature.specs.declared.ids.Relation.{Relation}
 use Rattle.laws.proofs.Numbers.{drop_numbers, take_numbers}
-use Rattle.rule.specs.Faults.{name_key, pair_named, last_field, LastIn, AboveLast, Fits, row_symbols, row_columns, row_check, last_named, check_of}
+use Rattle.rule.specs.Faults.{name_key, pair_named, last_field, LastIn, AboveLast, Fits, row_symbols, row_columns}
 use Rattle.std.proofs.Common as std
 use Rattle.std.proofs.Common.{Some, None, Ok, Err}
 use Rattle.records.specs.declared.fields.Field as read
-use Rattle.records.specs.declared.refusal.Refusal.{Refusal}
 use Rattle.rule.specs.Elements.{element_numbers, numbers_in}
 use Rattle.rule.proofs.Letters.{get_d_span, length_span}
 
@@ -251,33 +249,6 @@ module _ (rel : Relation) (results : ℕ) (e : kind_of rel ≡ pick (eqb results
 pub last_named_lem : (s index : List ℕ) (n : ℕ) → 1 ≤ n → get_or (numbers_in s index n) (length (numbers_in s index n) - 1) [] ≡ element_numbers s index (n - 1)
 last_named_lem s index n h = rw (named_length s index n) (named_at s index n (n - 1) (omega arith))
 
--- R and A share a check, and so do V and I: they differ in a number.
-module _ (letter : ℕ) {results : ℕ} (e : results ≡ pick (eqb letter letter_a) 1 0) where
-  pub row_check_lem : (sig : Signature) (named : List (List ℕ)) → letter ≡ letter_a ⊎ letter ≡ letter_r
-      → check_of sig named letter ≡ row_check sig results (last_named sig named)
-  unfolding check_of
-  row_check_lem sig named = ⊎_elim (λ a. rw (e, a)) (λ r. rw (e, r))
-
-  pub row_results : results ≤ 1
-  row_results = go (eqb letter letter_a) e
-    where
-      go : (b : Bool) → results ≡ pick b 1 0 → results ≤ 1
-      go true q = omega arith
-      go false q = omega arith
-
-module _ (letter : ℕ) {count : ℕ} (e : count ≡ pick (eqb letter letter_i) 2 1) where
-  pub name_check : (sig : Signature) (named : List (List ℕ)) → letter ≡ letter_i ⊎ letter ≡ letter_v
-      → check_of sig named letter ≡ name_fault count (name_key count) (last_named sig named)
-  unfolding check_of
-  name_check sig named = ⊎_elim (λ i. rw (e, i)) (λ v. rw (e, v))
-
-  pub name_numbers : (1 ≤ count) × (count ≤ 2)
-  name_numbers = go (eqb letter letter_i) e
-    where
-      go : (b : Bool) → count ≡ pick b 2 1 → (1 ≤ count) × (count ≤ 2)
-      go true q = (omega arith, omega arith)
-      go false q = (omega arith, omega arith)
-
 -- A number above the last one.
 take_one : (xs : List ℕ) → 1 ≤ length xs → take 1 xs ≡ get_or xs 0 0 ∷ []
 take_one [] h = absurd (omega arith)
@@ -311,6 +282,3 @@ above_last s start len (Some f) h w l e = λ k.
 pub fits_sound : (s : List ℕ) (start len before : ℕ) (last : std.Option read.Field) → start + len ≤ length s → LastIn last (length s) → 4 ≤ len → before < field_limit
     → not_above (λ (g : Field). take 1 (numbers g.content)) (last_field s 0 last) (field_of s 0 start len) ≡ false → {u : Unit} → Fits (Ok u) s start len before last
 fits_sound s start len before last h w l b e = record { is = (l, b, above_last s start len last h w l e) }
-
-pub fits_not : {f : Refusal} {s : List ℕ} {start len before : ℕ} {last : std.Option read.Field} → Fits (Err f) s start len before last
-fits_not = record { is = tt }

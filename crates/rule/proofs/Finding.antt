@@ -21,7 +21,7 @@ use Rattle.rule.specs.Search.{Places}
 use Rattle.records.proofs.Link.{got_is}
 use Rattle.records.proofs.Numbers.{length_stretch, number_in}
 use Rattle.records.proofs.Index.{length_held, held_get}
-use Rattle.records.proofs.Runs.{run_got, run_bad, run_end}
+use Rattle.records.proofs.Runs.{run_got, run_end}
 use Rattle.rule.specs.Layout.{elements_from}
 use Rattle.rule.specs.Elements.{count_at, position_at, element_at, element_fields, element_numbers, Elements, Finds}
 
@@ -102,9 +102,6 @@ module _ {s : List ℕ} {to e at : ℕ} {body : List Field} (w : Scanning s to e
   scan_end h = w.left ∙ rw (run_end w.run h)
 
   module _ (lt : at < to) where
-    pub scan_bad : {A : Type 0} → field_at s at ≡ None → A
-    scan_bad e = run_bad w.run lt e
-
     module _ {letter start len next : ℕ} (g : field_at s at ≡ got letter start len next) where
       size : length (stretch s start len) ≡ len
       size = let x = got_is s at g in length_stretch s start len (omega arith)
@@ -138,13 +135,6 @@ module _ {s : List ℕ} {to e at : ℕ} {body : List Field} (w : Scanning s to e
 
       pub scan_skip : len < 2 → Scanning s to e body next
       scan_skip h = let b = run_got w.run lt g in record { rest = b.rest; run = b.run; left = w.left ∙ skipped b.rest b.same h }
-
--- What is found is there.
-pub finds_at : {i e : ℕ} {xs : List ℕ} → Finds (Some i) e xs → has e xs ≡ true
-finds_at w = w.is.2
-
-pub finds_none : {e : ℕ} {xs : List ℕ} → Finds None e xs → has e xs ≡ false
-finds_none w = w.is
 
 -- Elements stand in ascending order.
 abbrev pub Ascending : List ℕ → Type 0

@@ -2,7 +2,6 @@
 pub mod Blocks
 pub mod Letters
 pub mod Passing
-pub mod Filling
 pub mod Keys
 pub mod Finding
 pub mod Drawn

@@ -15,7 +15,7 @@ use Rattle.definition.specs.Walk.{map_of_pair, pairs_between}
 use Rattle.records.specs.Places.{field_at, field_of, Run, got}
 use Rattle.std.proofs.Common.{None}
 use Rattle.records.proofs.Link.{got_is}
-use Rattle.records.proofs.Runs.{run_got, run_bad, run_end}
+use Rattle.records.proofs.Runs.{run_got, run_end}
 use Rattle.rule.specs.Lookup.{Ready, rule_at, FindsMap}
 use Rattle.rule.proofs.Whole.{tail_run, letter_m_lem}
 use Rattle.rule.proofs.Sized.{AllLong, long_first, long_rest, maps_long}
@@ -44,9 +44,6 @@ module _ {s : List ℕ} {source target to at : ℕ} (w : Seeking s source target
   seek_end h = record { is = w.left ∙ rw (run_end w.run h) }
 
   module _ (lt : at < to) where
-    pub seek_bad : {A : Type 0} → field_at s at ≡ None → A
-    seek_bad e = run_bad w.run lt e
-
     module _ {letter start len next : ℕ} (e : field_at s at ≡ got letter start len next) where
       pub seek_inside : start + len ≤ length s
       seek_inside = let g = got_is s at e in omega arith

@@ -21,7 +21,7 @@ use Rattle.records.proofs.Runs.{run_starts, run_foremost}
 use Rattle.rule.specs.Lists.{els_in, ElsInside}
 use Rattle.rule.specs.Rows.{RowSized, RowStands, row_from, RowRead, RowsFrom}
 use Rattle.rule.specs.declared.rows.Row as read
-use Rattle.rule.proofs.ListLaws.{els_many, els_last}
+use Rattle.rule.proofs.ListLaws.{els_last}
 use Rattle.rule.proofs.RowFields.{Passed, RowHere, row_is}
 
 -- A field of rows stands where a loop stands before the end.
@@ -128,10 +128,7 @@ module _ {s : List ℕ} {end i : ℕ} {fs : List Field} {r : read.Row} (n : Next
       here : get_or fs i n.field ≡ n.field
       here = let e : i + 0 ≡ i = omega arith in sym (get_or-drop i fs 0 n.field ∙ rw e) ∙ rw n.left
 
--- Its elements: as many as its field has, so many where it has a result, and the last of them.
-pub row_many : {s : List ℕ} {at : ℕ} {r : read.Row} (q : RowRead s at r) (kind : ℕ) → length (row_of kind q.field).elements ≡ r.els.count
-row_many q kind = rw (q.says kind) (els_many q.inside)
-
+-- The last of its elements.
 pub result_is : {s : List ℕ} (r : read.Row) → ElsInside s r.els → 1 ≤ r.els.count → (kind : ℕ)
     → get_or (els_in s r.els) (r.els.count - 1) 0 ≡ last_element (row_from s kind r)
 unfolding last_element

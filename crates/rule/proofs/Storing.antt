@@ -15,7 +15,6 @@ use Rattle.records.specs.Held.{held_at}
 use Rattle.records.proofs.Link.{got_is}
 use Rattle.records.proofs.Runs.{run_end}
 use Rattle.records.proofs.Index.{got_field, held_store, held_same}
-use Rattle.records.specs.declared.refusal.Refusal.{Refusal}
 use Rattle.std.proofs.Common.{Some, None, Ok, Err}
 use Rattle.rule.specs.Layout.{elements_from, counts_from, rule_index}
 use Rattle.rule.specs.Elements.{count_at, position_at, element_at, element_fields}
@@ -143,13 +142,6 @@ module _ {s index₀ index : List ℕ} {k count : ℕ} {last : std.Option read.F
     };
   }
 
-  pub store_long : length index'' ≡ rule_index
-  store_long = length-set index (counts_from + k) count ∙ w.long
-
-  -- A fault ends the check.
-  pub store_fault : {f : Refusal} → Stored (Err f) s index₀ index k
-  store_fault = record { kept = w.kept; known = tt }
-
   -- The fields that the stored positions hold.
   pub held_end : (body : List Field) → with_letter letter_e body ≡ held_at s index from count → {u : Unit} → Holds (Ok u) s index'' k body
   unfolding element_fields
@@ -184,6 +176,3 @@ module _ {s index : List ℕ} {check : ℕ → Option Field → Field → Option
     unfolding check_next
     list_next c h = let f = first w.checking lt e in
         record { checking = check_next w.checking lt e c; held = w.held ∙ stored f.rest f.is f.same h }
-
-pub holds_not : {f : Refusal} {s index : List ℕ} {k : ℕ} {body : List Field} → Holds (Err f) s index k body
-holds_not = record { is = tt }

@@ -6,7 +6,7 @@ use native.Mathlib.Numerals.{add-one}
 use mathlib.Core.List.{List, [], ◌∷◌}
 use mathlib.Core.Logic.{⊎_elim}
 use mathlib.Core.Option.{Option, none, some}
-use mathlib.Core.Path.{◌≡◌, refl, sym, ◌∙◌}
+use mathlib.Core.Path.{◌≡◌, sym, ◌∙◌}
 use lib.ListN.{length, get_or, drop, drop_of_length-le}
 use lib.Seq.{drop-cons}
 use Rattle.definition.specs.Letters.{letter_e}
@@ -14,20 +14,16 @@ use Rattle.definition.specs.Limits.{structure_limit}
 use Rattle.definition.specs.Records.{Field, Block, with_letter}
 use Rattle.definition.specs.Signature.{Signature}
 use Rattle.definition.specs.Rule.{named_elements, structure_fault, body_fault, structures_fault}
-use Rattle.records.specs.declared.refusal.Refusal.{Refusal}
-use Rattle.std.proofs.Common.{Ok, Err}
+use Rattle.std.proofs.Common.{Ok}
 use Rattle.rule.specs.Layout.{no_block, place_s, section_from, number_of, within}
 use Rattle.rule.specs.Elements.{element_fields, Known}
-use Rattle.rule.specs.Answers.{HeadAt, Bodied, Structured, Kept, Holds, AllHold}
+use Rattle.rule.specs.Answers.{HeadAt, Bodied, Structured, Kept, Holds}
 use Rattle.rule.proofs.Bodies.{kept_fields, bodied_kept}
 
 -- So many structures are checked: what is left gives the answer, and the index holds their elements.
 pub record Going (sig : Signature) (s index : List ℕ) (bs : List Block) (k : ℕ) : Type 0 where
   pub left : structures_fault sig 0 bs ≡ structures_fault sig k (drop k bs)
   pub held : (j : ℕ) → j < k → element_fields s index j ≡ with_letter letter_e (get_or bs j no_block).body
-
-pub go_start : {sig : Signature} {s index : List ℕ} (bs : List Block) → Going sig s index bs 0
-go_start bs = record { left = refl; held = λ j h. absurd (omega arith) }
 
 module _ {s index₀ : List ℕ} {n : ℕ} {bs : List Block} (w : Structured s index₀ n bs) {index : List ℕ} (kept : Kept index₀ index 0) (k : ℕ) where
   in_blocks : k < n → k < length bs
@@ -83,9 +79,3 @@ module _ {s index₀ : List ℕ} {n : ℕ} {bs : List Block} (w : Structured s i
             go : (j : ℕ) → j < k + 1 → Dec (j ≡ k) → element_fields s index' j ≡ with_letter letter_e (get_or bs j no_block).body
             go j l (yes q) = rw q (holds _ here).is
             go j l (no q) = let m : j < k = omega arith in kept_fields kk m (known.elements j m) ∙ g.held j m
-
-pub all_held_lem : {sig : Signature} {s index : List ℕ} {bs : List Block} {k n : ℕ} → Going sig s index bs k → n ≤ k → {u : Unit} → AllHold (Ok u) s index n bs
-all_held_lem g h = record { is = λ j l. g.held j (omega arith) }
-
-pub all_not : {f : Refusal} {s index : List ℕ} {bs : List Block} {n : ℕ} → AllHold (Err f) s index n bs
-all_not = record { is = tt }

@@ -86,6 +86,7 @@ pub fn elements_named(
 
 // Can an element be named in the structure whose E fields stand from one position to another?
 // Each of at least two bytes can be, also a later one or one with a fault, so this goes along the fields.
+#[tactic(auto, using(crate::proofs::Finding::scan_start, crate::proofs::Finding::scan_hit, crate::proofs::Finding::scan_miss, crate::proofs::Finding::scan_skip, crate::proofs::Finding::scan_end))]
 fn can_be_named(s: &[u8], from: usize, to: usize, e: ElId) -> bool
     ensures { (body : List definition.Field)
         → Run s.now from to (with_letter letter_e body) → result ≡ has e.0 (named_elements body) }
@@ -104,6 +105,7 @@ fn can_be_named(s: &[u8], from: usize, to: usize, e: ElId) -> bool
 }
 
 // Can each number of a stretch be named there?
+#[tactic(auto, using(records::proofs::Along::all_start, records::proofs::Along::all_no, records::proofs::Along::all_on, records::proofs::Along::all_end, records::proofs::Numbers::length_numbers_in, records::proofs::Numbers::numbers_in_lem))]
 pub fn parents_named(s: &[u8], from: usize, to: usize, start: usize, len: usize) -> bool
     requires { start + len ≤ length s.now }
     ensures { (body : List definition.Field) → Run s.now from to (with_letter letter_e body)
@@ -127,6 +129,7 @@ pub struct Element {
 }
 
 // The element at a place of a structure.
+#[tactic(auto, using(crate::proofs::ElementLaws::element_is, crate::proofs::ElementLaws::element_within))]
 pub fn read_element(s: &[u8], index: &[u16; RULE_INDEX], k: usize, i: usize) -> Element
     requires k_lt_structure_limit { (k < structure_limit) × (i < count_at index.now k) }
     requires elements_at { ElementsAt s.now index.now k }

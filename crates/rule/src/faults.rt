@@ -214,6 +214,7 @@ pub fn name_fault(
 }
 
 // Is each key an element of the source and each image one of the target?
+#[tactic(auto, unfolding(crate::specs::Faults::pair_named), using(crate::proofs::PairLaws::pairs_start, crate::proofs::PairLaws::pairs_no, crate::proofs::PairLaws::pairs_on, crate::proofs::PairLaws::pairs_end))]
 fn pairs_named(
     s: &[u8],
     index: &[u16; RULE_INDEX],
@@ -242,6 +243,7 @@ fn pairs_named(
 }
 
 // Is each key above the one before it?
+#[tactic(auto, using(crate::proofs::PairLaws::keys_start, crate::proofs::PairLaws::keys_no, crate::proofs::PairLaws::keys_on, crate::proofs::PairLaws::keys_end))]
 fn keys_ascend(s: &[u8], start: usize, count: usize) -> bool
     requires { start + 4 * count ≤ length s.now }
     ensures { result ≡ keys_ascend (pairs_of (numbers (stretch s.now start (4 * count)))) }
@@ -318,6 +320,7 @@ pub fn kind_fault(s: &[u8], structures: usize, f: Spot) -> Result<(), Refusal>
 }
 
 // Is the class below the last one?
+#[tactic(auto, using(crate::proofs::Drawn::class_none, crate::proofs::Drawn::class_below))]
 fn class_falls(s: &[u8], last: Option<Field>, start: usize) -> bool
     requires start_in_bounds { start < length s.now }
     requires last_in { LastIn last (length s.now) }

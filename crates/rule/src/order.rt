@@ -40,6 +40,7 @@ pub fn first_not_above(
 }
 
 // By all numbers but the results.
+#[tactic(auto, using(crate::proofs::Keys::row_above))]
 pub fn row_not_above(
     s: &[u8],
     last: Option<Field>,

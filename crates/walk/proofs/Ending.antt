@@ -1,7 +1,7 @@
 -- The loop over all pairs: kinds as the table has them, and the walk's end.
 use Prim.Native.Nat.{ℕ, suc, ◌+◌, ◌-◌, ◌*◌, ◌≤◌, ◌<◌}
 use native.Mathlib.Omega.{arith}
-use mathlib.Core.Path.{◌≡◌, ap, sym, ◌∙◌}
+use mathlib.Core.Path.{◌≡◌, ap, sym, ◌∙◌, refl}
 use mathlib.Core.List.{List, []}
 use lib.ListN.{length, get_or, set, replicate, length-replicate}
 use lib.Seq.{sets}
@@ -17,7 +17,10 @@ use Rattle.naming.specs.Variables.{row_of, new_in}
 use Rattle.naming.proofs.News.{types_of}
 use Rattle.naming.proofs.Placed.{elements_are}
 use Rattle.flags.specs.Flags.{Held}
-use Rattle.plan.specs.Table.{kind_in, entry_at, Tabled}
+use Rattle.std.specs.Prelude.{Some, None}
+use Rattle.rule.specs.Lookup.{kind_is}
+use Rattle.rule.specs.declared.lookup.MorphismKind as read
+use Rattle.plan.specs.Table.{Entries, kind_in, entry_at, Tabled}
 use Rattle.walk.specs.Tables.{Tables, tables, unreached, no_rows, all_masks, no_masks, source_at, kind_on}
 use Rattle.walk.specs.Left.{left_of, Going}
 use Rattle.walk.specs.Ended.{Ground, Finished}
@@ -25,21 +28,20 @@ use Rattle.walk.specs.Went.{Kinded, whole_walk, GoingFrom, Went}
 use Rattle.walk.specs.declared.walk.Visit.{Visit}
 use Rattle.std.proofs.Common.{Ok}
 use Rattle.walk.specs.declared.walk.MapWalked.{MapWalked}
-use Rattle.plan.proofs.TableLaws.{kind_some, kind_none}
 use Rattle.walk.proofs.Grounds.{first_laid, first_rows}
 use Rattle.walk.proofs.Starting.{started}
 use Rattle.walk.proofs.Reaching.{news_none, emitted_none}
 use Rattle.walk.proofs.Folding.{left_all, pass_on, turn}
 
 -- The walk stands at two structures, whose kind the table has.
-pub record Standing (sig : Signature) (s index : List ℕ) (kinds : List (List ℕ)) (n target source : ℕ) : Type 0 where
+pub record Standing (sig : Signature) (s index : List ℕ) (kinds : Entries) (n target source : ℕ) : Type 0 where
   pub ground : Ground sig s index
   pub counted : n ≡ length (rule_at s).structures
   pub tabled : Tabled kinds (completed (rule_at s).maps (rule_at s).kinds (rule_at s).auxiliaries)
   pub target_in : target < n
   pub source_in : source < n
 
-module _ {sig : Signature} {s index : List ℕ} {kinds : List (List ℕ)} {n target source : ℕ} (at : Standing sig s index kinds n target source) where
+module _ {sig : Signature} {s index : List ℕ} {kinds : Entries} {n target source : ℕ} (at : Standing sig s index kinds n target source) where
   source_inside : source < length (rule_at s).structures
   source_inside = let e = at.counted in let l = at.source_in in omega arith
 
@@ -54,20 +56,20 @@ module _ {sig : Signature} {s index : List ℕ} {kinds : List (List ℕ)} {n tar
   entry_is = at.tabled.same source target within.0 within.1
 
   -- A pair without a kind is passed by;
-  pub skip : {tb : Tables} {types : List ℕ} {next : ℕ} → 4 ≤ entry_at kinds source target → Going sig s tb types next target source
+  pub skip : {tb : Tables} {types : List ℕ} {next : ℕ} → entry_at kinds source target ≡ None → Going sig s tb types next target source
       → Going sig s tb types next target (source + 1)
-  skip h g = let n : source + 1 ≡ suc source = omega arith in rw n (pass_on g target_inside source_inside (sym entry_is ∙ kind_none _ h))
+  skip h g = let n : source + 1 ≡ suc source = omega arith in rw n (pass_on g target_inside source_inside (sym (rw h at entry_is)))
 
   -- one with a kind is walked.
-  pub kinded : entry_at kinds source target < 4 → Kinded s index source target (entry_at kinds source target)
-  kinded h = let k = kind_some _ h in record {
+  pub kinded : {kind : read.MorphismKind} → entry_at kinds source target ≡ Some kind → Kinded s index source target kind
+  kinded {kind} h = record {
     sig = sig;
     ground = at.ground;
     source_in = source_inside;
     target_in = target_inside;
-    kind = k.0;
-    said = k.1;
-    on = sym entry_is ∙ k.1;
+    kind = kind_is kind;
+    said = refl;
+    on = sym (rw h at entry_is);
   }
 
 -- The map that is met there is walked with the variables of its source.

@@ -30,7 +30,7 @@ use Rattle.naming.proofs.News.{types_of}
 use Rattle.naming.proofs.Placed.{elements_are}
 use Rattle.naming.proofs.Reached.{images_taken}
 use Rattle.statements.specs.declared.masks.Masks.{Masks}
-use Rattle.plan.specs.Table.{kind_in}
+use Rattle.rule.specs.Lookup.{kind_is}
 use Rattle.kinds.specs.Steps.{Reaches}
 use Rattle.laws.specs.Numbering.{fresh}
 use Rattle.std.proofs.Common.{Result, Ok, Err}
@@ -149,7 +149,7 @@ module _ {sig : Signature} {s index types : List ℕ} {tb : Tables} {v : Visit} 
 
       -- What `flatten_map` answered.
       abbrev Answered : Result Masks Refusal → Type 0
-      Answered r = (table : List Variable) (k : MorphismKind) → TypesOf table types → kind_in v.kind ≡ some k → Does sig table s m sourcevars targetvars k r
+      Answered r = (table : List Variable) (k : MorphismKind) → TypesOf table types → kind_is v.kind ≡ k → Does sig table s m sourcevars targetvars k r
 
       does : {r : Result Masks Refusal} → Answered r → Does sig o.going.state.variables s m (row_at tb m.source) (row o) o.met.kind r
       does d = rw (source_row, target_row) at (d _ _ o.going.walking.types_are o.met.said)

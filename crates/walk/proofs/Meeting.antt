@@ -6,6 +6,7 @@ use Rattle.definition.specs.Base.{or_default}
 use Rattle.definition.specs.Walk.{pairs_between}
 use Rattle.flags.specs.declared.Mask.{Mask}
 use Rattle.rule.specs.Lookup.{rule_at}
+use Rattle.rule.specs.declared.lookup.MorphismKind as read
 use Rattle.rule.specs.MapFields.{pairs_in, MapIn, Joins}
 use Rattle.rule.specs.Structures.{structure_in, Laid}
 use Rattle.rule.specs.declared.maps.Map.{Map}
@@ -13,14 +14,14 @@ use Rattle.rows.specs.Kernel.{Merged}
 use Rattle.walk.specs.Tables.{pairs_on}
 use Rattle.walk.specs.Went.{Kinded, Met}
 
-module _ {s index : List ℕ} {source target number : ℕ} (k : Kinded s index source target number) where
+module _ {s index : List ℕ} {source target : ℕ} {said : read.MorphismKind} (k : Kinded s index source target said) where
   pub target_laid : Laid s index target
   target_laid = (k.ground.sounds target k.target_in).laid
 
   pub met : {map : Map} {merged : Mask} {first : ℕ}
       → (or_default (pairs_between (rule_at s).maps source target) [] ≡ pairs_in s map) × (MapIn s map × Joins s source target map)
       → Merged merged (structure_in s target) (pairs_in s map)
-      → Met s index (record { morphism = record { source = source; target = target; map = map; merged = merged }; kind = number; first = first })
+      → Met s index (record { morphism = record { source = source; target = target; map = map; merged = merged }; kind = said; first = first })
   unfolding pairs_on
   met m g = record {
     kind = k.kind;

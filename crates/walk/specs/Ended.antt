@@ -14,7 +14,7 @@ use Rattle.rule.specs.Lookup.{Ready, rule_at}
 use Rattle.rows.specs.Kernel.{TypesOf}
 use Rattle.rule.specs.Structures.{structure_in, Laid, Headed, SoundAt}
 use Rattle.flags.specs.Flags.{Held}
-use Rattle.plan.specs.Table.{kind_in, Tabled}
+use Rattle.plan.specs.Table.{Entry, Entries, kind_in, Tabled}
 use Rattle.laws.specs.KindTable.{Once}
 use Rattle.walk.specs.Tables.{Tables, Keyed, unreached, source_at, row_at, kind_on, reached_by, concluded_at, news_to, emitted_to}
 use Rattle.walk.specs.Walks.{Ties}
@@ -55,7 +55,7 @@ pub record Finished (sig : Signature) (s : List ℕ) (tb : Tables) (types : List
   pub types_are : TypesOf state.variables types
   pub types_long : length state.variables ≤ length types
 
-pub record Ended (s index types : List ℕ) (kinds : List (List ℕ)) (tb : Tables) : Type 0 where
+pub record Ended (s index types : List ℕ) (kinds : Entries) (tb : Tables) : Type 0 where
   pub sig : Signature
   pub state : State
   pub ground : Ground sig s index
@@ -67,14 +67,14 @@ pub record Reaching (s : List ℕ) (tb : Tables) (t : ℕ) : Type 0 where
   pub inside : t < length (rule_at s).structures
   pub reached : source_at tb t < unreached
 
--- The number of the kind by which it was reached: where the table has the rule's kinds, it says that kind.
-pub record ReachedBy (r : ℕ) (kinds : List (List ℕ)) (sources : List ℕ) (t : ℕ) : Type 0 where
+-- The kind by which it was reached: where the table has the rule's kinds, it says that kind.
+pub record ReachedBy (r : Entry) (kinds : Entries) (sources : List ℕ) (t : ℕ) : Type 0 where
   pub is : (s : List ℕ) (tb : Tables) → tb.sources ≡ sources → Tabled kinds (completed (rule_at s).maps (rule_at s).kinds (rule_at s).auxiliaries)
       → length sources ≡ structure_limit
       → source_at tb t < unreached → t < structure_limit → kind_in r ≡ reached_by s tb t
 
 -- Whether it was reached by a map that emits a rule: it has one conclusion, or none.
-pub record Emits (r : Bool) (kinds : List (List ℕ)) (sources : List ℕ) (masks : List (List Held)) (t : ℕ) : Type 0 where
+pub record Emits (r : Bool) (kinds : Entries) (sources : List ℕ) (masks : List (List Held)) (t : ℕ) : Type 0 where
   pub is : (sig : Signature) (table : List Variable) (s : List ℕ) (tb : Tables) → tb.sources ≡ sources → tb.masks ≡ masks
       → Tabled kinds (completed (rule_at s).maps (rule_at s).kinds (rule_at s).auxiliaries) → length sources ≡ structure_limit
       → source_at tb t < unreached → t < structure_limit → length (concluded_at sig table s tb t) ≡ pick r 1 0

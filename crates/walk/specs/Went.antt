@@ -10,12 +10,12 @@ use Rattle.definition.specs.Walk.{State, walk_from, initial_state, walked_kinds}
 use Rattle.records.specs.Refusals.{number}
 use Rattle.records.specs.declared.refusal.Refusal.{Refusal}
 use Rattle.records.specs.declared.refusal.Refusal.TheVariants.{UnreachedSource, ReachedTarget}
-use Rattle.rule.specs.Lookup.{rule_at}
+use Rattle.rule.specs.Lookup.{rule_at, kind_is}
+use Rattle.rule.specs.declared.lookup.MorphismKind as read
 use Rattle.rows.specs.Morphisms.{pairs_by, Between}
 use Rattle.rows.specs.declared.morphism.Morphism.{Morphism}
 use Rattle.flags.specs.Flags.{Held}
 use Rattle.statements.specs.declared.masks.Masks.{Masks}
-use Rattle.plan.specs.Table.{kind_in}
 use Rattle.kinds.specs.Steps.{by, said, domains, StepAs}
 use Rattle.laws.specs.Steps.{step_fault, own, conclusions}
 use Rattle.walk.specs.Tables.{Tables, tables, unreached, kind_on, pairs_on, own_by, concluded_by}
@@ -32,20 +32,20 @@ EndsAs (Err r) from to = ((r ≡ UnreachedSource) × (unreached ≤ from)) ⊎ (
 pub record Ends (r : Result (Unit {0}) Refusal) (sources : List ℕ) (source target : ℕ) : Type 0 where
   pub is : EndsAs r (get_or sources source 0) (get_or sources target 0)
 
--- Two structures of an accepted rule, and the number of the kind between them.
-pub record Kinded (s index : List ℕ) (source target number : ℕ) : Type 0 where
+-- Two structures of an accepted rule, and the kind between them.
+pub record Kinded (s index : List ℕ) (source target : ℕ) (entry : read.MorphismKind) : Type 0 where
   pub sig : Signature
   pub ground : Ground sig s index
   pub source_in : source < length (rule_at s).structures
   pub target_in : target < length (rule_at s).structures
   pub kind : MorphismKind
-  pub said : kind_in number ≡ some kind
+  pub said : kind_is entry ≡ kind
   pub on : kind_on s source target ≡ some kind
 
 -- A map of an accepted rule that the walk meets: the kind and the pairs between two structures.
 pub record Met (s index : List ℕ) (v : Visit) : Type 0 where
   pub kind : MorphismKind
-  pub said : kind_in v.kind ≡ some kind
+  pub said : kind_is v.kind ≡ kind
   pub on : kind_on s v.morphism.source v.morphism.target ≡ some kind
   pub source_in : v.morphism.source < length (rule_at s).structures
   pub target_in : v.morphism.target < length (rule_at s).structures

@@ -1,6 +1,5 @@
 // The walk's step: one map.
 ghost use Rattle.std.specs.Prelude.{List, ◌≡◌, ◌≤◌, ◌<◌, length};
-ghost use Rattle.std.proofs.Math.Option.{some};
 ghost use Rattle.std.proofs.lemmas.List.Edits.{sets};
 ghost use Rattle.definition.specs.Base.{each};
 ghost use Rattle.definition.specs.Group as definition;
@@ -13,7 +12,7 @@ ghost use Rattle.rows.specs.Kernel.{TypesOf};
 ghost use Rattle.rows.specs.Morphisms.{source_in};
 ghost use Rattle.rule.specs.Structures.{structure_in, Laid, SoundAt, ByteTypes};
 ghost use Rattle.naming.specs.Variables.{row_of, GivenOut, new_in};
-ghost use Rattle.plan.specs.Table.{kind_in};
+ghost use Rattle.rule.specs.Lookup.{kind_is};
 ghost use Rattle.kinds.specs.Steps.{Reaches};
 ghost use Rattle.walk.specs.Ended.{Ground};
 ghost use Rattle.walk.specs.Went.{Ends, Does, Kinded, Met, GoingFrom, Went};
@@ -24,12 +23,12 @@ use kinds::morphisms::{flatten_if_arbitrary, flatten_non_surj_then, flatten_surj
 use naming::assign::{assign_el_vars, initial_el_vars};
 use naming::types::type_variables;
 use naming::variables::fresh;
-use plan::table::{NON_SURJ_THEN, SURJ_THEN};
 use records::refusal::Refusal;
 use rows::kernel::merged_els;
 use rows::morphism::Morphism;
 use rule::elements::element_count;
 use rule::ids::{FIELDS, RULE_INDEX, STRUCTURES};
+use rule::lookup::MorphismKind;
 use rule::maps::map_between;
 use signature::ids::{Counts, INDEX};
 use statements::masks::Masks;
@@ -52,7 +51,7 @@ fn ends(sources: &[u8; STRUCTURES], source: usize, target: usize) -> Result<(), 
 #[derive(Clone, Copy)]
 pub struct Visit {
     pub morphism: Morphism,
-    pub kind: u8,
+    pub kind: MorphismKind,
     pub first: u16,
 }
 
@@ -62,7 +61,7 @@ pub fn meet_map(
     index: &[u16; RULE_INDEX],
     source: usize,
     target: usize,
-    kind: u8,
+    kind: MorphismKind,
     first: u16,
 ) -> Visit
     requires { Kinded s.now index.now source target kind }
@@ -100,14 +99,16 @@ fn flatten_map(
     requires sound_at { SoundAt (signature_at sig.now symbols.now counts) s.now index.now v.morphism.target }
     requires reaches { Reaches s.now index.now v.morphism targetvars v.first }
     requires given_out { GivenOut (source_in s.now v.morphism) sourcevars (length types.now) }
-    ensures { (table : List definition.Variable) (k : rules.MorphismKind) → TypesOf table types.now → kind_in v.kind ≡ some k
+    ensures { (table : List definition.Variable) (k : rules.MorphismKind) → TypesOf table types.now → kind_is v.kind ≡ k
         → Does (signature_at sig.now symbols.now counts) table s.now v.morphism sourcevars targetvars k result }
 {
     let m = v.morphism;
     match v.kind {
-        SURJ_THEN => flatten_surj_then(s, index, m, sourcevars, targetvars, v.first, types),
-        NON_SURJ_THEN => flatten_non_surj_then(s, index, m, targetvars, v.first),
-        _ => flatten_if_arbitrary(
+        MorphismKind::SurjThen => {
+            flatten_surj_then(s, index, m, sourcevars, targetvars, v.first, types)
+        }
+        MorphismKind::NonSurjThen => flatten_non_surj_then(s, index, m, targetvars, v.first),
+        MorphismKind::If | MorphismKind::Noop => flatten_if_arbitrary(
             sig, symbols, counts, s, index, m, sourcevars, targetvars, v.first, types,
         ),
     }

@@ -14,6 +14,7 @@ use Rattle.records.specs.Buffer.{Put, head_bytes}
 use Rattle.records.proofs.Tail.{then, field_bytes_lem}
 use Rattle.rule.specs.Lookup.{rule_at}
 use Rattle.rule.specs.Structures.{structure_in}
+use Rattle.plan.specs.Table.{Entries}
 use Rattle.walk.specs.Tables.{tables, unreached, source_at, row_at, news_to}
 use Rattle.walk.specs.Ended.{Ended, Numbered}
 use Rattle.walk.proofs.Reaching.{is_reached}
@@ -27,7 +28,7 @@ unfolding news_to source_at row_at
 news_unmasked s sources masks vars zero = refl
 news_unmasked s sources masks vars (suc t) = rw (news_unmasked s sources masks vars t)
 
-module _ {s index types sources : List ℕ} {kinds vars : List (List ℕ)} {masks : List (List Held)}
+module _ {s index types sources : List ℕ} {kinds : Entries} {vars : List (List ℕ)} {masks : List (List Held)}
     (e : Ended s index types kinds (tables sources masks vars)) where
   rows_long : (k : ℕ) → source_at (tables sources masks vars) k < unreached → length (structure_in s k).elements ≤ length (row_at (tables sources masks vars) k)
   rows_long k h =

@@ -13,6 +13,7 @@ use Rattle.definition.specs.Writer.{field_bytes}
 use Rattle.records.specs.Buffer.{Put, capped, count_limit, head_bytes}
 use Rattle.records.proofs.Tail.{then, field_bytes_lem}
 use Rattle.statements.proofs.Counting.{beyond}
+use Rattle.plan.specs.Table.{Entries}
 use Rattle.walk.specs.Tables.{Tables, unreached, source_at, own_at, statements_at}
 use Rattle.walk.specs.Ended.{Ended, Reaching}
 use Rattle.laws.specs.Bytes.{statement_bytes}
@@ -35,7 +36,7 @@ name_measured s count {from} {len = len} f l n =
     let i : _ ≡ capped (capped (from + 3) + length name) = n ∙ omega arith in
     rw (field_bytes_lem, ← l) (then (sized (head_bytes letter_u len) {at = from} {r = capped (from + 3)} refl f) (sized name i (omega arith)))
 
-pub body_measured : {s index types : List ℕ} {kinds : List (List ℕ)} {tb : Tables} {t : ℕ} (e : Ended s index types kinds tb) → Reaching s tb t
+pub body_measured : {s index types : List ℕ} {kinds : Entries} {tb : Tables} {t : ℕ} (e : Ended s index types kinds tb) → Reaching s tb t
     → {from before said r : ℕ} {out₀ out : List ℕ} (conclusion : List Statement) → 0 < t → from ≤ count_limit → said ≡ capped (from + before)
     → Put [] [] (statement_bytes letter_b (statements_at e.state.slots (get_or tb.sources t 0))) 0 before
     → Put out₀ out (statement_bytes letter_h conclusion) said r → Put [] [] (body_bytes e.state.slots tb t conclusion) from r
@@ -45,12 +46,12 @@ body_measured {tb = tb} {t} e x {from} {before} {said} conclusion h f p b c =
     body_put e x conclusion h refl (sized premise j f) (told c (omega arith))
 
 -- The statements of the first structures have so many bytes, where these were reached.
-pub record Measured (s index types : List ℕ) (kinds : List (List ℕ)) (tb : Tables) (lengths : List ℕ) (t : ℕ) : Type 0 where
+pub record Measured (s index types : List ℕ) (kinds : Entries) (tb : Tables) (lengths : List ℕ) (t : ℕ) : Type 0 where
   pub long : length lengths ≡ structure_limit
   pub each_one : (e : Ended s index types kinds tb) (u : ℕ) → u < t → source_at tb u < unreached
       → Put [] [] (statement_bytes letter_b (statements_at e.state.slots u)) 0 (get_or lengths u 0)
 
-module _ {s index types : List ℕ} {kinds : List (List ℕ)} {tb : Tables} where
+module _ {s index types : List ℕ} {kinds : Entries} {tb : Tables} where
   pub first_reaching : Ended s index types kinds tb → Reaching s tb 0
   first_reaching e = record { inside = e.ground.some_one; reached = e.finished.first_reached }
 

@@ -8,6 +8,7 @@ use mathlib.Core.Logic.{◌⊎◌, inl, inr}
 use mathlib.Core.Option.{Option, none, some}
 use mathlib.Core.List.{List, [], ◌++◌}
 use lib.Dec.{eqb}
+use Rattle.std.specs.Prelude.{Some, None}
 use lib.ListN.{length, get_or}
 use borrow.Author.Tests.{eq-eqb, ne_eqb}
 use Rattle.definition.specs.Base.{pick, or_default, each, joined, given}
@@ -33,20 +34,22 @@ use Rattle.naming.specs.Variables.{variables_in, GivenOut}
 use Rattle.statements.specs.Said.{said_by}
 use Rattle.statements.specs.Structures.{side_in}
 use Rattle.statements.specs.declared.masks.Masks.{Masks}
-use Rattle.plan.specs.Table.{kind_in, entry_at, Tabled}
+use Rattle.rule.specs.Lookup as lookup
+use Rattle.rule.specs.declared.lookup.MorphismKind as read
+use Rattle.rule.specs.declared.lookup.MorphismKind.TheVariants as variant
+use Rattle.plan.specs.Table.{Entry, Entries, kind_in, entry_at, Tabled}
 use Rattle.walk.specs.Tables.{Tables, unreached, source_at, row_at, masks_of, masks_at}
 use Rattle.walk.specs.Tables.{merged_at, kind_on, pairs_on, own_by, reached_by, equalities_at, said_at}
 use Rattle.walk.specs.Tables.{own_at, statements_of, statements_at, before, mask_in}
 use Rattle.walk.specs.Walks.{ReachedAt}
 use Rattle.walk.specs.Ended.{Ended, Reaching, ReachedBy}
 use Rattle.walk.proofs.Numbers.{source_read}
-use Rattle.plan.proofs.TableLaws.{kind_some}
 use Rattle.walk.proofs.Reaching.{given_more, is_reached}
 use Rattle.laws.specs.Bytes.{statement_bytes}
 
--- The number of the kind by which a structure was reached.
-pub reached_first : {r : ℕ} {kinds : List (List ℕ)} {sources : List ℕ} {t : ℕ} → r ≡ 4 → t ≡ 0 → ReachedBy r kinds sources t
-unfolding kind_in reached_by
+-- The kind by which a structure was reached.
+pub reached_first : {r : Entry} {kinds : Entries} {sources : List ℕ} {t : ℕ} → r ≡ None → t ≡ 0 → ReachedBy r kinds sources t
+unfolding reached_by
 reached_first {r} {kinds} {sources} {t} e q = record { is = go }
   where
     go : (s : List ℕ) (tb : Tables) → tb.sources ≡ sources → Tabled kinds (completed (rule_at s).maps (rule_at s).kinds (rule_at s).auxiliaries)
@@ -54,7 +57,7 @@ reached_first {r} {kinds} {sources} {t} e q = record { is = go }
         → source_at tb t < unreached → t < structure_limit → kind_in r ≡ reached_by s tb t
     go s tb _ _ _ _ _ = rw (e, eq-eqb t 0 q)
 
-pub reached_later : {r source : ℕ} {kinds : List (List ℕ)} {sources : List ℕ} {target : ℕ} → (target ≡ 0 → ⊥) → source ≡ get_or sources target 0
+pub reached_later : {r : Entry} {source : ℕ} {kinds : Entries} {sources : List ℕ} {target : ℕ} → (target ≡ 0 → ⊥) → source ≡ get_or sources target 0
     → r ≡ entry_at kinds source target → ReachedBy r kinds sources target
 unfolding reached_by kind_on
 reached_later {r} {source} {kinds} {sources} {target} d q e = record { is = go }
@@ -68,22 +71,24 @@ reached_later {r} {source} {kinds} {sources} {target} d q e = record { is = go }
         rw (ne_eqb target 0 d, e, ← z) (k.same source target (omega arith) i)
 
 -- The kind says what a structure adds.
-own_surj : (k : ℕ) (o : Option MorphismKind) (eqs said : List Statement) → k ≡ 1 → kind_in k ≡ o → own_by o eqs said ≡ []
-unfolding kind_in own_by
+own_surj : (k : Entry) (o : Option MorphismKind) (eqs said : List Statement) → k ≡ Some variant.SurjThen → kind_in k ≡ o → own_by o eqs said ≡ []
+unfolding own_by
 own_surj k o eqs said e q = rw (← q, e)
 
-own_both_by : (k : ℕ) (o : Option MorphismKind) (eqs said : List Statement) → (k ≡ 0) ⊎ (k ≡ 3) → kind_in k ≡ o → own_by o eqs said ≡ eqs ++ said
-unfolding kind_in own_by
+own_both_by : (k : Entry) (o : Option MorphismKind) (eqs said : List Statement) → (k ≡ Some variant.If) ⊎ (k ≡ Some variant.Noop) → kind_in k ≡ o
+    → own_by o eqs said ≡ eqs ++ said
+unfolding own_by
 own_both_by k o eqs said (inl e) q = rw (← q, e)
 own_both_by k o eqs said (inr e) q = rw (← q, e)
 
-own_said : (k : ℕ) (o : Option MorphismKind) (eqs said : List Statement) → (k ≡ 1 → ⊥) → (k ≡ 0 → ⊥) → (k ≡ 3 → ⊥) → kind_in k ≡ o → own_by o eqs said ≡ said
-unfolding kind_in own_by
-own_said zero o eqs said a b c q = absurd (b refl)
-own_said (suc zero) o eqs said a b c q = absurd (a refl)
-own_said (suc (suc zero)) o eqs said a b c q = rw (← q)
-own_said (suc (suc (suc zero))) o eqs said a b c q = absurd (c refl)
-own_said (suc (suc (suc (suc k)))) o eqs said a b c q = rw (← q)
+own_said : (k : Entry) (o : Option MorphismKind) (eqs said : List Statement) → (k ≡ Some variant.SurjThen → ⊥) → (k ≡ Some variant.If → ⊥)
+    → (k ≡ Some variant.Noop → ⊥) → kind_in k ≡ o → own_by o eqs said ≡ said
+unfolding own_by
+own_said (Some variant.If) o eqs said a b c q = absurd (b refl)
+own_said (Some variant.SurjThen) o eqs said a b c q = absurd (a refl)
+own_said (Some variant.NonSurjThen) o eqs said a b c q = rw (← q)
+own_said (Some variant.Noop) o eqs said a b c q = absurd (c refl)
+own_said None o eqs said a b c q = rw (← q)
 
 reached_kind : (s : List ℕ) (tb : Tables) (t : ℕ) (kind : MorphismKind) → some kind ≡ reached_by s tb t → kind_on s (source_at tb t) t ≡ some kind
 unfolding reached_by
@@ -105,7 +110,7 @@ unfolding before
 those_before slots tb t d = rw (ne_eqb t 0 d)
 
 -- A structure that was reached, and its source.
-module _ {s index types : List ℕ} {kinds : List (List ℕ)} {tb : Tables} {target : ℕ} (e : Ended s index types kinds tb) (h : Reaching s tb target) where
+module _ {s index types : List ℕ} {kinds : Entries} {tb : Tables} {target : ℕ} (e : Ended s index types kinds tb) (h : Reaching s tb target) where
   abbrev eqs : List Statement
   eqs = equalities_at e.sig e.state.variables s tb target
 
@@ -153,23 +158,23 @@ module _ {s index types : List ℕ} {kinds : List (List ℕ)} {tb : Tables} {tar
       at_slot.2.given)
 
   -- The kind by which it was reached, and the map.
-  pub kind_is : {kind : ℕ} → ReachedBy kind kinds tb.sources target → kind_in kind ≡ reached_by s tb target
+  pub kind_is : {kind : Entry} → ReachedBy kind kinds tb.sources target → kind_in kind ≡ reached_by s tb target
   kind_is b = b.is s tb refl e.tabled e.finished.ties.sources_long h.reached place_small
 
   abbrev Mapped : Type 0
   Mapped = (0 < target) × (given (pairs_between (rule_at s).maps (get_or tb.sources target 0) target) ≡ true)
 
-  mapped : {kind : ℕ} → ReachedBy kind kinds tb.sources target → kind < 4 → Mapped
-  mapped {kind} b l =
-      let k = kind_some kind l in let q = sym k.1 ∙ kind_is b in
-      (reached_behind s tb target k.0 (sym q), rw source_is (e.ground.mapped (source_at tb target) target k.0 (reached_kind s tb target k.0 q)))
+  mapped : {kind : Entry} {k : read.MorphismKind} → ReachedBy kind kinds tb.sources target → kind ≡ Some k → Mapped
+  mapped {k = k} b i =
+      let q : some (lookup.kind_is k) ≡ reached_by s tb target = rw i at (kind_is b) in
+      (reached_behind s tb target _ (sym q), rw source_is (e.ground.mapped (source_at tb target) target _ (reached_kind s tb target _ q)))
 
-  pub surj_mapped : {kind : ℕ} → ReachedBy kind kinds tb.sources target → kind ≡ 1 → Mapped
-  surj_mapped b q = mapped b (omega arith)
+  pub surj_mapped : {kind : Entry} → ReachedBy kind kinds tb.sources target → kind ≡ Some variant.SurjThen → Mapped
+  surj_mapped b q = mapped b q
 
-  pub both_mapped : {kind : ℕ} → ReachedBy kind kinds tb.sources target → (kind ≡ 0) ⊎ (kind ≡ 3) → Mapped
-  both_mapped b (inl q) = mapped b (omega arith)
-  both_mapped b (inr q) = mapped b (omega arith)
+  pub both_mapped : {kind : Entry} → ReachedBy kind kinds tb.sources target → (kind ≡ Some variant.If) ⊎ (kind ≡ Some variant.Noop) → Mapped
+  both_mapped b (inl q) = mapped b q
+  both_mapped b (inr q) = mapped b q
 
   -- What its masks mean.
   pub said_put : (letter : ℕ) {from r : ℕ} {out₀ out row : List ℕ} {ms : Masks} → row ≡ get_or tb.vars target [] → ms ≡ masks_of (get_or tb.masks target [])
@@ -215,20 +220,21 @@ module _ {s index types : List ℕ} {kinds : List (List ℕ)} {tb : Tables} {tar
   both_put letter p y z w = rw statements_append (then p (said_put letter y z w))
 
   -- What it adds, by its kind.
-  pub own_nothing : {kind from : ℕ} (out : List ℕ) → from ≤ count_limit → ReachedBy kind kinds tb.sources target → kind ≡ 1
+  pub own_nothing : {kind : Entry} {from : ℕ} (out : List ℕ) → from ≤ count_limit → ReachedBy kind kinds tb.sources target → kind ≡ Some variant.SurjThen
       → Put out out (statement_bytes letter_b own) from from
   unfolding own_at statement_bytes record_bytes joined each
   own_nothing {kind} {from} out l b q =
       rw (own_surj kind (reached_by s tb target) eqs (said_at s tb target) q (kind_is b)) (nothing out from l)
 
-  pub own_both : {kind from r : ℕ} {out₀ out : List ℕ} → ReachedBy kind kinds tb.sources target → (kind ≡ 0) ⊎ (kind ≡ 3)
+  pub own_both : {kind : Entry} {from r : ℕ} {out₀ out : List ℕ} → ReachedBy kind kinds tb.sources target
+      → (kind ≡ Some variant.If) ⊎ (kind ≡ Some variant.Noop)
       → Put out₀ out (statement_bytes letter_b (eqs ++ said_at s tb target)) from r
       → Put out₀ out (statement_bytes letter_b own) from r
   unfolding own_at
   own_both {kind} b q p = rw (own_both_by kind (reached_by s tb target) eqs (said_at s tb target) q (kind_is b)) p
 
-  pub own_only : {kind from r : ℕ} {out₀ out row : List ℕ} {ms : Masks} → ReachedBy kind kinds tb.sources target → (kind ≡ 1 → ⊥) → (kind ≡ 0 → ⊥)
-      → (kind ≡ 3 → ⊥)
+  pub own_only : {kind : Entry} {from r : ℕ} {out₀ out row : List ℕ} {ms : Masks} → ReachedBy kind kinds tb.sources target
+      → (kind ≡ Some variant.SurjThen → ⊥) → (kind ≡ Some variant.If → ⊥) → (kind ≡ Some variant.Noop → ⊥)
       → row ≡ get_or tb.vars target [] → ms ≡ masks_of (get_or tb.masks target [])
       → Put out₀ out (statement_bytes letter_b (said_by (structure_in s target) (variables_in (structure_in s target) row) ms)) from r
       → Put out₀ out (statement_bytes letter_b own) from r

@@ -1,5 +1,5 @@
 -- The rule that a map emits, and the rules of the first structures.
-use Prim.Native.Nat.{ℕ, zero, suc, ◌+◌, ◌≤◌, ◌<◌}
+use Prim.Native.Nat.{ℕ, suc, ◌+◌, ◌≤◌, ◌<◌}
 use native.Mathlib.Omega.{arith}
 use native.Mathlib.Nat.{zero-add}
 use mathlib.Core.Path.{◌≡◌, refl, ap, sym, ◌∙◌}
@@ -26,7 +26,9 @@ use Rattle.rule.specs.Lookup.{rule_at}
 use Rattle.rule.specs.Structures.{structure_in}
 use Rattle.naming.specs.Variables.{variables_in}
 use Rattle.statements.specs.Said.{domains_by}
-use Rattle.plan.specs.Table.{kind_in}
+use Rattle.std.specs.Prelude.{Some, None}
+use Rattle.rule.specs.declared.lookup.MorphismKind.TheVariants as variant
+use Rattle.plan.specs.Table.{Entry, Entries, kind_in}
 use Rattle.walk.specs.Tables.{Tables, unreached, source_at, row_at, masks_at, reached_by, concluded_by, concluded_at, equalities_at, said_at, domains_at}
 use Rattle.walk.specs.Tables.{statements_at, before, emitted_to, mask_in}
 use Rattle.walk.specs.Ended.{Ended, Reaching, ReachedBy, Emits}
@@ -38,46 +40,47 @@ use Rattle.walk.proofs.Numbers.{source_read}
 use Rattle.flags.specs.declared.Mask.{Mask}
 use Rattle.flags.specs.Flags.{none_set, Held}
 
--- The conclusions, by a kind's number.
+-- The conclusions, by a kind.
 module _ (funcs : Mask) (eqs said domains : List Statement) where
-  by_surj : {n : ℕ} {o : Option MorphismKind} → kind_in n ≡ o → n ≡ 1 → concluded_by o funcs eqs said domains ≡ (eqs ++ said) ∷ []
-  unfolding kind_in concluded_by
+  by_surj : {n : Entry} {o : Option MorphismKind} → kind_in n ≡ o → n ≡ Some variant.SurjThen → concluded_by o funcs eqs said domains ≡ (eqs ++ said) ∷ []
+  unfolding concluded_by
   by_surj k e = rw (← k, e)
 
-  by_rows : {n : ℕ} {o : Option MorphismKind} → kind_in n ≡ o → n ≡ 2 → concluded_by o funcs eqs said domains ≡ pick (none_set funcs) [] (domains ∷ [])
-  unfolding kind_in concluded_by
+  by_rows : {n : Entry} {o : Option MorphismKind} → kind_in n ≡ o → n ≡ Some variant.NonSurjThen
+      → concluded_by o funcs eqs said domains ≡ pick (none_set funcs) [] (domains ∷ [])
+  unfolding concluded_by
   by_rows k e = rw (← k, e)
 
-  by_other : (n : ℕ) → (n ≡ 1 → ⊥) → (n ≡ 2 → ⊥) → concluded_by (kind_in n) funcs eqs said domains ≡ []
-  unfolding kind_in concluded_by
-  by_other zero a b = refl
-  by_other (suc zero) a b = absurd (a refl)
-  by_other (suc (suc zero)) a b = absurd (b refl)
-  by_other (suc (suc (suc zero))) a b = refl
-  by_other (suc (suc (suc (suc n)))) a b = refl
+  by_other : (n : Entry) → (n ≡ Some variant.SurjThen → ⊥) → (n ≡ Some variant.NonSurjThen → ⊥) → concluded_by (kind_in n) funcs eqs said domains ≡ []
+  unfolding concluded_by
+  by_other None a b = refl
+  by_other (Some variant.If) a b = refl
+  by_other (Some variant.SurjThen) a b = absurd (a refl)
+  by_other (Some variant.NonSurjThen) a b = absurd (b refl)
+  by_other (Some variant.Noop) a b = refl
 
   picked : (b : Bool) {c : List Statement} → pick b [] (domains ∷ []) ≡ c ∷ [] → c ≡ domains
   picked true e = let z : ◌≡◌ {A = ℕ} 0 1 = ap length e in absurd (omega arith)
   picked false e = sym (ap (λ (l : List (List Statement)). get_or l 0 []) e)
 
-  by_domains : (n : ℕ) {c : List Statement} → (n ≡ 1 → ⊥) → concluded_by (kind_in n) funcs eqs said domains ≡ c ∷ [] → c ≡ domains
-  unfolding kind_in concluded_by
-  by_domains zero a e = let z : ◌≡◌ {A = ℕ} 0 1 = ap length e in absurd (omega arith)
-  by_domains (suc zero) a e = absurd (a refl)
-  by_domains (suc (suc zero)) a e = picked (none_set funcs) e
-  by_domains (suc (suc (suc zero))) a e = let z : ◌≡◌ {A = ℕ} 0 1 = ap length e in absurd (omega arith)
-  by_domains (suc (suc (suc (suc n)))) a e = let z : ◌≡◌ {A = ℕ} 0 1 = ap length e in absurd (omega arith)
+  by_domains : (n : Entry) {c : List Statement} → (n ≡ Some variant.SurjThen → ⊥) → concluded_by (kind_in n) funcs eqs said domains ≡ c ∷ [] → c ≡ domains
+  unfolding concluded_by
+  by_domains (Some variant.SurjThen) a e = absurd (a refl)
+  by_domains (Some variant.NonSurjThen) a e = picked (none_set funcs) e
+  by_domains None a e = let z : ◌≡◌ {A = ℕ} 0 1 = ap length e in absurd (omega arith)
+  by_domains (Some variant.If) a e = let z : ◌≡◌ {A = ℕ} 0 1 = ap length e in absurd (omega arith)
+  by_domains (Some variant.Noop) a e = let z : ◌≡◌ {A = ℕ} 0 1 = ap length e in absurd (omega arith)
 
 -- Whether a rule is emitted.
-module _ {kinds : List (List ℕ)} {masks : List (List Held)} {sources : List ℕ} {k t : ℕ} (w : ReachedBy k kinds sources t) where
-  pub emits_surj : k ≡ 1 → Emits true kinds sources masks t
+module _ {kinds : Entries} {masks : List (List Held)} {sources : List ℕ} {k : Entry} {t : ℕ} (w : ReachedBy k kinds sources t) where
+  pub emits_surj : k ≡ Some variant.SurjThen → Emits true kinds sources masks t
   unfolding concluded_at
   emits_surj e = record {
     is = λ sig table s tb a b c l r i.
         ap length (by_surj (masks_at tb t).funcs (equalities_at sig table s tb t) (said_at s tb t) (domains_at s tb t) (w.is s tb a c l r i) e);
   }
 
-  pub emits_rows : {b : Bool} → k ≡ 2 → b ≡ not (none_set (mask_in (get_or masks t []) 1)) → Emits b kinds sources masks t
+  pub emits_rows : {b : Bool} → k ≡ Some variant.NonSurjThen → b ≡ not (none_set (mask_in (get_or masks t []) 1)) → Emits b kinds sources masks t
   unfolding concluded_at masks_at
   emits_rows {b} e q = record {
     is = λ sig table s tb a m c l r i.
@@ -92,7 +95,7 @@ module _ {kinds : List (List ℕ)} {masks : List (List Held)} {sources : List �
       go : (m : Mask) (domains : List Statement) → length (pick (none_set m) [] (domains ∷ [])) ≡ pick (not (none_set m)) 1 0
       go m domains = by (none_set m) domains
 
-  pub emits_none : (k ≡ 1 → ⊥) → (k ≡ 2 → ⊥) → Emits false kinds sources masks t
+  pub emits_none : (k ≡ Some variant.SurjThen → ⊥) → (k ≡ Some variant.NonSurjThen → ⊥) → Emits false kinds sources masks t
   unfolding concluded_at
   emits_none d e = record {
     is = λ sig table s tb a b c l r i.
@@ -100,16 +103,16 @@ module _ {kinds : List (List ℕ)} {masks : List (List Held)} {sources : List �
   }
 
 -- The conclusions of a structure's map, at the end of the walk.
-abbrev concluded_of : {s index types : List ℕ} {kinds : List (List ℕ)} {tb : Tables} → Ended s index types kinds tb → ℕ → List (List Statement)
+abbrev concluded_of : {s index types : List ℕ} {kinds : Entries} {tb : Tables} → Ended s index types kinds tb → ℕ → List (List Statement)
 concluded_of {s} {index} {types} {kinds} {tb} e t = concluded_at e.sig e.state.variables s tb t
 
 -- A structure that was reached, at the end of the walk.
-module _ {s index types : List ℕ} {kinds : List (List ℕ)} {tb : Tables} {target : ℕ} (e : Ended s index types kinds tb) (x : Reaching s tb target) where
+module _ {s index types : List ℕ} {kinds : Entries} {tb : Tables} {target : ℕ} (e : Ended s index types kinds tb) (x : Reaching s tb target) where
   abbrev eqs : List Statement
   eqs = equalities_at e.sig e.state.variables s tb target
 
   -- The conclusion.
-  pub surj_put : {out₀ out : List ℕ} {from r k : ℕ} {conclusion : List Statement} → ReachedBy k kinds tb.sources target → k ≡ 1
+  pub surj_put : {out₀ out : List ℕ} {from r : ℕ} {k : Entry} {conclusion : List Statement} → ReachedBy k kinds tb.sources target → k ≡ Some variant.SurjThen
       → concluded_of e target ≡ conclusion ∷ []
       → Put out₀ out (statement_bytes letter_h (eqs ++ said_at s tb target)) from r
       → Put out₀ out (statement_bytes letter_h conclusion) from r
@@ -119,7 +122,8 @@ module _ {s index types : List ℕ} {kinds : List (List ℕ)} {tb : Tables} {tar
       let b : conclusion ≡ eqs ++ said_at s tb target = ap (λ (l : List (List Statement)). get_or l 0 []) (sym z ∙ a) in
       rw b p
 
-  pub rows_put : {out₀ out : List ℕ} {from r k : ℕ} {conclusion : List Statement} → ReachedBy k kinds tb.sources target → (k ≡ 1 → ⊥)
+  pub rows_put : {out₀ out : List ℕ} {from r : ℕ} {k : Entry} {conclusion : List Statement} → ReachedBy k kinds tb.sources target
+      → (k ≡ Some variant.SurjThen → ⊥)
       → concluded_of e target ≡ conclusion ∷ []
       → Put out₀ out (statement_bytes letter_h
       (domains_by (structure_in s target) (variables_in (structure_in s target) (get_or tb.vars target [])) (mask_in (get_or tb.masks target []) 1))) from r
@@ -140,13 +144,13 @@ module _ {s index types : List ℕ} {kinds : List (List ℕ)} {tb : Tables} {tar
       rw (those_before e.state.slots tb target (λ i. omega arith), ← y) (then b c)
 
 -- The rules of the first structures were put, and are so many.
-unfoldable pub rules_to : {s index types : List ℕ} {kinds : List (List ℕ)} {tb : Tables} → Ended s index types kinds tb → ℕ → List Emitted
+unfoldable pub rules_to : {s index types : List ℕ} {kinds : Entries} {tb : Tables} → Ended s index types kinds tb → ℕ → List Emitted
 rules_to {s} {index} {types} {kinds} {tb} e t = emitted_to e.sig e.state.variables s tb e.state.slots t
 
 abbrev pub rule_bytes : List FlatRule → List ℕ
 rule_bytes = joined (λ (f : FlatRule). record_bytes (flat_rule_fields f))
 
-pub record Ruling (out₀ out s index types : List ℕ) (kinds : List (List ℕ)) (tb : Tables) (from at count t : ℕ) : Type 0 where
+pub record Ruling (out₀ out s index types : List ℕ) (kinds : Entries) (tb : Tables) (from at count t : ℕ) : Type 0 where
   pub put : (e : Ended s index types kinds tb) → Put out₀ out (rule_bytes (named_rules (group_name (rule_at s)) 0 (rules_to e t))) from at
   pub so_many : (e : Ended s index types kinds tb) → count ≡ length (rules_to e t)
   pub few : count < t
@@ -161,7 +165,7 @@ none_of : {A : Type 0} (xs : List A) → length xs ≡ 0 → xs ≡ []
 none_of [] e = refl
 none_of (a ∷ xs) e = absurd (omega arith)
 
-module _ {s index types : List ℕ} {kinds : List (List ℕ)} {tb : Tables} (e : Ended s index types kinds tb) where
+module _ {s index types : List ℕ} {kinds : Entries} {tb : Tables} (e : Ended s index types kinds tb) where
   -- Structure 0, which no map reached, emits nothing.
   rules_first : rules_to e 1 ≡ []
   unfolding rules_to emitted_to concluded_at concluded_by reached_by each
@@ -189,7 +193,7 @@ module _ {s index types : List ℕ} {kinds : List (List ℕ)} {tb : Tables} (e :
   unfolding each
   rules_one t h c = rules_more t h ∙ rw c
 
-pub ruling_start : (out s index types : List ℕ) (kinds : List (List ℕ)) (tb : Tables) (from : ℕ) → from ≤ count_limit
+pub ruling_start : (out s index types : List ℕ) (kinds : Entries) (tb : Tables) (from : ℕ) → from ≤ count_limit
     → Ruling out out s index types kinds tb from from 0 1
 unfolding named_rules joined
 ruling_start out s index types kinds tb from h = record {
@@ -206,7 +210,7 @@ named_one : (group : List ℕ) (count : ℕ) (xs : List Emitted) (x : Emitted) �
 unfolding named_rules joined
 named_one group count xs x e = rw (named_append, joined_append (λ (f : FlatRule). record_bytes (flat_rule_fields f)), zero-add, ← e, append-nil)
 
-module _ {out₀ out s index types : List ℕ} {kinds : List (List ℕ)} {tb : Tables} {from at count t n : ℕ}
+module _ {out₀ out s index types : List ℕ} {kinds : Entries} {tb : Tables} {from at count t n : ℕ}
     (w : Ruling out₀ out s index types kinds tb from at count t) (pre : Ended s index types kinds tb) (m : n ≡ length (rule_at s).structures) (h : t < n) where
   ruling_few : t < structure_limit
   ruling_few = let k = pre.ground.few in omega arith
@@ -255,7 +259,7 @@ module _ {out₀ out s index types : List ℕ} {kinds : List (List ℕ)} {tb : T
       more e = rules_one e t (rw read at d) (one e).1
 
 -- All of them.
-pub ruling_all : {out₀ out s index types : List ℕ} {kinds : List (List ℕ)} {tb : Tables} {from at count t n : ℕ}
+pub ruling_all : {out₀ out s index types : List ℕ} {kinds : Entries} {tb : Tables} {from at count t n : ℕ}
     → Ruling out₀ out s index types kinds tb from at count t
     → n ≡ length (rule_at s).structures → t ≤ n → n ≤ t → (e : Ended s index types kinds tb) → Put out₀ out (rule_bytes e.state.rules) from at
 unfolding rules_to

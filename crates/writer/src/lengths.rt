@@ -17,6 +17,7 @@ use crate::rules::{emits, put_conclusion};
 use flags::Held;
 use group::ids::FIELD_HEAD;
 use naming::writer::rule_name_length;
+use plan::table::Kinds;
 use records::write::past;
 use rule::ids::{FIELDS, RULE_INDEX, STRUCTURES};
 use walk::tables::{SORTS, UNREACHED};
@@ -26,7 +27,7 @@ fn own_length(
     from: usize,
     s: &[u8],
     index: &[u16; RULE_INDEX],
-    kinds: &[[u8; STRUCTURES]; STRUCTURES],
+    kinds: &Kinds,
     sources: &[u8; STRUCTURES],
     masks: &[[Held; SORTS]; STRUCTURES],
     vars: &[[u16; FIELDS]; STRUCTURES],
@@ -70,7 +71,7 @@ fn body_length(
     before: usize,
     s: &[u8],
     index: &[u16; RULE_INDEX],
-    kinds: &[[u8; STRUCTURES]; STRUCTURES],
+    kinds: &Kinds,
     sources: &[u8; STRUCTURES],
     masks: &[[Held; SORTS]; STRUCTURES],
     vars: &[[u16; FIELDS]; STRUCTURES],
@@ -109,7 +110,7 @@ pub fn rules_length(
     s: &[u8],
     index: &[u16; RULE_INDEX],
     n: usize,
-    kinds: &[[u8; STRUCTURES]; STRUCTURES],
+    kinds: &Kinds,
     sources: &[u8; STRUCTURES],
     masks: &[[Held; SORTS]; STRUCTURES],
     vars: &[[u16; FIELDS]; STRUCTURES],

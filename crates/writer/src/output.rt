@@ -13,6 +13,7 @@ use crate::variables::put_all_variables;
 use flags::Held;
 use group::ids::LETTER_G;
 use naming::writer::{group_name_length, put_group_name};
+use plan::table::Kinds;
 use records::write::put_field_head;
 use rule::ids::{FIELDS, RULE_INDEX, STRUCTURES};
 use walk::tables::SORTS;
@@ -23,7 +24,7 @@ pub fn put_group(
     s: &[u8],
     index: &[u16; RULE_INDEX],
     n: usize,
-    kinds: &[[u8; STRUCTURES]; STRUCTURES],
+    kinds: &Kinds,
     sources: &[u8; STRUCTURES],
     masks: &[[Held; SORTS]; STRUCTURES],
     vars: &[[u16; FIELDS]; STRUCTURES],

@@ -7,30 +7,28 @@ ghost use Rattle.definition.specs.Limits.{structure_limit};
 ghost use Rattle.records.specs.Buffer.{Put, count_limit};
 ghost use Rattle.rule.specs.Lookup.{rule_at};
 ghost use Rattle.walk.specs.Tables.{tables, equalities_at, said_at, own_at, statements_at};
+ghost use Rattle.plan.specs.Table.{Entries};
 ghost use Rattle.walk.specs.Ended.{Ended, Reaching, ReachedBy};
 ghost use Rattle.laws.specs.Bytes.{statement_bytes};
 
 use flags::{Held, none_set};
 use group::ids::LETTER_B;
-use plan::table::{IF, NO_KIND, NOOP, SURJ_THEN};
+use plan::table::Kinds;
 use rows::morphism::Morphism;
 use rule::ids::{FIELDS, RULE_INDEX, STRUCTURES};
+use rule::lookup::MorphismKind;
 use rule::maps::map_between;
 use statements::equalities::put_equalities;
 use statements::writer::put_said;
 use walk::tables::{MERGED, SORTS, mask_at, masks_at};
 
-// The number of the kind by which a structure was reached; structure 0 was reached by none.
-pub fn reached_by(
-    kinds: &[[u8; STRUCTURES]; STRUCTURES],
-    sources: &[u8; STRUCTURES],
-    t: usize,
-) -> u8
+// The kind by which a structure was reached; structure 0 was reached by none.
+pub fn reached_by(kinds: &Kinds, sources: &[u8; STRUCTURES], t: usize) -> Option<MorphismKind>
     requires { (t < structure_limit) × (get_or sources.now t 0 < structure_limit) }
     ensures { ReachedBy result kinds.now sources.now t }
 {
     if t == 0 {
-        return NO_KIND;
+        return None;
     }
     kinds[usize::from(sources[t])][t]
 }
@@ -49,9 +47,9 @@ fn put_map_equalities(
     t: usize,
 ) -> usize
     requires from_le_count_limit { (from ≤ count_limit) × ((0 < t) × (given (pairs_between (rule_at s.now).maps (get_or sources.now t 0) t) ≡ true)) }
-    requires by_index { (kinds : List (List ℕ)) × Ended s.now index.now types.now kinds (tables sources.now masks.now vars.now) }
+    requires by_index { (kinds : Entries) × Ended s.now index.now types.now kinds (tables sources.now masks.now vars.now) }
     requires reaching { Reaching s.now (tables sources.now masks.now vars.now) t }
-    ensures by_index_2 { (kinds : List (List ℕ)) (e : Ended s.now index.now types.now kinds (tables sources.now masks.now vars.now))
+    ensures by_index_2 { (kinds : Entries) (e : Ended s.now index.now types.now kinds (tables sources.now masks.now vars.now))
         → Put out.old out.new
         (statement_bytes letter
         (equalities_at e.sig e.state.variables s.now (tables sources.now masks.now vars.now) t)) from
@@ -87,9 +85,9 @@ pub fn put_both(
     t: usize,
 ) -> usize
     requires from_le_count_limit { (from ≤ count_limit) × ((0 < t) × (given (pairs_between (rule_at s.now).maps (get_or sources.now t 0) t) ≡ true)) }
-    requires by_index { (kinds : List (List ℕ)) × Ended s.now index.now types.now kinds (tables sources.now masks.now vars.now) }
+    requires by_index { (kinds : Entries) × Ended s.now index.now types.now kinds (tables sources.now masks.now vars.now) }
     requires reaching { Reaching s.now (tables sources.now masks.now vars.now) t }
-    ensures by_index_2 { (kinds : List (List ℕ)) (e : Ended s.now index.now types.now kinds (tables sources.now masks.now vars.now))
+    ensures by_index_2 { (kinds : Entries) (e : Ended s.now index.now types.now kinds (tables sources.now masks.now vars.now))
         → Put out.old out.new
         (statement_bytes letter
         (equalities_at e.sig e.state.variables s.now (tables sources.now masks.now vars.now) t
@@ -106,7 +104,7 @@ pub fn put_own(
     from: usize,
     s: &[u8],
     index: &[u16; RULE_INDEX],
-    kinds: &[[u8; STRUCTURES]; STRUCTURES],
+    kinds: &Kinds,
     sources: &[u8; STRUCTURES],
     masks: &[[Held; SORTS]; STRUCTURES],
     vars: &[[u16; FIELDS]; STRUCTURES],
@@ -124,10 +122,10 @@ pub fn put_own(
     ensures upper_bound { result ≤ count_limit }
 {
     let kind = reached_by(kinds, sources, t);
-    if kind == SURJ_THEN {
+    if kind == Some(MorphismKind::SurjThen) {
         return from;
     }
-    if kind == IF || kind == NOOP {
+    if kind == Some(MorphismKind::If) || kind == Some(MorphismKind::Noop) {
         return put_both(
             out, from, LETTER_B, s, index, sources, masks, vars, types, t,
         );
@@ -142,7 +140,7 @@ pub fn put_premise(
     from: usize,
     s: &[u8],
     index: &[u16; RULE_INDEX],
-    kinds: &[[u8; STRUCTURES]; STRUCTURES],
+    kinds: &Kinds,
     sources: &[u8; STRUCTURES],
     masks: &[[Held; SORTS]; STRUCTURES],
     vars: &[[u16; FIELDS]; STRUCTURES],

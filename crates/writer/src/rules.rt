@@ -17,15 +17,16 @@ use crate::premise::{put_both, put_premise, reached_by};
 use flags::{Held, none_set};
 use group::ids::{LETTER_H, LETTER_U};
 use naming::writer::{put_rule_name, rule_name_length};
-use plan::table::{NON_SURJ_THEN, SURJ_THEN};
+use plan::table::Kinds;
 use records::write::put_field_head;
 use rule::ids::{FIELDS, RULE_INDEX, STRUCTURES};
+use rule::lookup::MorphismKind;
 use statements::writer::put_domains;
 use walk::tables::{FUNCS, SORTS, UNREACHED, mask_at};
 
 // Does the map that reached a structure emit a rule? SurjThen does; NonSurjThen does where it has a new element.
 pub fn emits(
-    kinds: &[[u8; STRUCTURES]; STRUCTURES],
+    kinds: &Kinds,
     sources: &[u8; STRUCTURES],
     masks: &[[Held; SORTS]; STRUCTURES],
     t: usize,
@@ -34,13 +35,10 @@ pub fn emits(
     ensures { Emits result kinds.now sources.now masks.now t }
 {
     let kind = reached_by(kinds, sources, t);
-    if kind == SURJ_THEN {
+    if kind == Some(MorphismKind::SurjThen) {
         return true;
     }
-    if kind == NON_SURJ_THEN {
-        return !none_set(mask_at(masks, t, FUNCS));
-    }
-    false
+    kind == Some(MorphismKind::NonSurjThen) && !none_set(mask_at(masks, t, FUNCS))
 }
 
 // The conclusion of the rule that a structure's map emits.
@@ -49,7 +47,7 @@ pub fn put_conclusion(
     from: usize,
     s: &[u8],
     index: &[u16; RULE_INDEX],
-    kinds: &[[u8; STRUCTURES]; STRUCTURES],
+    kinds: &Kinds,
     sources: &[u8; STRUCTURES],
     masks: &[[Held; SORTS]; STRUCTURES],
     vars: &[[u16; FIELDS]; STRUCTURES],
@@ -68,7 +66,7 @@ pub fn put_conclusion(
     ensures upper_bound { result ≤ count_limit }
 {
     let kind = reached_by(kinds, sources, t);
-    if kind == SURJ_THEN {
+    if kind == Some(MorphismKind::SurjThen) {
         return put_both(
             out, from, LETTER_H, s, index, sources, masks, vars, types, t,
         );
@@ -92,7 +90,7 @@ fn put_body(
     from: usize,
     s: &[u8],
     index: &[u16; RULE_INDEX],
-    kinds: &[[u8; STRUCTURES]; STRUCTURES],
+    kinds: &Kinds,
     sources: &[u8; STRUCTURES],
     masks: &[[Held; SORTS]; STRUCTURES],
     vars: &[[u16; FIELDS]; STRUCTURES],
@@ -124,7 +122,7 @@ pub fn put_rules(
     s: &[u8],
     index: &[u16; RULE_INDEX],
     n: usize,
-    kinds: &[[u8; STRUCTURES]; STRUCTURES],
+    kinds: &Kinds,
     sources: &[u8; STRUCTURES],
     masks: &[[Held; SORTS]; STRUCTURES],
     vars: &[[u16; FIELDS]; STRUCTURES],

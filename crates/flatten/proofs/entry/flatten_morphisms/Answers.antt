@@ -6,7 +6,7 @@ use Rattle.signature.specs.Index.{signature_at}
 use Rattle.walk.proofs.Grounds.{first_laid, byte_types}
 use Rattle.walk.proofs.Ending.{Standing, skip, kinded, going_from, went_further, next_target, ended_walk, begin_walk}
 use Rattle.flatten.proofs.Writing.{refused_at_once, walk_stopped, ending, ended_writes}
-use Rattle.flatten.proofs.entry.flatten_morphisms.Goals.{In-loop-source, then-kind-lt-NO_KIND+in_ok-m, else-kind-lt-NO_KIND}
+use Rattle.flatten.proofs.entry.flatten_morphisms.Goals.{In-loop-source, in-Some+in_ok-m, in_default}
 use Rattle.flatten.proofs.entry.flatten_morphisms.Goals as goal
 
 -- Where the walk stands.
@@ -30,7 +30,7 @@ loop-target-init c =
     (begin_walk g u.0.size u.0.zeros c.requires.n_value.0 u.0.enough c.first_row.ensures.value c.first_row.ensures.types_after c.element_count-next.ensures)
 
 pub meet_map-v-requires : goal.meet_map-v-requires
-meet_map-v-requires c = kinded (stands (goal.at.meet_map-v-requires c).In-loop-source) c.if-kind-lt-NO_KIND.true
+meet_map-v-requires c = kinded (stands (goal.at.meet_map-v-requires c).In-loop-source) c.in-Some.is
 
 pub returns-in_err-m : goal.returns-in_err-m
 returns-in_err-m c =
@@ -39,12 +39,12 @@ returns-in_err-m c =
 
 pub loop-source-preserved : goal.loop-source-preserved
 unfolding going_from
-loop-source-preserved c = elim c.if-kind-lt-NO_KIND.branch [
-  | then-kind-lt-NO_KIND+in_ok-m w ↦ let e = w.meet_map-v.ensures.source_value in let l = c.loop-source in
+loop-source-preserved c = elim c.match-kinds-source.branch [
+  | in-Some+in_ok-m w ↦ let e = w.meet_map-v.ensures.source_value in let l = c.loop-source in
       rw (w.types-is, w.vars-is, w.sources-is, w.masks-is, w.next-is)
       (went_further l.vars _ e.0 e.1 (w.in_ok-m.ensures (going_from e l.invariant)))
-  | else-kind-lt-NO_KIND w ↦ rw (w.types-is, w.vars-is, w.sources-is, w.masks-is, w.next-is)
-      (skip (stands (goal.at.loop-source-preserved c).In-loop-source) w.if-kind-lt-NO_KIND.false c.loop-source.invariant)
+  | in_default w ↦ rw (w.types-is, w.vars-is, w.sources-is, w.masks-is, w.next-is)
+      (skip (stands (goal.at.loop-source-preserved c).In-loop-source) w.in_default.is c.loop-source.invariant)
 ]
 
 pub loop-target-preserved : goal.loop-target-preserved

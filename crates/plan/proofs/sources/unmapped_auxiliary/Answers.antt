@@ -11,22 +11,22 @@ loop-at-init c = asking _ (auxiliaries_from c.requires c.section_behind-auxiliar
 pub returns-in_default : goal.returns-in_default
 returns-in_default c =
     values_bad c.loop-at.invariant.values c.loop-at-test.true
-    (sym c.read_field-f.ensures.value ∙ c.in_default.is)
+    (sym c.read_field.ensures.value ∙ c.in_default.is)
 
 pub structure_at-requires : goal.structure_at-requires
 structure_at-requires c =
-    let g = sym c.read_field-f.ensures.value ∙ c.in-Some.is in
+    let g = sym c.read_field.ensures.value ∙ c.in-Some.is in
     (values_inside c.loop-at.invariant.values c.loop-at-test.true g, values_long c.loop-at.invariant.values c.loop-at-test.true g)
 
 pub returns-then-is_none : goal.returns-then-is_none
 unfolding unmapped_auxiliary
 returns-then-is_none c =
-    sym (answered c.loop-at.invariant c.loop-at-test.true (sym c.read_field-f.ensures.value ∙ c.in-Some.is)
+    sym (answered c.loop-at.invariant c.loop-at-test.true (sym c.read_field.ensures.value ∙ c.in-Some.is)
     (unmapped_here _ _ _ (c.structure_at.ensures _) c.incoming_source.ensures c.if-is_none.ensures))
 
 pub loop-at-preserved : goal.loop-at-preserved
 loop-at-preserved c =
-    passed c.loop-at.invariant c.loop-at-test.true (sym c.read_field-f.ensures.value ∙ c.in-Some.is)
+    passed c.loop-at.invariant c.loop-at-test.true (sym c.read_field.ensures.value ∙ c.in-Some.is)
     (unmapped_behind _ _ _ (c.structure_at.ensures _) c.incoming_source.ensures c.if-is_none.ensures)
 
 pub returns : goal.returns

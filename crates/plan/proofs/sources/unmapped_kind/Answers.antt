@@ -15,30 +15,30 @@ loop-at-init c = asking _ (kinds_from c.requires c.section_behind-kinds.ensures)
 pub returns-in_default : goal.returns-in_default
 returns-in_default c =
     values_bad c.loop-at.invariant.values c.loop-at-test.true
-    (sym c.read_field-f.ensures.value ∙ c.in_default.is)
+    (sym c.read_field.ensures.value ∙ c.in_default.is)
 
 pub source_at-requires : goal.source_at-requires
 source_at-requires c =
-    let v = c.loop-at.invariant.values in let g = sym c.read_field-f.ensures.value ∙ c.in-Some.is in
+    let v = c.loop-at.invariant.values in let g = sym c.read_field.ensures.value ∙ c.in-Some.is in
     let l = values_long v c.loop-at-test.true g in (values_inside v c.loop-at-test.true g, omega arith)
 
 pub target_at-requires : goal.target_at-requires
 target_at-requires c =
-    let v = c.loop-at.invariant.values in let g = sym c.read_field-f.ensures.value ∙ c.in-Some.is in
+    let v = c.loop-at.invariant.values in let g = sym c.read_field.ensures.value ∙ c.in-Some.is in
     let l = values_long v c.loop-at-test.true g in (values_inside v c.loop-at-test.true g, omega arith)
 
-pub returns-in_default-map : goal.returns-in_default-map
+pub returns-then-is_none : goal.returns-then-is_none
 unfolding unmapped_kind
-returns-in_default-map c =
-    sym (answered c.loop-at.invariant c.loop-at-test.true (sym c.read_field-f.ensures.value ∙ c.in-Some.is)
+returns-then-is_none c =
+    sym (answered c.loop-at.invariant c.loop-at-test.true (sym c.read_field.ensures.value ∙ c.in-Some.is)
     (no_map_here _ _ (c.source_at.ensures.by_index_2 _) (c.target_at.ensures.by_index_2 _)
-    c.find_map-map.ensures c.in_default-map.is))
+    _ c.find_map.ensures c.if-is_none.ensures))
 
 pub loop-at-preserved : goal.loop-at-preserved
 loop-at-preserved c =
-    passed c.loop-at.invariant c.loop-at-test.true (sym c.read_field-f.ensures.value ∙ c.in-Some.is)
+    passed c.loop-at.invariant c.loop-at-test.true (sym c.read_field.ensures.value ∙ c.in-Some.is)
     (no_map_behind _ _ (c.source_at.ensures.by_index_2 _) (c.target_at.ensures.by_index_2 _)
-    c.find_map-map.ensures c.in-Some.is)
+    _ c.find_map.ensures c.if-is_none.ensures)
 
 pub returns : goal.returns
 unfolding unmapped_kind any

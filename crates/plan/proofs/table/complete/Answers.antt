@@ -14,28 +14,28 @@ loop-at-init c = complete_start c.requires.ready c.requires.tabled (auxiliaries_
 pub returns-in_default : goal.returns-in_default
 returns-in_default c =
     values_bad c.loop-at.invariant.values c.loop-at-test.true
-    (sym c.read_field-f.ensures.value ∙ c.in_default.is)
+    (sym c.read_field.ensures.value ∙ c.in_default.is)
 
 pub structure_at-target-requires : goal.structure_at-target-requires
 structure_at-target-requires c =
-    let g = sym c.read_field-f.ensures.value ∙ c.in-Some.is in
+    let g = sym c.read_field.ensures.value ∙ c.in-Some.is in
     (values_inside c.loop-at.invariant.values c.loop-at-test.true g, values_long c.loop-at.invariant.values c.loop-at-test.true g)
 
 pub class_at-requires : goal.class_at-requires
 class_at-requires c =
-    let g = sym c.read_field-f.ensures.value ∙ c.in-Some.is in
+    let g = sym c.read_field.ensures.value ∙ c.in-Some.is in
     (values_inside c.loop-at.invariant.values c.loop-at-test.true g, values_long c.loop-at.invariant.values c.loop-at-test.true g)
 
 pub add-requires : goal.add-requires
 add-requires c = (
   lowest_below c.requires.ready _ (lowest_is _ c.incoming_source.ensures c.unwrap_or-source.ensures),
-  complete_named c.loop-at.invariant c.loop-at-test.true (sym c.read_field-f.ensures.value ∙ c.in-Some.is)
+  complete_named c.loop-at.invariant c.loop-at-test.true (sym c.read_field.ensures.value ∙ c.in-Some.is)
       (c.structure_at-target.ensures _),
 )
 
 pub loop-at-preserved : goal.loop-at-preserved
 loop-at-preserved c =
-    complete_next c.loop-at.invariant c.loop-at-test.true (sym c.read_field-f.ensures.value ∙ c.in-Some.is)
+    complete_next c.loop-at.invariant c.loop-at-test.true (sym c.read_field.ensures.value ∙ c.in-Some.is)
     (c.structure_at-target.ensures _) (lowest_is _ c.incoming_source.ensures c.unwrap_or-source.ensures) (c.class_at.ensures _)
     c.auxiliary_kind.ensures c.add.ensures
 

@@ -3,8 +3,7 @@
 -- column (`store_named`); each K can be read, so the early return is never reached (`values_bad`).
 use Rattle.plan.proofs.Storing.{store_start, store_end, store_named, store_next}
 use Rattle.plan.proofs.Scanning.{kinds_from, values_bad, values_inside, values_long}
-use mathlib.Core.Path.{◌∙◌, sym, ap}
-use mathlib.Core.Option.{some}
+use mathlib.Core.Path.{◌∙◌, sym}
 use native.Mathlib.Omega.{arith}
 use Rattle.plan.proofs.table.stored.Goals as goal
 
@@ -14,33 +13,33 @@ loop-at-init c = store_start c.requires.ready c.requires.tabled (kinds_from c.re
 pub returns-in_default : goal.returns-in_default
 returns-in_default c =
     values_bad c.loop-at.invariant.values c.loop-at-test.true
-    (sym c.read_field-f.ensures.value ∙ c.in_default.is)
+    (sym c.read_field.ensures.value ∙ c.in_default.is)
 
 pub kind_at-requires : goal.kind_at-requires
 kind_at-requires c =
-    let g = sym c.read_field-f.ensures.value ∙ c.in-Some.is in
+    let g = sym c.read_field.ensures.value ∙ c.in-Some.is in
     (values_inside c.loop-at.invariant.values c.loop-at-test.true g, values_long c.loop-at.invariant.values c.loop-at-test.true g)
 
 pub source_at-requires : goal.source_at-requires
 source_at-requires c =
-    let v = c.loop-at.invariant.values in let g = sym c.read_field-f.ensures.value ∙ c.in-Some.is in
+    let v = c.loop-at.invariant.values in let g = sym c.read_field.ensures.value ∙ c.in-Some.is in
     let l = values_long v c.loop-at-test.true g in (values_inside v c.loop-at-test.true g, omega arith)
 
 pub target_at-requires : goal.target_at-requires
 target_at-requires c =
-    let v = c.loop-at.invariant.values in let g = sym c.read_field-f.ensures.value ∙ c.in-Some.is in
+    let v = c.loop-at.invariant.values in let g = sym c.read_field.ensures.value ∙ c.in-Some.is in
     let l = values_long v c.loop-at-test.true g in (values_inside v c.loop-at-test.true g, omega arith)
 
 pub add-requires : goal.add-requires
 add-requires c =
-    store_named c.loop-at.invariant c.loop-at-test.true (sym c.read_field-f.ensures.value ∙ c.in-Some.is)
+    store_named c.loop-at.invariant c.loop-at-test.true (sym c.read_field.ensures.value ∙ c.in-Some.is)
     (c.source_at.ensures.by_index_2 _) (c.target_at.ensures.by_index_2 _)
 
 pub loop-at-preserved : goal.loop-at-preserved
 loop-at-preserved c =
-    store_next c.loop-at.invariant c.loop-at-test.true (sym c.read_field-f.ensures.value ∙ c.in-Some.is)
+    store_next c.loop-at.invariant c.loop-at-test.true (sym c.read_field.ensures.value ∙ c.in-Some.is)
     (c.source_at.ensures.by_index_2 _) (c.target_at.ensures.by_index_2 _)
-    (c.kind_number-kind.ensures ∙ ap some (c.kind_at.ensures _)) c.add.ensures
+    (c.kind_at.ensures _) c.add.ensures
 
 pub returns : goal.returns
 returns c = store_end c.loop-at.invariant c.loop-at-test.false
