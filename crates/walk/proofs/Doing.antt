@@ -64,7 +64,8 @@ module _ (sig : Signature) (table : List Variable) (s : List ℕ) (m : Morphism)
   noop_form (Err n) d = record { is = d.is }
   noop_form (Ok masks) d = record { is = (d.is.0, (d.is.1, refl)) }
 
-  pub if_does : (n : ℕ) {k : MorphismKind} (r : Result Masks Refusal) → IfDoes sig table s m sourcevars targetvars If r → IfDoes sig table s m sourcevars targetvars Noop r
+  pub if_does : (n : ℕ) {k : MorphismKind} (r : Result Masks Refusal) → IfDoes sig table s m sourcevars targetvars If r
+      → IfDoes sig table s m sourcevars targetvars Noop r
       → (n ≡ 1 → ⊥) → (n ≡ 2 → ⊥) → kind_in n ≡ some k → Does sig table s m sourcevars targetvars k r
   if_does n {k} r d e a b h = go (number_other n a b h)
     where
