@@ -69,7 +69,8 @@ keys_typed {s} {index} {vars} {sourcevars} {size} {m} w g v = record { below = b
 
 -- 25 and 26.
 module _ (sig : Signature) (table : List Variable) {s : List ℕ} {m : Morphism} (sourcevars targetvars : List ℕ) {index : List ℕ} {marks : List Bool} where
-  pub masks_clash : by sig table s m sourcevars targetvars kernel_clashes ≡ true → MasksFor sig table s m sourcevars targetvars index marks (Err KernelTypesDiffer)
+  pub masks_clash : by sig table s m sourcevars targetvars kernel_clashes ≡ true
+      → MasksFor sig table s m sourcevars targetvars index marks (Err KernelTypesDiffer)
   unfolding lowest
   masks_clash e = record { is = rw e }
 
@@ -92,12 +93,6 @@ free_flagged st mask p q w = flagged_keep mask (λ (e : Element). not (p e.numbe
 
 -- The rows that constrain, and the marks that they give.
 module _ {sig : Signature} {s index : List ℕ} {k : ℕ} (w : SoundAt sig s index k) where
-  pub known_preds : {n : ℕ} → length sig.preds ≡ n → RowsKnown sig n predicate s (section_from index k place_r) (section_to index k place_r)
-  known_preds e = rw (← e) w.preds_known
-
-  pub known_funcs : {n : ℕ} → length sig.funcs ≡ n → RowsKnown sig n function s (section_from index k place_a) (section_to index k place_a)
-  known_funcs e = rw (← e) w.funcs_known
-
   pub marks_are : (marks : List Bool) → ((st : Structure) (fs gs : List Field) → Run s (section_from index k place_r) (section_to index k place_r) fs
       → Run s (section_from index k place_a) (section_to index k place_a) gs → numbers_of st ≡ element_numbers s index k
       → st.pred_rows ≡ each (Rule.row_of predicate) fs → st.func_rows ≡ each (Rule.row_of function) gs

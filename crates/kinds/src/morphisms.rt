@@ -25,7 +25,7 @@ use rows::morphism::Morphism;
 use rule::elements::{element_count, element_number};
 use rule::ids::{FIELDS, PLACE_A, RULE_INDEX};
 use rule::sections::section_of;
-use signature::ids::{Counts, INDEX};
+use signature::lookup::Signature;
 use statements::masks::Masks;
 
 // Masks of a target that adds nothing.
@@ -81,9 +81,7 @@ fn new_masks(
 // If and Noop: refused as `new_masks` is, else the new rows but for members whose element is constrained, and the elements that are neither
 // images nor constrained.
 pub fn flatten_if_arbitrary(
-    sig: &[u8],
-    symbols: &[u16; INDEX],
-    counts: Counts,
+    sig: &Signature<'_>,
     s: &[u8],
     index: &[u16; RULE_INDEX],
     m: Morphism,
@@ -92,15 +90,14 @@ pub fn flatten_if_arbitrary(
     first: u16,
     types: &[u8],
 ) -> Result<Masks, Refusal>
-    requires indexed { Indexed sig.now symbols.now counts }
-    requires sound_at { SoundAt (signature_at sig.now symbols.now counts) s.now index.now m.target }
+    requires sound_at { SoundAt sig.now s.now index.now m.target }
     requires reaches { Reaches s.now index.now m targetvars first }
     requires given_out { GivenOut (source_in s.now m) sourcevars (length types.now) }
     ensures { (table : List Variable) → TypesOf table types.now
-        → IfDoes (signature_at sig.now symbols.now counts) table s.now m sourcevars targetvars If result
-        × IfDoes (signature_at sig.now symbols.now counts) table s.now m sourcevars targetvars Noop result }
+        → IfDoes sig.now table s.now m sourcevars targetvars If result
+        × IfDoes sig.now table s.now m sourcevars targetvars Noop result }
 {
-    let marks = constrained_els(sig, symbols, counts, s, index, m.target);
+    let marks = constrained_els(sig, s, index, m.target);
     let masks = new_masks(s, index, m, sourcevars, types, marks)?;
     let free = free_els(targetvars, element_count(index, m.target), first, marks);
     Ok(Masks { free, ..masks })
