@@ -1,18 +1,16 @@
 -- Counts of what a statement is about, parent models, results.
 use Prim.Native.Nat.{ℕ, zero, suc, ◌-◌, ◌≤◌, ◌<◌}
 use native.Mathlib.Omega.{arith}
-use mathlib.Core.Bool.{not}
 use mathlib.Core.List.{List, [], ◌∷◌}
 use mathlib.Core.Option.{some}
 use mathlib.Core.Path.{◌≡◌, sym}
-use lib.Dec.{ltb}
 use lib.ListN.{length, get_or}
-use Rattle.definition.specs.Base.{last_of, empty}
+use Rattle.definition.specs.Base.{last_of}
 use Rattle.definition.specs.Letters.{func_domain}
-use Rattle.definition.specs.Signature.{Signature, column_count, type_parents, func_of, symbol_count}
+use Rattle.definition.specs.Signature.{Signature, column_count, func_of, symbol_count}
 use Rattle.laws.proofs.Lists.{length_each}
 use Rattle.records.proofs.Index.{length_held}
-use Rattle.records.proofs.Lists.{last_some, has_some}
+use Rattle.records.proofs.Lists.{last_some}
 use Rattle.signature.specs.Index.{signature_at, Indexed}
 use Rattle.signature.specs.declared.ids.Counts.{Counts}
 use Rattle.signature.proofs.Symbols.{func_at, func_sound, columns_of_lem}
@@ -46,8 +44,3 @@ pub model_last : (ns : List ℕ) {n : ℕ} → n ≡ length ns → (n ≡ 0 → 
 model_last ns {n} e q {m} g =
     let k : length ns ≡ suc (n - 1) = omega arith in
     rw g (sym (last_some ns (n - 1) 0 k))
-
--- A type has members where it has a parent.
-pub some_parents : {s index : List ℕ} {counts : Counts} (w : Indexed s index counts) (t : ℕ) {n : ℕ} → n ≡ length (type_parents (signature_at s index counts) t)
-    → ltb 0 n ≡ not (empty (type_parents (signature_at s index counts) t))
-some_parents {s} {index} {counts} w t e = rw e (has_some (type_parents (signature_at s index counts) t))

@@ -1,6 +1,6 @@
 // A signature that was accepted, and what it says.
-ghost use Rattle.std.specs.Prelude.{◌≡◌, ℕ, ◌+◌, ◌-◌, ◌≤◌, ◌<◌, ltb, length, get_or};
-ghost use Rattle.definition.specs.Base.{last_of};
+ghost use Rattle.std.specs.Prelude.{not, ◌≡◌, ℕ, ◌+◌, ◌-◌, ◌≤◌, ◌<◌, ltb, length, get_or};
+ghost use Rattle.definition.specs.Base.{empty, last_of};
 ghost use Rattle.definition.specs.Letters.{func_domain};
 ghost use Rattle.definition.specs.Signature as definition;
 ghost use Rattle.definition.specs.Signature.{symbol_of, type_parents, pred_of, func_of, column_count, symbol_count, parent_model};
@@ -145,7 +145,15 @@ impl<'a> Signature<'a> {
         TypeId(num(self.bytes, c.start + 2 * i))
     }
 
-    // The last of them.
+    // Only a type with parents has a member relation.
+    pub fn has_members(&self, t: TypeId) -> bool
+        requires { t.0 < length self.now.types }
+        ensures { result ≡ not (empty (type_parents self.now t.0)) }
+    {
+        0 < self.type_parents(t)
+    }
+
+    // The last of the parents.
     fn type_model(&self, t: TypeId) -> Option<TypeId>
         requires { t.0 < length self.now.types }
         ensures result_value { model_of result ≡ last_of (type_parents self.now t.0) }
