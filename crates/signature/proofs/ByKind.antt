@@ -1,25 +1,17 @@
 -- Counts of what a statement is about, parent models, results.
 use Prim.Native.Nat.{ℕ, zero, suc, ◌-◌, ◌≤◌, ◌<◌}
 use native.Mathlib.Omega.{arith}
-use mathlib.Core.List.{List, [], ◌∷◌}
+use mathlib.Core.List.{List}
 use mathlib.Core.Option.{some}
 use mathlib.Core.Path.{◌≡◌, sym}
 use lib.ListN.{length, get_or}
 use Rattle.definition.specs.Base.{last_of}
 use Rattle.definition.specs.Letters.{func_domain}
 use Rattle.definition.specs.Signature.{Signature, column_count, func_of, symbol_count}
-use Rattle.laws.proofs.Lists.{length_each}
-use Rattle.records.proofs.Index.{length_held}
 use Rattle.records.proofs.Lists.{last_some}
 use Rattle.signature.specs.Index.{signature_at, Indexed}
 use Rattle.signature.specs.declared.ids.Counts.{Counts}
 use Rattle.signature.proofs.Symbols.{func_at, func_sound, columns_of_lem}
-
--- The counts of the signature are those of its index.
-pub counts_are : (s index : List ℕ) (counts : Counts) (kind : ℕ) → symbol_count (signature_at s index counts) kind
-    ≡ get_or (counts.preds ∷ counts.funcs ∷ counts.types ∷ counts.types ∷ counts.types ∷ counts.funcs ∷ []) kind 0
-unfolding symbol_count signature_at
-counts_are s index counts kind = simp (length_each, length_held)
 
 -- A number that a kind's symbols have is of a kind that there is.
 pub kind_known : (sig : Signature) (kind : ℕ) {n : ℕ} → n < symbol_count sig kind → kind ≤ func_domain
