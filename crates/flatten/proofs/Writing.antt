@@ -22,7 +22,7 @@ use Rattle.signature.specs.declared.ids.Counts.{Counts}
 use Rattle.rule.specs.Lookup.{rule_at}
 use Rattle.reading.specs.Answers.{rule_answer, RuleUsable}
 use Rattle.reading.specs.Verdicts.{rule_read}
-use Rattle.reading.specs.declared.RuleReading.TheVariants as reading
+use Rattle.reading.specs.declared.RuleCounts.{RuleCounts}
 use Rattle.plan.specs.Table.{Entries, Tabled}
 use Rattle.walk.specs.Tables.{Tables}
 use Rattle.walk.specs.Ended.{Readable, Ground, Finished, Ended}
@@ -31,7 +31,6 @@ use Rattle.records.specs.Refusals.{number}
 use Rattle.records.specs.declared.refusal.Refusal.{Refusal}
 use Rattle.records.specs.declared.refusal.Refusal.TheVariants.{NoRoom}
 use Rattle.flags.specs.Flags.{Held}
-use Rattle.theorems.proofs.ReadingRefusals.{Low, signature_refusal, rule_refusal}
 use Rattle.walk.specs.Went.{whole_walk, Went}
 use Rattle.flatten.specs.Answers.{outcome_in, answer_of, Demanded, Writes, Untyped, walk_outcome, rule_outcome}
 use Rattle.walk.proofs.Grounds.{AllMapped}
@@ -98,30 +97,23 @@ pub untyped : (size : ℕ) {n : ℕ} → field_limit * n ≤ size → Untyped (r
 untyped size h = record { size = size; zeros = refl; enough = rw length-replicate h }
 
 -- The reading.
-module _ (sig s : List ℕ) {n : ℕ} (a : rule_answer s (reading.Refused n) ≡ rule_read sig s) where
-  pub unread : (room : ℕ) → flatten_of sig s room ≡ refused n
+module _ (sig s : List ℕ) (r : Refusal) (a : rule_answer s (Err r) ≡ rule_read sig s) where
+  pub unread : (room : ℕ) → flatten_of sig s room ≡ refused (number r)
   unfolding flatten_of
   unread room = go (read_signature sig) a
     where
-      go : (x : Outcome Signature) → refused n ≡ on_accepted x (λ (g : Signature). read_rule g s)
+      go : (x : Outcome Signature) → refused (number r) ≡ on_accepted x (λ (g : Signature). read_rule g s)
           → on_accepted x (λ (g : Signature). on_accepted (read_rule g s) λ (r : Rule). on_accepted (walk_of g r) λ (state : State). fitted room
-          (group_bytes_of (group_left r state))) ≡ refused n
-      go (refused i) q = let x : i ≡ n = cc in rw x
+          (group_bytes_of (group_left r state))) ≡ refused (number r)
+      go (refused i) q = let x : i ≡ number r = cc in rw x
       go (accepted g) q = rw (sym q)
 
-  pub low : Low n
-  low = go (read_signature sig) (λ k e. signature_refusal sig e) a
-    where
-      go : (x : Outcome Signature) → ((k : ℕ) → x ≡ refused k → Low k) → refused n ≡ on_accepted x (λ (g : Signature). read_rule g s) → Low n
-      go (refused i) h q = let x : i ≡ n = cc in rw (← x) (h i refl)
-      go (accepted g) h q = rule_refusal g s (sym q)
-
 module _ (sig s symbols index : List ℕ) where
-  pub readable : {counts : Counts} {n : ℕ} → rule_answer s (reading.Sound counts n) ≡ rule_read sig s → RuleUsable sig symbols s index (reading.Sound counts n)
-      → Readable sig symbols counts s index n
+  pub readable : {found : RuleCounts} → rule_answer s (Ok found) ≡ rule_read sig s → RuleUsable sig symbols s index (Ok found)
+      → Readable sig symbols found.counts s index found.structures
   unfolding rule_at
-  readable {counts} a u =
-      let q : accepted (rule_of (rule_part s).fields) ≡ read_rule (signature_at sig symbols counts) s = rw u.0.read at a in
+  readable {found} a u =
+      let q : accepted (rule_of (rule_part s).fields) ≡ read_rule (signature_at sig symbols found.counts) s = rw u.0.read at a in
       record { signature_read = u.0.read; signature_indexed = u.0.indexed; rule_read = sym q; rule_indexed = u.1 }
 
   pub flatten_read : {counts : Counts} {n : ℕ} (room : ℕ) → Readable sig symbols counts s index n

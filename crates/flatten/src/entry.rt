@@ -3,7 +3,6 @@ ghost use Rattle.std.specs.Prelude.{◌≡◌, ◌≤◌, length};
 ghost use Rattle.definition.specs.Flatten.{group_left, fitted, flatten_of, laid_over};
 ghost use Rattle.definition.specs.Walk.{completed};
 ghost use Rattle.definition.specs.Writer.{group_bytes_of};
-ghost use Rattle.records.specs.Refusals.{number};
 ghost use Rattle.rule.specs.Lookup.{rule_at};
 ghost use Rattle.signature.specs.Index.{signature_at, Indexed};
 ghost use Rattle.plan.specs.Table.{Tabled};
@@ -15,7 +14,7 @@ use flags::{Held, NO_HELD};
 use naming::variables::VARIABLES;
 use plan::sources::{unmapped_auxiliary, unmapped_kind};
 use plan::table::{Kinds, NO_KINDS, kind_table};
-use reading::{RuleReading, read_rule_into};
+use reading::{RuleCounts, read_rule_into};
 use records::refusal::Refusal;
 use rule::elements::element_count;
 use rule::ids::{FIELDS, RULE_INDEX, STRUCTURES};
@@ -147,23 +146,6 @@ fn flatten_rule(
     )
 }
 
-// The refusal of a record, by its number.
-fn refusal(n: u8) -> Refusal
-    requires { (1 ≤ n) × (n ≤ 8) }
-    ensures { number result ≡ n }
-{
-    match n {
-        1 => Refusal::TooLong,
-        2 => Refusal::BadFields,
-        3 => Refusal::BadLength,
-        4 => Refusal::TooMany,
-        5 => Refusal::Undeclared,
-        6 => Refusal::NotAscending,
-        7 => Refusal::BadArity,
-        _ => Refusal::BadName,
-    }
-}
-
 // Flatten: the group at the front of the buffer, whose rest is as it was, and its length; or a refusal, and the buffer as it was.
 pub fn flatten(sig: &[u8], rule: &[u8], out: &mut [u8]) -> Result<usize, Refusal>
     ensures value { outcome_in result ≡ answer_of (flatten_of sig.now rule.now (length out.old)) }
@@ -172,10 +154,7 @@ pub fn flatten(sig: &[u8], rule: &[u8], out: &mut [u8]) -> Result<usize, Refusal
 {
     let mut symbols = [0u16; INDEX];
     let mut index = [0u16; RULE_INDEX];
-    let (counts, structures) = match read_rule_into(sig, rule, &mut symbols, &mut index) {
-        RuleReading::Sound { counts, structures } => (counts, structures),
-        RuleReading::Refused(n) => return Err(refusal(n)),
-    };
+    let RuleCounts { counts, structures } = read_rule_into(sig, rule, &mut symbols, &mut index)?;
     if structures <= FEW_STRUCTURES {
         let mut types = [0u8; FEW_VARIABLES];
         return flatten_rule(

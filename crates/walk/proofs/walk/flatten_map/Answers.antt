@@ -1,4 +1,3 @@
-use Rattle.std.proofs.Common.{arith}
 use Rattle.walk.proofs.Doing.{surj_does, non_surj_does, if_does}
 use Rattle.walk.proofs.walk.flatten_map.Goals as goal
 
