@@ -8,26 +8,22 @@ use mathlib.Core.List.{List, ◌++◌}
 use lib.ListN.{length, take, drop, replicate, length-append, length-replicate}
 use lib.Seq.{take_at}
 use borrow.Author.Tests.{lt-ltb, le-ltb}
-use Rattle.definition.specs.Base.{Outcome, refused, accepted, on_accepted}
+use Rattle.definition.specs.Base.{Outcome, refused, accepted}
 use Rattle.definition.specs.Flatten.{group_left, fitted, flatten_of, laid_over}
 use Rattle.definition.specs.Limits.{field_limit}
 use Rattle.definition.specs.Writer.{group_bytes_of}
-use Rattle.definition.specs.Rule.{Rule, read_rule, rule_of, rule_part}
+use Rattle.definition.specs.Rule.{read_rule}
 use Rattle.definition.specs.Signature.{Signature, read_signature}
 use Rattle.definition.specs.Walk.{State, walk_of, unmapped_auxiliary, unmapped_kind, completed}
 use Rattle.theorems.proofs.Theorems.{demand_3}
 use Rattle.records.specs.Buffer.{Put}
-use Rattle.signature.specs.Index.{signature_at}
-use Rattle.signature.specs.declared.ids.Counts.{Counts}
 use Rattle.rule.specs.Lookup.{rule_at}
-use Rattle.reading.specs.Answers.{rule_answer, RuleUsable}
-use Rattle.reading.specs.Verdicts.{rule_read}
-use Rattle.reading.specs.declared.RuleCounts.{RuleCounts}
+use Rattle.rule.specs.Answers.{rule_reading, Usable}
 use Rattle.plan.specs.Table.{Entries, Tabled}
 use Rattle.walk.specs.Tables.{Tables}
 use Rattle.walk.specs.Ended.{Readable, Ground, Finished, Ended}
 use Rattle.std.proofs.Common.{Result, Ok, Err}
-use Rattle.records.specs.Refusals.{number}
+use Rattle.records.specs.Refusals.{number, outcome}
 use Rattle.records.specs.declared.refusal.Refusal.{Refusal}
 use Rattle.records.specs.declared.refusal.Refusal.TheVariants.{NoRoom}
 use Rattle.flags.specs.Flags.{Held}
@@ -96,30 +92,24 @@ module _ (sig : Signature) (s : List ℕ) (room : ℕ) where
 pub untyped : (size : ℕ) {n : ℕ} → field_limit * n ≤ size → Untyped (replicate size 0) n
 untyped size h = record { size = size; zeros = refl; enough = rw length-replicate h }
 
--- The reading.
-module _ (sig s : List ℕ) (r : Refusal) (a : rule_answer s (Err r) ≡ rule_read sig s) where
-  pub unread : (room : ℕ) → flatten_of sig s room ≡ refused (number r)
+-- The reading: the signature is refused; it is accepted, and the rule is refused or accepted.
+module _ (bytes s : List ℕ) (room : ℕ) {a : Result Signature Refusal} (e : outcome a ≡ read_signature bytes) where
+  pub unsigned : {r : Refusal} → a ≡ Err r → flatten_of bytes s room ≡ refused (number r)
   unfolding flatten_of
-  unread room = go (read_signature sig) a
-    where
-      go : (x : Outcome Signature) → refused (number r) ≡ on_accepted x (λ (g : Signature). read_rule g s)
-          → on_accepted x (λ (g : Signature). on_accepted (read_rule g s) λ (r : Rule). on_accepted (walk_of g r) λ (state : State). fitted room
-          (group_bytes_of (group_left r state))) ≡ refused (number r)
-      go (refused i) q = let x : i ≡ number r = cc in rw x
-      go (accepted g) q = rw (sym q)
+  unsigned q = rw (← e, q) refl
 
-module _ (sig s symbols index : List ℕ) where
-  pub readable : {found : RuleCounts} → rule_answer s (Ok found) ≡ rule_read sig s → RuleUsable sig symbols s index (Ok found)
-      → Readable sig symbols found.counts s index found.structures
-  unfolding rule_at
-  readable {found} a u =
-      let q : accepted (rule_of (rule_part s).fields) ≡ read_rule (signature_at sig symbols found.counts) s = rw u.0.read at a in
-      record { signature_read = u.0.read; signature_indexed = u.0.indexed; rule_read = sym q; rule_indexed = u.1 }
+  module _ {sig : Signature} (p : a ≡ Ok sig) {b : Result ℕ Refusal} (f : rule_reading s b ≡ read_rule sig s) where
+    pub unread : {r : Refusal} → b ≡ Err r → flatten_of bytes s room ≡ refused (number r)
+    unfolding flatten_of
+    unread q = rw (← e, p, ← f, q) refl
 
-  pub flatten_read : {counts : Counts} {n : ℕ} (room : ℕ) → Readable sig symbols counts s index n
-      → flatten_of sig s room ≡ rule_outcome (signature_at sig symbols counts) s room
-  unfolding flatten_of rule_outcome
-  flatten_read room w = rw (w.signature_read, w.rule_read)
+    pub readable : {index : List ℕ} {n : ℕ} → b ≡ Ok n → Usable sig s index b → Readable sig s index n
+    unfolding rule_at
+    readable q u = record { bytes = bytes; signature_read = sym (rw p at e); rule_read = sym (rw q at f); rule_indexed = rw q at u }
+
+    pub flatten_read : {n : ℕ} → b ≡ Ok n → flatten_of bytes s room ≡ rule_outcome sig s room
+    unfolding flatten_of rule_outcome rule_at
+    flatten_read q = rw (← e, p, ← f, q) refl
 
 -- Written bytes stand at the buffer's front.
 pub record Front (n : ℕ) (out : List ℕ) (o : Outcome (List ℕ)) : Type 0 where

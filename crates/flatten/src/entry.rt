@@ -14,11 +14,13 @@ use flags::{Held, NO_HELD};
 use naming::variables::VARIABLES;
 use plan::sources::{unmapped_auxiliary, unmapped_kind};
 use plan::table::{Kinds, NO_KINDS, kind_table};
-use reading::{RuleCounts, read_rule_into};
 use records::refusal::Refusal;
 use rule::elements::element_count;
 use rule::ids::{FIELDS, RULE_INDEX, STRUCTURES};
-use signature::ids::{Counts, INDEX};
+use rule::reader::read_rule;
+use signature::ids::INDEX;
+use signature::lookup::Signature;
+use signature::reader::read_signature;
 use walk::tables::{SORTS, UNREACHED, initial_matching_stmts, no_el_vars};
 use walk::walk::{first_row, meet_map, walk_map};
 use writer::output::put_group;
@@ -60,9 +62,7 @@ fn write_group(
 // The walk over all pairs that have a kind, by target, then source; then the group of what it leaves. The variables come by value, none
 // given out yet.
 fn flatten_morphisms(
-    sig: &[u8],
-    symbols: &[u16; INDEX],
-    counts: Counts,
+    sig: &Signature<'_>,
     s: &[u8],
     index: &[u16; RULE_INDEX],
     n: usize,
@@ -72,10 +72,10 @@ fn flatten_morphisms(
     out: &mut [u8],
 ) -> Result<usize, Refusal>
     requires untyped { Untyped types.old n × (vars ≡ no_rows) }
-    requires indexed { Indexed sig.now symbols.now counts × Ground (signature_at sig.now symbols.now counts) s.now index.now }
+    requires ground { Ground sig.now s.now index.now }
     requires n_value { (n ≡ length (rule_at s.now).structures) × Tabled kinds.now (completed (rule_at s.now).maps (rule_at s.now).kinds (rule_at
         s.now).auxiliaries) }
-    ensures { Writes result out.old out.new (walk_outcome (signature_at sig.now symbols.now counts) s.now (length out.old)) }
+    ensures { Writes result out.old out.new (walk_outcome sig.now s.now (length out.old)) }
 {
     let mut sources = [UNREACHED; STRUCTURES];
     sources[0] = 0;
@@ -89,8 +89,6 @@ fn flatten_morphisms(
                 let v = meet_map(s, index, source, target, kind, next);
                 let m = walk_map(
                     sig,
-                    symbols,
-                    counts,
                     s,
                     index,
                     v,
@@ -110,9 +108,7 @@ fn flatten_morphisms(
 
 // An accepted rule, with its index and that of its signature. The table of its variables' types is lent, with a place for each element.
 fn flatten_rule(
-    sig: &[u8],
-    symbols: &[u16; INDEX],
-    counts: Counts,
+    sig: &Signature<'_>,
     s: &[u8],
     index: &[u16; RULE_INDEX],
     n: usize,
@@ -120,9 +116,9 @@ fn flatten_rule(
     out: &mut [u8],
 ) -> Result<usize, Refusal>
     requires untyped { Untyped types.old n }
-    requires readable { Readable sig.now symbols.now counts s.now index.now n }
+    requires readable { Readable sig.now s.now index.now n }
     ensures { Writes result out.old out.new
-        (rule_outcome (signature_at sig.now symbols.now counts) s.now (length out.old)) }
+        (rule_outcome sig.now s.now (length out.old)) }
 {
     if unmapped_auxiliary(s, index) {
         return Err(Refusal::UnmappedAuxiliary);
@@ -132,18 +128,7 @@ fn flatten_rule(
     }
     let mut kinds = NO_KINDS;
     kind_table(s, index, &mut kinds);
-    flatten_morphisms(
-        sig,
-        symbols,
-        counts,
-        s,
-        index,
-        n,
-        &kinds,
-        no_el_vars(),
-        types,
-        out,
-    )
+    flatten_morphisms(sig, s, index, n, &kinds, no_el_vars(), types, out)
 }
 
 // Flatten: the group at the front of the buffer, whose rest is as it was, and its length; or a refusal, and the buffer as it was.
@@ -153,16 +138,13 @@ pub fn flatten(sig: &[u8], rule: &[u8], out: &mut [u8]) -> Result<usize, Refusal
     ensures demanded { Demanded result sig.now rule.now out.new }
 {
     let mut symbols = [0u16; INDEX];
+    let signature = read_signature(sig, &mut symbols)?;
     let mut index = [0u16; RULE_INDEX];
-    let RuleCounts { counts, structures } = read_rule_into(sig, rule, &mut symbols, &mut index)?;
-    if structures <= FEW_STRUCTURES {
+    let n = read_rule(&signature, rule, &mut index)?;
+    if n <= FEW_STRUCTURES {
         let mut types = [0u8; FEW_VARIABLES];
-        return flatten_rule(
-            sig, &symbols, counts, rule, &index, structures, &mut types, out,
-        );
+        return flatten_rule(&signature, rule, &index, n, &mut types, out);
     }
     let mut types = [0u8; VARIABLES];
-    flatten_rule(
-        sig, &symbols, counts, rule, &index, structures, &mut types, out,
-    )
+    flatten_rule(&signature, rule, &index, n, &mut types, out)
 }

@@ -17,8 +17,6 @@ use Rattle.definition.specs.Names.{numbers_of}
 use Rattle.definition.specs.Walk.{pairs_between, unmapped_auxiliary, unmapped_kind, structure_at}
 use Rattle.laws.proofs.Lists.{length_each}
 use Rattle.laws.proofs.Sound.{sound_signature}
-use Rattle.signature.specs.Index.{signature_at}
-use Rattle.signature.specs.declared.ids.Counts.{Counts}
 use Rattle.rule.specs.Lookup.{Ready, rule_at}
 use Rattle.rule.proofs.Saying.{structures_are}
 use Rattle.records.specs.Places.{Run}
@@ -37,9 +35,9 @@ use Rattle.walk.proofs.Starting.{FewRows}
 abbrev pub AllMapped : List ℕ → Type 0
 AllMapped s = (unmapped_auxiliary (rule_at s) ≡ false) × (unmapped_kind (rule_at s) ≡ false)
 
-module _ {sig symbols s index : List ℕ} {counts : Counts} {n : ℕ} (w : Readable sig symbols counts s index n) where
+module _ {sig : Signature} {s index : List ℕ} {n : ℕ} (w : Readable sig s index n) where
   pub ready : Ready s index
-  ready = record { sig = signature_at sig symbols counts; count = n; indexed = w.rule_indexed }
+  ready = record { sig = sig; count = n; indexed = w.rule_indexed }
 
   pub counted : n ≡ length (rule_at s).structures
   unfolding ready
@@ -59,10 +57,10 @@ module _ {sig symbols s index : List ℕ} {counts : Counts} {n : ℕ} (w : Reada
           let q = sound_map ready b.map b.in_maps in
           let k : p.key ∈ numbers_of (structure_at (rule_at s) b.map.source) = q.keys_in p (rw b.pairs_are i) in rw b.source_is at k
 
-  pub sound_one : (k : ℕ) → k < length (rule_at s).structures → SoundAt (signature_at sig symbols counts) s index k
-  sound_one k h = let c = counted in sound_at w.rule_indexed (small_arities sig w.signature_read) k (omega arith)
+  pub sound_one : (k : ℕ) → k < length (rule_at s).structures → SoundAt sig s index k
+  sound_one k h = let c = counted in sound_at w.rule_indexed (small_arities w.bytes w.signature_read) k (omega arith)
 
-  pub ground : AllMapped s → Ground (signature_at sig symbols counts) s index
+  pub ground : AllMapped s → Ground sig s index
   unfolding kind_on
   ground a = record {
     ready = ready;
@@ -72,8 +70,8 @@ module _ {sig symbols s index : List ℕ} {counts : Counts} {n : ℕ} (w : Reada
     mapped = λ source target kind e. (kind_mapped ready a.0 a.1 source target e).has_map;
     keyed = keyed;
     once = kinds_once ready;
-    headed = headed (signature_at sig symbols counts) s w.rule_read;
-    types_few = (sound_signature sig w.signature_read).types_few;
+    headed = headed sig s w.rule_read;
+    types_few = (sound_signature w.bytes w.signature_read).types_few;
   }
 
 -- A type fits into a byte.

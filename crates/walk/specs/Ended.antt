@@ -7,8 +7,6 @@ use Rattle.definition.specs.Rule.{MorphismKind, read_rule}
 use Rattle.definition.specs.Group.{Variable}
 use Rattle.definition.specs.Signature.{Signature, read_signature}
 use Rattle.definition.specs.Walk.{State, group_name, named_rules, pairs_between, completed}
-use Rattle.signature.specs.Index.{signature_at, Indexed}
-use Rattle.signature.specs.declared.ids.Counts.{Counts}
 use Rattle.rule.specs.Answers as rule
 use Rattle.rule.specs.Lookup.{Ready, rule_at}
 use Rattle.rows.specs.Kernel.{TypesOf}
@@ -19,12 +17,12 @@ use Rattle.laws.specs.KindTable.{Once}
 use Rattle.walk.specs.Tables.{Tables, Keyed, unreached, source_at, row_at, kind_on, reached_by, concluded_at, news_to, emitted_to}
 use Rattle.walk.specs.Walks.{Ties}
 
--- A signature and a rule that were accepted, with their indexes.
-pub record Readable (sig symbols : List ℕ) (counts : Counts) (s index : List ℕ) (n : ℕ) : Type 0 where
-  pub signature_read : read_signature sig ≡ accepted (signature_at sig symbols counts)
-  pub signature_indexed : Indexed sig symbols counts
-  pub rule_read : read_rule (signature_at sig symbols counts) s ≡ accepted (rule_at s)
-  pub rule_indexed : rule.Indexed (signature_at sig symbols counts) s index n
+-- A signature and a rule that were accepted, the rule with its index.
+pub record Readable (sig : Signature) (s index : List ℕ) (n : ℕ) : Type 0 where
+  pub bytes : List ℕ
+  pub signature_read : read_signature bytes ≡ accepted sig
+  pub rule_read : read_rule sig s ≡ accepted (rule_at s)
+  pub rule_indexed : rule.Indexed sig s index n
 
 -- An accepted rule in which every kind has its map: 21 and 22 are behind.
 pub record Ground (sig : Signature) (s index : List ℕ) : Type 0 where

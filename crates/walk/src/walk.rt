@@ -30,7 +30,7 @@ use rule::elements::element_count;
 use rule::ids::{FIELDS, RULE_INDEX, STRUCTURES};
 use rule::lookup::MorphismKind;
 use rule::maps::map_between;
-use signature::ids::{Counts, INDEX};
+use signature::lookup::Signature;
 use statements::masks::Masks;
 
 // Refused where the source has no statements yet, or the target already has statements.
@@ -85,9 +85,7 @@ pub fn meet_map(
 
 // What it asks, and the masks of what it adds.
 fn flatten_map(
-    sig: &[u8],
-    symbols: &[u16; INDEX],
-    counts: Counts,
+    sig: &Signature<'_>,
     s: &[u8],
     index: &[u16; RULE_INDEX],
     v: Visit,
@@ -95,12 +93,11 @@ fn flatten_map(
     targetvars: [u16; FIELDS],
     types: &[u8],
 ) -> Result<Masks, Refusal>
-    requires indexed { Indexed sig.now symbols.now counts }
-    requires sound_at { SoundAt (signature_at sig.now symbols.now counts) s.now index.now v.morphism.target }
+    requires sound_at { SoundAt sig.now s.now index.now v.morphism.target }
     requires reaches { Reaches s.now index.now v.morphism targetvars v.first }
     requires given_out { GivenOut (source_in s.now v.morphism) sourcevars (length types.now) }
     ensures { (table : List definition.Variable) (k : rules.MorphismKind) → TypesOf table types.now → kind_is v.kind ≡ k
-        → Does (signature_at sig.now symbols.now counts) table s.now v.morphism sourcevars targetvars k result }
+        → Does sig.now table s.now v.morphism sourcevars targetvars k result }
 {
     let m = v.morphism;
     match v.kind {
@@ -109,7 +106,7 @@ fn flatten_map(
         }
         MorphismKind::NonSurjThen => flatten_non_surj_then(s, index, m, targetvars, v.first),
         MorphismKind::If | MorphismKind::Noop => flatten_if_arbitrary(
-            sig, symbols, counts, s, index, m, sourcevars, targetvars, v.first, types,
+            sig, s, index, m, sourcevars, targetvars, v.first, types,
         ),
     }
 }
@@ -123,9 +120,7 @@ pub struct MapWalked {
 
 // A map walked, from the variables of its source: the target gets its variables, its source and its masks.
 pub fn walk_map(
-    sig: &[u8],
-    symbols: &[u16; INDEX],
-    counts: Counts,
+    sig: &Signature<'_>,
     s: &[u8],
     index: &[u16; RULE_INDEX],
     v: Visit,
@@ -134,18 +129,18 @@ pub fn walk_map(
     masks: &mut [[Held; SORTS]; STRUCTURES],
     types: &mut [u8],
 ) -> Result<MapWalked, Refusal>
-    requires indexed { Indexed sig.now symbols.now counts × Ground (signature_at sig.now symbols.now counts) s.now index.now }
+    requires ground { Ground sig.now s.now index.now }
     requires met { Met s.now index.now v }
-    requires going_from { GoingFrom (signature_at sig.now symbols.now counts) s.now sources.old masks.old sourcevars types.old v }
-    ensures { (g : GoingFrom (signature_at sig.now symbols.now counts) s.now sources.old masks.old sourcevars
-        types.old v) → Went result (signature_at sig.now symbols.now counts) s.now sources.new masks.new g.vars types.new
+    requires going_from { GoingFrom sig.now s.now sources.old masks.old sourcevars types.old v }
+    ensures { (g : GoingFrom sig.now s.now sources.old masks.old sourcevars
+        types.old v) → Went result sig.now s.now sources.new masks.new g.vars types.new
         v.morphism.target v.morphism.source }
 {
     let m = v.morphism;
     let first = v.first;
     ends(sources, m.source, m.target)?;
     let vars = assign_el_vars(sourcevars, s, index, m.source, m.target, m.map, first);
-    let added = flatten_map(sig, symbols, counts, s, index, v, sourcevars, vars, types)?;
+    let added = flatten_map(sig, s, index, v, sourcevars, vars, types)?;
     let target = m.target;
     type_variables(types, s, index, target, vars, first);
     sources[target] = m.source as u8;

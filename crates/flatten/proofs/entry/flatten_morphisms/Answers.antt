@@ -2,7 +2,6 @@
 -- last one of a target comes the next (`next_target`). Behind the last target the tables are those of the walk's end.
 use Rattle.std.proofs.Common.{arith}
 use Rattle.std.proofs.lemmas.Result.{err_from_is_err_and}
-use Rattle.signature.specs.Index.{signature_at}
 use Rattle.walk.proofs.Grounds.{first_laid, byte_types}
 use Rattle.walk.proofs.Ending.{Standing, skip, kinded, going_from, went_further, next_target, ended_walk, begin_walk}
 use Rattle.flatten.proofs.Writing.{refused_at_once, walk_stopped, ending, ended_writes}
@@ -11,9 +10,9 @@ use Rattle.flatten.proofs.entry.flatten_morphisms.Goals as goal
 
 -- Where the walk stands.
 stands : (c : In-loop-source)
-    → (let a = c.args in Standing (signature_at a.sig.now a.symbols.now a.counts) a.s.now a.index.now a.kinds.now a.n c.loop-target.target c.loop-source.source)
+    → (let a = c.args in Standing a.sig.now a.s.now a.index.now a.kinds.now a.n c.loop-target.target c.loop-source.source)
 stands c = record {
-  ground = c.requires.indexed.1;
+  ground = c.requires.ground;
   counted = c.requires.n_value.0;
   tabled = c.requires.n_value.1;
   target_in = c.loop-target-test.true;
@@ -21,11 +20,11 @@ stands c = record {
 }
 
 pub first_row-requires-clause-laid : goal.first_row-requires-clause-laid
-first_row-requires-clause-laid c = let g = c.requires.indexed.1 in (first_laid g, byte_types g _ g.some_one)
+first_row-requires-clause-laid c = let g = c.requires.ground in (first_laid g, byte_types g _ g.some_one)
 
 pub loop-target-init : goal.loop-target-init
 loop-target-init c =
-    let u = c.requires.untyped in let g = c.requires.indexed.1 in
+    let u = c.requires.untyped in let g = c.requires.ground in
     rw (c.initial_matching_stmts.ensures, u.1)
     (begin_walk g u.0.size u.0.zeros c.requires.n_value.0 u.0.enough c.first_row.ensures.value c.first_row.ensures.types_after c.element_count-next.ensures)
 
@@ -52,10 +51,10 @@ loop-target-preserved c = next_target c.requires.n_value.0 c.loop-target-test.tr
 
 pub write_group-requires-clause-ended : goal.write_group-requires-clause-ended
 write_group-requires-clause-ended c =
-    let g = c.requires.indexed.1 in
+    let g = c.requires.ground in
     ending (ended_walk g c.requires.n_value.0 (omega arith) c.loop-target.invariant) g c.requires.n_value.1
 
 pub returns : goal.returns
 returns c =
-    let g = c.requires.indexed.1 in
+    let g = c.requires.ground in
     ended_writes _ _ _ (ended_walk g c.requires.n_value.0 (omega arith) c.loop-target.invariant) g c.requires.n_value.1 c.write_group.ensures

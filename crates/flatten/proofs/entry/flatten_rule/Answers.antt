@@ -15,12 +15,10 @@ returns-then-unmapped_kind c =
 pub kind_table-requires-clause-tabled : goal.kind_table-requires-clause-tabled
 kind_table-requires-clause-tabled c = empty_table_lem
 
-pub flatten_morphisms-requires-clause-indexed : goal.flatten_morphisms-requires-clause-indexed
-flatten_morphisms-requires-clause-indexed c = (
-  c.requires.readable.signature_indexed,
-  ground c.requires.readable
-      (sym c.unmapped_auxiliary.ensures ∙ c.if-unmapped_auxiliary.false, sym c.unmapped_kind.ensures ∙ c.if-unmapped_kind.false),
-)
+pub flatten_morphisms-requires-clause-ground : goal.flatten_morphisms-requires-clause-ground
+flatten_morphisms-requires-clause-ground c =
+    ground c.requires.readable
+    (sym c.unmapped_auxiliary.ensures ∙ c.if-unmapped_auxiliary.false, sym c.unmapped_kind.ensures ∙ c.if-unmapped_kind.false)
 
 pub flatten_morphisms-requires-clause-n_value : goal.flatten_morphisms-requires-clause-n_value
 flatten_morphisms-requires-clause-n_value c = (counted c.requires.readable, c.kind_table.ensures)

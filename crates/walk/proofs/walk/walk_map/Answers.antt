@@ -12,46 +12,46 @@ use Rattle.walk.proofs.walk.walk_map.Goals as goal
 pub returns-in_err-ends : goal.returns-in_err-ends
 returns-in_err-ends c =
     let p = err_from_is_err_and c.from_residual.result c.from_residual.ensures.1 in
-    rw (p.1, p.2) (λ g. ends_stop c.requires.indexed.1 c.requires.met g.going c.in_err-ends.ensures)
+    rw (p.1, p.2) (λ g. ends_stop c.requires.ground c.requires.met g.going c.in_err-ends.ensures)
 
 pub assign_el_vars-vars-requires-clause-given_out : goal.assign_el_vars-vars-requires-clause-given_out
 assign_el_vars-vars-requires-clause-given_out c =
-    let g = c.requires.going_from in given_read (walkable c.requires.indexed.1 c.requires.met g.going c.in_ok-ends.ensures) g.row
+    let g = c.requires.going_from in given_read (walkable c.requires.ground c.requires.met g.going c.in_ok-ends.ensures) g.row
 
 pub assign_el_vars-vars-requires-clause-field_limit_bound : goal.assign_el_vars-vars-requires-clause-field_limit_bound
 assign_el_vars-vars-requires-clause-field_limit_bound c =
-    room (walkable c.requires.indexed.1 c.requires.met c.requires.going_from.going c.in_ok-ends.ensures)
+    room (walkable c.requires.ground c.requires.met c.requires.going_from.going c.in_ok-ends.ensures)
 
 pub flatten_map-requires-clause-reaches : goal.flatten_map-requires-clause-reaches
 flatten_map-requires-clause-reaches c =
     let g = c.requires.going_from in
-    reaches (walkable c.requires.indexed.1 c.requires.met g.going c.in_ok-ends.ensures) g.row c.assign_el_vars-vars.ensures
+    reaches (walkable c.requires.ground c.requires.met g.going c.in_ok-ends.ensures) g.row c.assign_el_vars-vars.ensures
 
 pub flatten_map-requires-clause-given_out : goal.flatten_map-requires-clause-given_out
 flatten_map-requires-clause-given_out c =
-    let g = c.requires.going_from in typed_read (walkable c.requires.indexed.1 c.requires.met g.going c.in_ok-ends.ensures) g.row
+    let g = c.requires.going_from in typed_read (walkable c.requires.ground c.requires.met g.going c.in_ok-ends.ensures) g.row
 
 pub returns-in_err-added : goal.returns-in_err-added
 returns-in_err-added c =
     let p = err_from_is_err_and c.from_residual-in_err-added.result c.from_residual-in_err-added.ensures.1 in
-    rw (p.1, p.2) (λ g. went_refused (walkable c.requires.indexed.1 c.requires.met g.going c.in_ok-ends.ensures) g.row c.assign_el_vars-vars.ensures
+    rw (p.1, p.2) (λ g. went_refused (walkable c.requires.ground c.requires.met g.going c.in_ok-ends.ensures) g.row c.assign_el_vars-vars.ensures
     c.in_err-added.ensures)
 
 pub type_variables-requires-clause-byte_types : goal.type_variables-requires-clause-byte_types
 type_variables-requires-clause-byte_types c =
-    byte_types c.requires.indexed.1 _ c.requires.met.target_in
+    byte_types c.requires.ground _ c.requires.met.target_in
 
 pub type_variables-requires-clause-field_limit_in_bounds : goal.type_variables-requires-clause-field_limit_in_bounds
 type_variables-requires-clause-field_limit_in_bounds c =
-    typed_room (walkable c.requires.indexed.1 c.requires.met c.requires.going_from.going c.in_ok-ends.ensures)
+    typed_room (walkable c.requires.ground c.requires.met c.requires.going_from.going c.in_ok-ends.ensures)
 
 pub overflow_add-next : goal.overflow_add-next
 overflow_add-next c =
-    let can = walkable c.requires.indexed.1 c.requires.met c.requires.going_from.going c.in_ok-ends.ensures in
+    let can = walkable c.requires.ground c.requires.met c.requires.going_from.going c.in_ok-ends.ensures in
     let h = fresh_room _ _ c.fresh.ensures (count_small (target_laid can) c.element_count.ensures) (room can) in search rules
 
 pub returns : goal.returns
 returns c = λ g.
-    let can = walkable c.requires.indexed.1 c.requires.met g.going c.in_ok-ends.ensures in
+    let can = walkable c.requires.ground c.requires.met g.going c.in_ok-ends.ensures in
     went_on can g.row c.assign_el_vars-vars.ensures c.in_ok-added.ensures c.fresh.ensures
     c.element_count.ensures c.type_variables.ensures refl (rw c.masks_row.ensures)
