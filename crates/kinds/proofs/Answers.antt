@@ -69,7 +69,8 @@ keys_typed {s} {index} {vars} {sourcevars} {size} {m} w g v = record { below = b
 
 -- 25 and 26.
 module _ (sig : Signature) (table : List Variable) {s : List ℕ} {m : Morphism} (sourcevars targetvars : List ℕ) {index : List ℕ} {marks : List Bool} where
-  pub masks_clash : by sig table s m sourcevars targetvars kernel_clashes ≡ true → MasksFor sig table s m sourcevars targetvars index marks (Err KernelTypesDiffer)
+  pub masks_clash : by sig table s m sourcevars targetvars kernel_clashes ≡ true
+      → MasksFor sig table s m sourcevars targetvars index marks (Err KernelTypesDiffer)
   unfolding lowest
   masks_clash e = record { is = rw e }
 

@@ -72,7 +72,8 @@ module _ {s : List ℕ} {from end e at place : ℕ} (w : Sought s from end e at 
           left = λ kind fs run. w.left kind fs run ∙ rw (rows_on (next fs run) kind, ← is kind, d);
         }
 
-        pub seek_found : eqb result e ≡ true → (kind : ℕ) (fs : List Field) → Run s from end fs → Yields (Some (record { place = place; row = r })) s kind e (each (row_of kind) fs)
+        pub seek_found : eqb result e ≡ true → (kind : ℕ) (fs : List Field) → Run s from end fs
+            → Yields (Some (record { place = place; row = r })) s kind e (each (row_of kind) fs)
         unfolding first_of
         seek_found d kind fs run = let n = next fs run in record {
           is = (rw length_each n.inside, row_at n kind no_row, w.left kind fs run ∙ rw (rows_on n kind, ← is kind, d));

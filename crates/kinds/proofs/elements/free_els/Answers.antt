@@ -1,7 +1,9 @@
 use Rattle.std.proofs.Common.{◌<◌, ◌≡◌, arith}
 use Rattle.flags.specs.Flags.{places}
 use Rattle.kinds.proofs.Fresh.{free_old, free_marked, free_new, free_are}
-use Rattle.kinds.proofs.elements.free_els.Goals.{then-first-targetvars+then-not-marks-i, else-first-targetvars, else-first-targetvars-via-then-first-targetvars+else-not-marks-i, else-first-targetvars-via-else-first-targetvars}
+use Rattle.kinds.proofs.elements.free_els.Goals.{then-first-targetvars+then-not-marks-i, else-first-targetvars}
+use Rattle.kinds.proofs.elements.free_els.Goals.{else-first-targetvars-via-then-first-targetvars+else-not-marks-i}
+use Rattle.kinds.proofs.elements.free_els.Goals.{else-first-targetvars-via-else-first-targetvars}
 use Rattle.kinds.proofs.elements.free_els.Goals as goal
 
 pub loop-i-preserved : goal.loop-i-preserved
