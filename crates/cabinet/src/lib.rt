@@ -4,19 +4,19 @@
 ghost use Rattle.std.specs.Prelude.{◌≡◌, length};
 ghost use Rattle.definition.specs.Scope.{scope_of, owners_of};
 ghost use Rattle.definition.specs.Flatten.{flatten_of, laid_over};
+ghost use Rattle.records.specs.Refusals.{fault_of};
 ghost use Rattle.reading.specs.Verdicts.{refusal_of, rule_read, group_read};
 ghost use Rattle.cabinet.specs.Codes.{code_of, unowned, scope_told, OwnersHeld, flatten_told, GroupDemanded};
 
-use reading::Verdict;
-use scope::answers::Scope;
+use records::refusal::Refusal;
 
-// A verdict as a number.
-fn code(v: Verdict) -> u32
-    ensures { result ≡ code_of (Rattle.reading.specs.Verdicts.verdict_of v) }
+// What a check found, as a number.
+fn code(found: Result<(), Refusal>) -> u32
+    ensures { result ≡ code_of (fault_of found) }
 {
-    match v {
-        Verdict::Sound => 0,
-        Verdict::Refused(n) => u32::from(n),
+    match found {
+        Ok(()) => 0,
+        Err(refusal) => u32::from(refusal.number()),
     }
 }
 
@@ -73,19 +73,15 @@ pub extern "C" fn nagzelud_scope(sig: &[u8], group: &[u8], position: usize) -> S
     ensures owners_held { OwnersHeld group.now result (owners_of sig.now group.now position) }
 {
     match scope::infer::scope(sig, group, position) {
-        Scope::Global => nothing_owned(0),
-        Scope::Model {
-            model,
-            start,
-            count,
-        } => ScopeAnswer {
+        Ok(None) => nothing_owned(0),
+        Ok(Some(own)) => ScopeAnswer {
             refused: 0,
             kind: MODEL,
-            model: usize::from(model.0),
-            offset: start,
-            count,
+            model: usize::from(own.model.0),
+            offset: own.start,
+            count: own.count,
         },
-        Scope::Refused(n) => nothing_owned(u32::from(n)),
+        Err(refusal) => nothing_owned(u32::from(refusal.number())),
     }
 }
 

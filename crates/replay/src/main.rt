@@ -11,8 +11,8 @@ ghost use Rattle.std.specs.Prelude.{◌≤◌, length};
 ghost use Rattle.replay.specs.Parts.{Within};
 
 use flatten::entry::flatten;
-use reading::{Verdict, check_group, check_rule};
-use scope::answers::Scope;
+use reading::{check_group, check_rule};
+use records::refusal::Refusal;
 use scope::infer::{owners, scope};
 use std::io;
 use std::io::{Read, Write};
@@ -111,14 +111,14 @@ fn read_part<R: Read>(input: &mut R, buf: &mut [u8]) -> Result<usize, Stop>
     Ok(size)
 }
 
-fn print_refused<W: Write>(output: &mut W, n: u8) -> io::Result<()> {
-    writeln!(output, "refused {n}")
+fn print_refused<W: Write>(output: &mut W, refusal: Refusal) -> io::Result<()> {
+    writeln!(output, "refused {}", refusal.number())
 }
 
-fn print_verdict<W: Write>(output: &mut W, v: Verdict) -> io::Result<()> {
-    match v {
-        Verdict::Sound => writeln!(output, "ok"),
-        Verdict::Refused(n) => print_refused(output, n),
+fn print_found<W: Write>(output: &mut W, found: Result<(), Refusal>) -> io::Result<()> {
+    match found {
+        Ok(()) => writeln!(output, "ok"),
+        Err(refusal) => print_refused(output, refusal),
     }
 }
 
@@ -142,18 +142,13 @@ fn print_scope<W: Write>(
     position: usize,
 ) -> io::Result<()> {
     match scope(sig, group, position) {
-        Scope::Global => writeln!(output, "global"),
-        Scope::Model {
-            model,
-            start: _,
-            count: _,
-        } => {
-            let number = model.0;
-            write!(output, "model {number} owners ")?;
+        Ok(None) => writeln!(output, "global"),
+        Ok(Some(own)) => {
+            write!(output, "model {} owners ", own.model.0)?;
             print_hex(output, owners(sig, group, position))?;
             writeln!(output)
         }
-        Scope::Refused(n) => print_refused(output, n),
+        Err(refusal) => print_refused(output, refusal),
     }
 }
 
@@ -239,8 +234,8 @@ fn respond<R: Read, W: Write>(
     out: &mut [u8],
 ) -> Result<(), Stop> {
     let printed = match question {
-        Question::CheckRule => print_verdict(output, check_rule(sig, s)),
-        Question::CheckGroup => print_verdict(output, check_group(sig, s)),
+        Question::CheckRule => print_found(output, check_rule(sig, s)),
+        Question::CheckGroup => print_found(output, check_group(sig, s)),
         Question::Flatten => print_flattened(output, sig, s, out, read_four(input)?),
         Question::FindScope => print_scope(output, sig, s, read_four(input)?),
     };

@@ -33,8 +33,8 @@ module _ (sig : Signature) (table : List Variable) (s : List ℕ) (m : Morphism)
   non_surj_form (Err n) d = record { is = d.is }
   non_surj_form (Ok masks) d = record { is = (d.is.0, (d.is.1.0, d.is.1.1)) }
 
-  pub non_surj_does : {n : read.MorphismKind} {k : MorphismKind} (r : Result Masks Refusal) → NonSurjDoes sig table s m sourcevars targetvars r → n ≡ kind.NonSurjThen
-      → kind_is n ≡ k → Does sig table s m sourcevars targetvars k r
+  pub non_surj_does : {n : read.MorphismKind} {k : MorphismKind} (r : Result Masks Refusal) → NonSurjDoes sig table s m sourcevars targetvars r
+      → n ≡ kind.NonSurjThen → kind_is n ≡ k → Does sig table s m sourcevars targetvars k r
   non_surj_does r d e h = rw (← h, e) (non_surj_form r d)
 
   if_form : (r : Result Masks Refusal) → IfDoes sig table s m sourcevars targetvars If r → Does sig table s m sourcevars targetvars If r
