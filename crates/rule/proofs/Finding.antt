@@ -19,7 +19,8 @@ use Rattle.records.specs.Held.{field_in}
 use Rattle.std.proofs.Common.{Option, Some, None}
 use Rattle.rule.specs.Search.{Places}
 use Rattle.records.proofs.Link.{got_is}
-use Rattle.records.proofs.Numbers.{length_stretch, number_in}
+use Rattle.records.proofs.Numbers.{length_stretch, number_in, length_numbers_in, numbers_in_lem}
+use Rattle.records.proofs.Along.{all_start, all_no, all_on, all_end}
 use Rattle.records.proofs.Index.{length_held, held_get}
 use Rattle.records.proofs.Runs.{run_got, run_end}
 use Rattle.rule.specs.Layout.{elements_from}
@@ -135,6 +136,11 @@ module _ {s : List ℕ} {to e at : ℕ} {body : List Field} (w : Scanning s to e
 
       pub scan_skip : len < 2 → Scanning s to e body next
       scan_skip h = let b = run_got w.run lt g in record { rest = b.rest; run = b.run; left = w.left ∙ skipped b.rest b.same h }
+
+-- What the scan asks, and a loop along numbers.
+pub ruleset scan = (scan_start, scan_hit, scan_miss, scan_skip, scan_end)
+
+pub ruleset number_loop = (all_start, all_no, all_on, all_end, length_numbers_in, numbers_in_lem)
 
 -- Elements stand in ascending order.
 abbrev pub Ascending : List ℕ → Type 0

@@ -121,3 +121,8 @@ module _ (s : List ℕ) (start count : ℕ) (h : start + 4 * count ≤ length s)
         go [] h = refl
         go (p ∷ []) h = refl
         go (p ∷ q ∷ ps) h = absurd (omega arith)
+
+-- What the loops along pairs and along keys ask.
+pub ruleset pair_loop = (pairs_start, pairs_no, pairs_on, pairs_end)
+
+pub ruleset key_loop = (keys_start, keys_no, keys_on, keys_end)
