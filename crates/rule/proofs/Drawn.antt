@@ -279,6 +279,7 @@ above_last s start len (Some f) h w l e = λ k.
     (rw (one_number s f.start f.len w.is k, one_number s start len h (omega arith)) at
     (not-false (less (take 1 (numbers (stretch s f.start f.len))) (take 1 (numbers (stretch s start len)))) e))
 
-pub fits_sound : (s : List ℕ) (start len before : ℕ) (last : std.Option read.Field) → start + len ≤ length s → LastIn last (length s) → 4 ≤ len → before < field_limit
-    → not_above (λ (g : Field). take 1 (numbers g.content)) (last_field s 0 last) (field_of s 0 start len) ≡ false → {u : Unit} → Fits (Ok u) s start len before last
+pub fits_sound : (s : List ℕ) (start len before : ℕ) (last : std.Option read.Field) → start + len ≤ length s → LastIn last (length s) → 4 ≤ len
+    → before < field_limit → not_above (λ (g : Field). take 1 (numbers g.content)) (last_field s 0 last) (field_of s 0 start len) ≡ false → {u : Unit}
+    → Fits (Ok u) s start len before last
 fits_sound s start len before last h w l b e = record { is = (l, b, above_last s start len last h w l e) }

@@ -19,7 +19,8 @@ use Rattle.records.specs.Held.{field_in}
 use Rattle.std.proofs.Common.{Option, Some, None}
 use Rattle.rule.specs.Search.{Places}
 use Rattle.records.proofs.Link.{got_is}
-use Rattle.records.proofs.Numbers.{length_stretch, number_in}
+use Rattle.records.proofs.Numbers.{length_stretch, number_in, length_numbers_in, numbers_in_lem}
+use Rattle.records.proofs.Along.{all_start, all_no, all_on, all_end}
 use Rattle.records.proofs.Index.{length_held, held_get}
 use Rattle.records.proofs.Runs.{run_got, run_end}
 use Rattle.rule.specs.Layout.{elements_from}
@@ -69,19 +70,22 @@ place_at a (x ∷ xs) (suc i) e h g d =
     rw (ne_eqb x e (λ q. d 0 (omega arith) q)) (place_at (a + 1) xs i e (omega arith) g (λ j l q. d (suc j) (omega arith) q) ∙ omega arith)
 
 -- The place of a number among a structure's elements.
-pub finds_place : {s index : List ℕ} {k : ℕ} → Elements s index k → (r : Option ℕ) {e : ℕ} → Places r (count_at index k) e (element_at s index k)
-    → Finds r e (element_numbers s index k)
-finds_place {s} {index} {k} w (Some i) {e} p =
-    let l : i < length (element_numbers s index k) = rw (numbers_length s index k) p.is.0 in
-    let g : get_or (element_numbers s index k) i 0 ≡ e = numbers_get w i p.is.0 ∙ p.is.1 in
-    record { is = (sym (place_at 0 (element_numbers s index k) i e l g before ∙ omega arith), l, has_at (element_numbers s index k) i e l g) }
-  where
-    before : (j : ℕ) → j < i → get_or (element_numbers s index k) j 0 ≡ e → ⊥
-    before j a q = let b = w.ascend j i a p.is.0 in let x = numbers_get w j (omega (arith, p.is.0)) in omega (arith, p.is.1)
-finds_place {s} {index} {k} w None {e} p = record { is = has_none (element_numbers s index k) e none }
-  where
-    none : (i : ℕ) → i < length (element_numbers s index k) → get_or (element_numbers s index k) i 0 ≡ e → ⊥
-    none i l q = let h : i < count_at index k = rw (numbers_length s index k) at l in p.is i h (sym (numbers_get w i h) ∙ q)
+module _ {s index : List ℕ} {k : ℕ} (w : Elements s index k) (e : ℕ) where
+  pub search_found : (i : ℕ) → i < count_at index k → element_at s index k i ≡ e → Finds (Some i) e (element_numbers s index k)
+  search_found i h q =
+      let l : i < length (element_numbers s index k) = rw (numbers_length s index k) h in
+      let g : get_or (element_numbers s index k) i 0 ≡ e = numbers_get w i h ∙ q in
+      record { is = (sym (place_at 0 (element_numbers s index k) i e l g before ∙ omega arith), l, has_at (element_numbers s index k) i e l g) }
+    where
+      before : (j : ℕ) → j < i → get_or (element_numbers s index k) j 0 ≡ e → ⊥
+      before j a r = let b = w.ascend j i a h in let x = numbers_get w j (omega arith) in omega arith
+
+  pub search_place : (r : Option ℕ) → Places r (count_at index k) e (element_at s index k) → Finds r e (element_numbers s index k)
+  search_place (Some i) p = search_found i p.is.0 p.is.1
+  search_place None p = record {
+    is = has_none (element_numbers s index k) e (λ i l q.
+        let h : i < count_at index k = rw (numbers_length s index k) at l in p.is i h (sym (numbers_get w i h) ∙ q));
+  }
 
 -- A scan of E fields for those that can be named.
 unfoldable pub names_of : List Field → List ℕ
@@ -135,6 +139,11 @@ module _ {s : List ℕ} {to e at : ℕ} {body : List Field} (w : Scanning s to e
 
       pub scan_skip : len < 2 → Scanning s to e body next
       scan_skip h = let b = run_got w.run lt g in record { rest = b.rest; run = b.run; left = w.left ∙ skipped b.rest b.same h }
+
+-- What the scan asks, and a loop along numbers.
+pub ruleset scan = (scan_start, scan_hit, scan_miss, scan_skip, scan_end)
+
+pub ruleset number_loop = (all_start, all_no, all_on, all_end, length_numbers_in, numbers_in_lem)
 
 -- Elements stand in ascending order.
 abbrev pub Ascending : List ℕ → Type 0

@@ -108,7 +108,9 @@ module _ (s : List ℕ) (start count : ℕ) (h : start + 4 * count ≤ length s)
 
     pub keys_on : i < count → two_at s (start + 4 * i - 4) < two_at s (start + 4 * i) → keys_from s start count (i - 1) ≡ keys_from s start count (i + 1 - 1)
     unfolding keys_from keys_ascend
-    keys_on l h = let n : i + 1 - 1 ≡ i = omega arith in rw (n, two_on l, lt-ltb (two_at s (start + 4 * i - 4)) (two_at s (start + 4 * i)) h) (sym (rw (pair_on i l)))
+    keys_on l h =
+        let n : i + 1 - 1 ≡ i = omega arith in
+        rw (n, two_on l, lt-ltb (two_at s (start + 4 * i - 4)) (two_at s (start + 4 * i)) h) (sym (rw (pair_on i l)))
 
     pub keys_end : count ≤ i → keys_from s start count (i - 1) ≡ true
     unfolding keys_from keys_ascend
@@ -121,3 +123,8 @@ module _ (s : List ℕ) (start count : ℕ) (h : start + 4 * count ≤ length s)
         go [] h = refl
         go (p ∷ []) h = refl
         go (p ∷ q ∷ ps) h = absurd (omega arith)
+
+-- What the loops along pairs and along keys ask.
+pub ruleset pair_loop = (pairs_start, pairs_no, pairs_on, pairs_end)
+
+pub ruleset key_loop = (keys_start, keys_no, keys_on, keys_end)

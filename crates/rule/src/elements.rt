@@ -42,7 +42,7 @@ pub fn element_number(s: &[u8], index: &[u16; RULE_INDEX], k: usize, i: usize) -
     ElId(num(s, element_field(index, k, i) + 3))
 }
 
-// The place of an element in its structure; they stand in ascending order.
+// The place of an element in its structure, whose elements stand in ascending order.
 pub fn find_element(s: &[u8], index: &[u16; RULE_INDEX], k: usize, e: ElId) -> Option<usize>
     requires k_lt_structure_limit { k < structure_limit }
     requires elements { Elements s.now index.now k }
@@ -86,7 +86,7 @@ pub fn elements_named(
 
 // Can an element be named in the structure whose E fields stand from one position to another?
 // Each of at least two bytes can be, also a later one or one with a fault, so this goes along the fields.
-#[tactic(auto, using(crate::proofs::Finding::scan_start, crate::proofs::Finding::scan_hit, crate::proofs::Finding::scan_miss, crate::proofs::Finding::scan_skip, crate::proofs::Finding::scan_end))]
+#[tactic(auto, using(crate::proofs::Finding::scan))]
 fn can_be_named(s: &[u8], from: usize, to: usize, e: ElId) -> bool
     ensures { (body : List definition.Field)
         → Run s.now from to (with_letter letter_e body) → result ≡ has e.0 (named_elements body) }
@@ -105,7 +105,7 @@ fn can_be_named(s: &[u8], from: usize, to: usize, e: ElId) -> bool
 }
 
 // Can each number of a stretch be named there?
-#[tactic(auto, using(records::proofs::Along::all_start, records::proofs::Along::all_no, records::proofs::Along::all_on, records::proofs::Along::all_end, records::proofs::Numbers::length_numbers_in, records::proofs::Numbers::numbers_in_lem))]
+#[tactic(auto, using(crate::proofs::Finding::number_loop))]
 pub fn parents_named(s: &[u8], from: usize, to: usize, start: usize, len: usize) -> bool
     requires { start + len ≤ length s.now }
     ensures { (body : List definition.Field) → Run s.now from to (with_letter letter_e body)

@@ -214,7 +214,7 @@ pub fn name_fault(
 }
 
 // Is each key an element of the source and each image one of the target?
-#[tactic(auto, unfolding(crate::specs::Faults::pair_named), using(crate::proofs::PairLaws::pairs_start, crate::proofs::PairLaws::pairs_no, crate::proofs::PairLaws::pairs_on, crate::proofs::PairLaws::pairs_end))]
+#[tactic(auto, unfolding(crate::specs::Faults::pair_named), using(crate::proofs::PairLaws::pair_loop))]
 fn pairs_named(
     s: &[u8],
     index: &[u16; RULE_INDEX],
@@ -243,7 +243,7 @@ fn pairs_named(
 }
 
 // Is each key above the one before it?
-#[tactic(auto, using(crate::proofs::PairLaws::keys_start, crate::proofs::PairLaws::keys_no, crate::proofs::PairLaws::keys_on, crate::proofs::PairLaws::keys_end))]
+#[tactic(auto, using(crate::proofs::PairLaws::key_loop))]
 fn keys_ascend(s: &[u8], start: usize, count: usize) -> bool
     requires { start + 4 * count ≤ length s.now }
     ensures { result ≡ keys_ascend (pairs_of (numbers (stretch s.now start (4 * count)))) }

@@ -37,7 +37,7 @@ pub fn pair_image(s: &[u8], m: Map, p: usize) -> ElId
     ElId(num(s, m.at + 4 * p + 2))
 }
 
-// The image of a source element; keys stand in ascending order.
+// The image of a source element; the keys stand in ascending order.
 pub fn image_of(s: &[u8], m: Map, e: ElId) -> Option<ElId>
     requires { MapIn s.now m }
     ensures { image_is result ≡ image_of (pairs_in s.now m) e.0 }

@@ -5,7 +5,6 @@ use Rattle.rule.proofs.Passing.{pass_start, pass_next, pass_again, pass_bad, pas
 use Rattle.rule.proofs.Passing.{next_in, short, place_in, some_structure}
 use Rattle.rule.proofs.Letters.{place_is}
 use Rattle.rule.specs.Layout.{letter_at, place_of}
-use borrow.Author.Tests.{ltb-true}
 use lib.ListN.{length-set}
 use mathlib.Core.Path.{sym, ◌∙◌, ap}
 use native.Mathlib.Omega.{arith}
@@ -29,7 +28,7 @@ loop-at-preserved-then-behind-gt-PLACE_S c =
     let inv = c.loop-at.invariant in (
       inv.0,
       pass_again inv.1 _ _ _ _ (sym c.read_field.ensures.value ∙ c.in-Some.is)
-          (inv.2 ∙ ap place_of (sym c.if-letter-last.true)) (ltb-true _ _ c.if-behind-gt-PLACE_S.true-raw),
+          (inv.2 ∙ ap place_of (sym c.if-letter-last.true)) c.if-behind-gt-PLACE_S.true,
       inv.2,
     )
 
