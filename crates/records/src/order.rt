@@ -6,12 +6,26 @@ ghost use Rattle.records.specs.Places.{stretch};
 
 use crate::fields::two;
 
-// Are the m bytes from a on before the n bytes from b on? A prefix is.
+// Are the m bytes from a on before the n bytes from b on? A prefix is. A loop, since `<` of two slices compares some bytes twice, which
+// made reading a rule a sixth slower.
 pub fn less_bytes(s: &[u8], a: usize, m: usize, b: usize, n: usize) -> bool
     requires { (a + m ≤ length s.now) × (b + n ≤ length s.now) }
     ensures { result ≡ less (stretch s.now a m) (stretch s.now b n) }
 {
-    s[a..a + m] < s[b..b + n]
+    for i in 0..m {
+        if n <= i {
+            return false;
+        }
+        let x = s[a + i];
+        let y = s[b + i];
+        if x < y {
+            return true;
+        }
+        if y < x {
+            return false;
+        }
+    }
+    m < n
 }
 
 // Are they the same bytes?
