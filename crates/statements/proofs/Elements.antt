@@ -17,7 +17,7 @@ use Rattle.laws.proofs.ByteForm.{statements_append}
 use Rattle.laws.proofs.Lists.{each_append, length_each, get_d_each, mem_at}
 use Rattle.rule.specs.Elements.{count_at, element_at, element_numbers, Finds}
 use Rattle.std.proofs.Common.{Some}
-use Rattle.rule.proofs.Finding.{finds_place}
+use Rattle.rule.proofs.Finding.{search_found}
 use Rattle.rule.specs.ElementFields.{element_in, elements_in, element_from, Within}
 use Rattle.rows.specs.Members.{member_in, Below}
 use Rattle.rule.specs.declared.elements.Element as read
@@ -72,7 +72,7 @@ module _ {s index : List ℕ} {k : ℕ} (w : Stands s index k) {i : ℕ} (h : i 
 
   found_own : Finds (Some i) (element_in s index k i).number (element_numbers s index k)
   found_own = let e : element_at s index k i ≡ (element_in s index k i).number = ap (λ (x : Element). x.number) (element_is l.elements i h) in
-      finds_place l.elements.elements (Some i) (record { is = (h, e) })
+      search_found l.elements.elements _ i h e
 
   own_variable : (row : List ℕ) → get_or row i 0 ≡ variable_by st row (element_in s index k i).number
   own_variable row = variable_found l row found_own
