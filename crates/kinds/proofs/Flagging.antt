@@ -12,7 +12,7 @@ use Rattle.definition.specs.Signature.{Signature}
 use Rattle.laws.proofs.RowLaws.{members_mem, member_last}
 use Rattle.rule.specs.Elements.{count_at}
 use Rattle.std.proofs.Common.{Some}
-use Rattle.rule.proofs.Finding.{finds_place}
+use Rattle.rule.proofs.Finding.{search_found}
 use Rattle.rule.specs.ElementFields.{element_in}
 use Rattle.rows.specs.Members.{new_member}
 use Rattle.rows.specs.Table.{is_new}
@@ -32,7 +32,7 @@ module _ {s index : List ℕ} {k : ℕ} (w : Laid s index k) where
   -- An element's number is found at its place.
   place_of : (i : ℕ) → i < count_at index k → place_from 0 (element_in s index k i).number (numbers_of (structure_in s k)) ≡ i
   place_of i l =
-      let f = finds_place w.elements.elements (Some i) (record { is = (l, ap (λ (e : Element). e.number) (element_is w.elements i l)) }) in
+      let f = search_found w.elements.elements _ i l (ap (λ (e : Element). e.number) (element_is w.elements i l)) in
       rw (numbers_are w) (sym f.is.0)
 
   -- Flags that agree with a test of the member rows keep what it keeps.
