@@ -35,7 +35,7 @@ use Rattle.rule.specs.Structures.{structure_in, SoundAt}
 use Rattle.rule.proofs.MapLaws.{pairs_many}
 use Rattle.rule.proofs.ElementLaws.{no_element}
 use Rattle.rule.specs.MapFields.{KeysIn}
-use Rattle.rule.specs.Rows.{RowsKnown, member_rows}
+use Rattle.rule.specs.Rows.{member_rows}
 use Rattle.laws.specs.Steps.{step_fault}
 use Rattle.rule.specs.Lookup.{no_pair}
 use Rattle.kinds.specs.Added.{RowMasks, source_lacks, AddsRows}

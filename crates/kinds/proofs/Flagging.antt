@@ -11,7 +11,6 @@ use Rattle.definition.specs.Rows.{member_row, members, last_element, constrained
 use Rattle.definition.specs.Signature.{Signature}
 use Rattle.laws.proofs.RowLaws.{members_mem, member_last}
 use Rattle.rule.specs.Elements.{count_at}
-use Rattle.std.proofs.Common.{Some}
 use Rattle.rule.proofs.Finding.{search_found}
 use Rattle.rule.specs.ElementFields.{element_in}
 use Rattle.rows.specs.Members.{new_member}

@@ -11,27 +11,6 @@ pub struct Field {
     pub next: usize,
 }
 
-// A byte as a length or a place.
-pub fn wide(x: u8) -> usize
-    ensures { (result ≡ x) × (result < 256) }
-{
-    x as usize
-}
-
-// A number as a length or a place.
-pub fn place(x: u16) -> usize
-    ensures { (result ≡ x) × (result < 65536) }
-{
-    x as usize
-}
-
-// A byte as a number.
-pub fn short(x: u8) -> u16
-    ensures { (result ≡ x) × (result < 256) }
-{
-    x as u16
-}
-
 // The two-byte number at a position, high byte first.
 pub fn num(s: &[u8], at: usize) -> u16
     requires { at + 2 ≤ length s.now }

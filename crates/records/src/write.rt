@@ -16,13 +16,6 @@ pub fn past(at: usize, k: usize) -> usize
     (at + k).min(COUNT_LIMIT)
 }
 
-// Where the rest of a buffer from at on begins; behind its end there is none.
-pub fn rest_at(at: usize, len: usize) -> usize
-    ensures { result ≡ min at len }
-{
-    at.min(len)
-}
-
 // One byte.
 pub fn put_byte(out: &mut [u8], at: usize, b: u8) -> usize
     requires { at ≤ count_limit }

@@ -42,3 +42,6 @@ module _ (s index : List ℕ) (counts : Counts) {sig : Signature} (e : signature
 
   pub a_func : {f : ℕ} → f < length sig.funcs → f < counts.funcs
   a_func h = rw funcs_are at h
+
+-- The counts of the letters.
+pub ruleset counted = (types_are, preds_are, funcs_are)

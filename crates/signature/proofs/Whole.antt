@@ -85,7 +85,8 @@ module _ {s : List ℕ} {end t : ℕ} {whole : Bool} (p : Parted s (signature_pa
           → refused (number f) ≡ read_signature s
       read_funcs c told = drawn _ (faults ∙ rw (ct.is.0, ← types_same, cp.is.0, (rw told at (c (behind_p s) [] cp.is.2 (funcs_front s))).is))
 
-      module _ {r₃ : Result Checked Refusal} {h₃ : List ℕ} (funcs : ChecksUpTo r₃ s h₃ letter_f nt funcs_from b end) {nf d : ℕ} (told₃ : r₃ ≡ counted nf d) where
+      module _ {r₃ : Result Checked Refusal} {h₃ : List ℕ} (funcs : ChecksUpTo r₃ s h₃ letter_f nt funcs_from b end)
+          {nf d : ℕ} (told₃ : r₃ ≡ counted nf d) where
         cf : Checks (counted nf d) s h₃ letter_f nt funcs_from end (behind_p s) []
         cf = rw told₃ at (funcs (behind_p s) [] cp.is.2 (funcs_front s))
 

@@ -226,7 +226,7 @@ impl<'a> Signature<'a> {
     }
 
     // Does it have what a statement is about?
-    #[tactic(auto, unfolding(definition::specs::Signature::symbol_count), using(crate::proofs::Views::types_are, crate::proofs::Views::preds_are, crate::proofs::Views::funcs_are))]
+    #[tactic(auto, unfolding(definition::specs::Signature::symbol_count), using(crate::proofs::Views::counted))]
     pub fn declares(&self, rel: Relation) -> bool
         ensures { result ≡ ltb (number_of rel) (symbol_count self.now (kind_of rel)) }
     {

@@ -40,13 +40,6 @@ pub fn initial_matching_stmts() -> [Held; SORTS]
     [ALL_HELD, ALL_HELD, ALL_HELD, ALL_HELD, NO_HELD]
 }
 
-// A structure's number as an index.
-pub fn place(k: u8) -> usize
-    ensures { (result ≡ k) × (result < 256) }
-{
-    k as usize
-}
-
 // One mask of a structure.
 pub fn mask_at(masks: &[[Held; SORTS]; STRUCTURES], t: usize, sort: usize) -> Mask
     requires { (t < structure_limit) × (sort < sorts) }

@@ -18,7 +18,9 @@ returns-in_err-map_elements c =
 pub returns-in_err-own : goal.returns-in_err-own
 unfolding member_row
 returns-in_err-own c =
-    rw (passed_on c.from_residual-in_err-own.ensures, which_err _ c.image_of.result c.ok_or.ensures.value c.in_err-own.was) (lacks_last _ (rw (c.parents_of.ensures.by_index _) at c.in_ok-map_elements.ensures) (sym c.image_of.ensures ∙ ap image_is (was_none _ c.ok_or.ensures.value c.in_err-own.was)))
+    let e = was_none _ c.ok_or.ensures.value c.in_err-own.was in
+    rw (passed_on c.from_residual-in_err-own.ensures, which_err _ c.image_of.result c.ok_or.ensures.value c.in_err-own.was)
+    (lacks_last _ (rw (c.parents_of.ensures.by_index _) at c.in_ok-map_elements.ensures) (sym c.image_of.ensures ∙ ap image_is e))
 
 pub returns : goal.returns
 unfolding member_row
