@@ -1,5 +1,5 @@
-//! `lint CRATES ENTRY..`: no function or constant that an entry (a crate, or a module as `records::decimal`) reaches holds a `/` or a `%`.
-//! What is reached is read off the sources: whatever an item names is looked at in its turn.
+//! `lint CRATES ENTRY..`: no function, constant or type that an entry (a crate, or a module as `records::decimal`) reaches holds a `/` or a
+//! `%`. What is reached is read off the sources: whatever an item names is looked at in its turn.
 
 mod items;
 mod reach;
@@ -25,22 +25,34 @@ fn stem(path: &Path) -> String {
     stem.to_string_lossy().into_owned()
 }
 
+/// The modules of a folder of sources, of which the one named `lib`, `main` or `mod` is the folder's own.
+fn add(modules: &mut Modules, folder: &Path, own: &str) -> Result<(), String> {
+    for file in listed(folder)? {
+        let name = match stem(&file).as_str() {
+            "lib" | "main" | "mod" => own.to_string(),
+            module => format!("{own}::{module}"),
+        };
+        if file.is_dir() {
+            add(modules, &file, &name)?;
+            continue;
+        }
+        let shown = file.display().to_string();
+        let source = fs::read_to_string(&file).map_err(|e| format!("{shown}: {e}"))?;
+        let module = items::module(&shown, &source)?;
+        if modules.insert(name, module).is_some() {
+            return Err(format!("{shown}: a second module of its name"));
+        }
+    }
+    Ok(())
+}
+
 /// Every module of the crates in a folder.
 fn modules(crates: &Path) -> Result<Modules, String> {
     let mut modules = Modules::new();
     for one in listed(crates)? {
         let sources = one.join("src");
-        if !sources.is_dir() {
-            continue;
-        }
-        for file in listed(&sources)? {
-            let name = match stem(&file).as_str() {
-                "lib" | "main" => stem(&one),
-                module => format!("{}::{module}", stem(&one)),
-            };
-            let shown = file.display().to_string();
-            let source = fs::read_to_string(&file).map_err(|e| format!("{shown}: {e}"))?;
-            modules.insert(name, items::module(&shown, &source)?);
+        if sources.is_dir() {
+            add(&mut modules, &sources, &stem(&one))?;
         }
     }
     Ok(modules)
@@ -53,7 +65,7 @@ fn check(modules: &Modules, entry: &str) -> Result<String, String> {
     if found.is_empty() {
         let count = reached.len();
         return Ok(format!(
-            "{entry} reaches {count} functions and constants, none divides"
+            "{entry} reaches {count} functions, constants and types, none divides"
         ));
     }
     Err(format!("{entry} reaches\n{}", found.join("\n")))

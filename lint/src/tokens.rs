@@ -1,4 +1,5 @@
-//! A Rattle source as tokens, each with its line. What only the prover reads (comments, `ghost` lines, contracts) is left out.
+//! A Rattle source as tokens, each with its line. What only the prover reads (comments, `ghost` lines, contracts, attributes) is left out,
+//! and lifetimes and labels are.
 
 /// One token of what is compiled.
 #[derive(Clone, Debug, PartialEq, Eq)]
@@ -7,6 +8,8 @@ pub enum Token {
     Word(String),
     /// `b'/'` and `"/"`: what stands between the quotes is data.
     Literal,
+    /// `#[test]` or `#[cfg(test)]`: the item behind it is no part of the library.
+    Test,
     /// `/` or `%`, alone or with `=`.
     Division(char),
     /// Any other character.
@@ -33,6 +36,10 @@ impl Placed {
     }
 }
 
+fn is_of_a_word(c: char) -> bool {
+    c.is_alphanumeric() || c == '_'
+}
+
 struct Scanner<'a> {
     rest: std::iter::Peekable<std::str::Chars<'a>>,
     line: usize,
@@ -53,7 +60,7 @@ impl Scanner<'_> {
 
     fn word(&mut self, first: char) {
         let mut word = String::from(first);
-        while let Some(c) = self.rest.next_if(|c| c.is_alphanumeric() || *c == '_') {
+        while let Some(c) = self.rest.next_if(|c| is_of_a_word(*c)) {
             word.push(c);
         }
         self.push(Token::Word(word));
@@ -69,7 +76,7 @@ impl Scanner<'_> {
         }
     }
 
-    /// `'x'` and `'\n'` are literals, `'label` is a name behind a mark.
+    /// `'x'` and `'\n'` are literals; of `'label` the mark is left, since it names nothing that can divide.
     fn quote(&mut self) {
         let mut ahead = self.rest.clone();
         let first = ahead.next();
@@ -77,8 +84,19 @@ impl Scanner<'_> {
             self.until('\'');
             self.push(Token::Literal);
         } else {
+            while self.rest.next_if(|c| is_of_a_word(*c)).is_some() {}
             self.push(Token::Mark('\''));
         }
+    }
+
+    /// A text; in one behind an `r` a backslash is no escape.
+    fn text(&mut self) -> Result<(), String> {
+        if let Some("r" | "br" | "cr") = self.tokens.last().and_then(Placed::word) {
+            return Err(format!("line {}: a text of another form", self.line));
+        }
+        self.until('"');
+        self.push(Token::Literal);
+        Ok(())
     }
 
     fn slash(&mut self) -> Result<(), String> {
@@ -95,12 +113,9 @@ impl Scanner<'_> {
             match c {
                 '/' => self.slash()?,
                 '%' => self.push(Token::Division('%')),
-                '"' => {
-                    self.until('"');
-                    self.push(Token::Literal);
-                }
+                '"' => self.text()?,
                 '\'' => self.quote(),
-                c if c.is_alphanumeric() || c == '_' => self.word(c),
+                c if is_of_a_word(c) => self.word(c),
                 c if c.is_whitespace() => {}
                 c => self.push(Token::Mark(c)),
             }
@@ -125,21 +140,54 @@ pub fn closing(tokens: &[Placed], open: usize) -> Result<usize, String> {
     Err(format!("line {}: not closed", tokens[open].line))
 }
 
+/// Where the clause at a place ends. It may have a name: `ensures value { .. }`.
+fn clause(tokens: &[Placed], at: usize) -> Result<usize, String> {
+    let ends = |token: &Placed| "{});,".chars().any(|mark| token.is(mark));
+    match (at..tokens.len()).find(|&k| ends(&tokens[k])) {
+        Some(open) if tokens[open].is('{') => closing(tokens, open),
+        _ => Err(format!("line {}: no clause", tokens[at].line)),
+    }
+}
+
+/// Where what a `ghost` begins ends: a `use`, a value, a field or a clause, as `ghost use a.{b};`, `ghost a = { .. };`, `ghost a: { .. },`.
+fn ghost(tokens: &[Placed], at: usize) -> Result<usize, String> {
+    let is = |at: usize, mark: char| tokens.get(at).is_some_and(|token| token.is(mark));
+    if tokens.get(at + 1).and_then(Placed::word) == Some("use") {
+        let end = (at..tokens.len()).find(|&k| is(k, ';'));
+        return end.ok_or_else(|| format!("line {}: no ; behind", tokens[at].line));
+    }
+    let mut end = clause(tokens, at)?;
+    if is(end + 1, '=') {
+        end = clause(tokens, end + 1)?;
+    }
+    Ok(end + usize::from(is(end + 1, ';') || is(end + 1, ',')))
+}
+
+/// Where the attribute at a place ends, and whether it marks a test.
+fn attribute(tokens: &[Placed], at: usize) -> Result<(usize, bool), String> {
+    let inner = tokens.get(at + 1).is_some_and(|token| token.is('!'));
+    let open = at + 1 + usize::from(inner);
+    if !tokens.get(open).is_some_and(|token| token.is('[')) {
+        return Err(format!("line {}: a # of another form", tokens[at].line));
+    }
+    let end = closing(tokens, open)?;
+    let words: Vec<&str> = tokens[open..end].iter().filter_map(Placed::word).collect();
+    Ok((end, matches!(words[..], ["test"] | ["cfg", "test"])))
+}
+
 fn without_proofs(tokens: &[Placed]) -> Result<Vec<Placed>, String> {
     let mut kept = Vec::new();
     let mut at = 0;
     while at < tokens.len() {
         match tokens[at].word() {
-            Some("ghost") => {
-                while at < tokens.len() && !tokens[at].is(';') {
-                    at += 1;
-                }
-            }
-            // A clause may have a name: `ensures value { .. }`.
-            Some("requires" | "ensures") => {
-                let open = (at..tokens.len()).find(|&k| tokens[k].is('{'));
-                let open = open.ok_or_else(|| format!("line {}: no clause", tokens[at].line))?;
-                at = closing(tokens, open)?;
+            Some("ghost") => at = ghost(tokens, at)?,
+            Some("requires" | "ensures") => at = clause(tokens, at)?,
+            None if tokens[at].is('#') => {
+                let line = tokens[at].line;
+                let (end, test) = attribute(tokens, at)?;
+                let token = Token::Test;
+                kept.extend(test.then_some(Placed { token, line }));
+                at = end;
             }
             _ => kept.push(tokens[at].clone()),
         }
