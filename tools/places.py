@@ -51,7 +51,7 @@ def option_like():
 def functions():
     """The functions: file, line, name, parameters, clauses."""
     for f, text in TEXT.items():
-        for m in re.finditer(r'\bfn (\w+)(?:<[^(]*>)?\((.*?)\)(.*?)\n\{', text, re.S):
+        for m in re.finditer(r'\bfn (\w+)(?:<[^(]*>)?\((.*?)\)(.*?)\n\s*\{', text, re.S):
             yield f, text[:m.start()].count('\n') + 1, m.group(1), m.group(2), m.group(3)
 
 
