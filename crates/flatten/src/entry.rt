@@ -106,7 +106,7 @@ fn flatten_morphisms(
     write_group(out, s, index, n, kinds, &sources, &masks, &vars, types)
 }
 
-// An accepted rule, with its index and that of its signature. The table of its variables' types is lent, with a place for each element.
+// An accepted rule, with its signature and its index. The table of its variables' types is lent, with a place for each element.
 fn flatten_rule(
     sig: &Signature<'_>,
     s: &[u8],

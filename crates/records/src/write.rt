@@ -51,6 +51,17 @@ pub fn put_field_head(out: &mut [u8], at: usize, letter: u8, len: u16) -> usize
     put_num(out, behind, len)
 }
 
+// The bytes of a stretch of another slice, stored one behind the other. A loop, since `copy_from_slice` would ask the C library for memmove,
+// and the library asks for memset alone.
+fn copy_bytes(out: &mut [u8], at: usize, s: &[u8], start: usize, len: usize)
+    requires { (at + len ≤ length out.old) × (start + len ≤ length s.now) }
+    ensures { out.new ≡ paste out.old at (drop start s.now) len }
+{
+    for i in 0..len {
+        out[at + i] = s[start + i];
+    }
+}
+
 // A stretch of another slice: all of it where it fits, so that room is asked for once.
 pub fn put_bytes(out: &mut [u8], from: usize, s: &[u8], start: usize, len: usize) -> usize
     requires { (from ≤ count_limit) × (start + len ≤ length s.now) }
@@ -61,7 +72,7 @@ pub fn put_bytes(out: &mut [u8], from: usize, s: &[u8], start: usize, len: usize
     }
     let end = from + len;
     if end <= out.len() {
-        out[from..end].copy_from_slice(&s[start..start + len]);
+        copy_bytes(out, from, s, start, len);
         return end;
     }
     end

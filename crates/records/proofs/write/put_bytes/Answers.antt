@@ -8,7 +8,7 @@ returns-then-from-len c = let p = c.requires in passing _ _ _ _ _ p.1 (omega ari
 pub returns-then-end-out : goal.returns-then-end-out
 returns-then-end-out c =
     let p = c.requires in
-    copied _ _ _ _ _ p.1 c.if-end-out.true (omega (arith, c.if-from-len.false, p.0)) c.copy_from_slice.ensures.after
+    rw c.copy_bytes.ensures (copied _ _ _ _ _ p.1 c.if-end-out.true (omega (arith, c.if-from-len.false, p.0)))
 
 pub returns : goal.returns
 returns c = let p = c.requires in unfitting _ _ _ _ _ p.1 (omega arith) (omega arith)
