@@ -19,9 +19,8 @@ const KEYWORDS: [&str; 17] = [
 
 /// What std has and our sources call: methods, functions of its types, macros that call nothing. They hold no division of ours to find; what
 /// is passed to them, a closure too, stands where it is passed.
-const STD: [&str; 22] = [
+const STD: [&str; 21] = [
     ".all",
-    ".copy_from_slice",
     ".copy_within",
     ".enumerate",
     ".filter",
