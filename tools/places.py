@@ -93,13 +93,27 @@ def shape(body):
     return re.sub(r'x(,x)+,?', 'x', body)
 
 
+def bodies():
+    """The functions with bodies: file, line, name, body."""
+    for f, text in TEXT.items():
+        lines = text.split('\n')
+        for n, line in enumerate(lines):
+            m = re.match(r'( *)(?:pub(?:\([a-z]+\))? )?fn (\w+)', line)
+            if not m:
+                continue
+            ends = [i for i in range(n, len(lines)) if lines[i] == m.group(1) + '}']
+            opens = [i for i in range(n, len(lines)) if lines[i] == m.group(1) + '{' or (i == n and line.endswith('{'))
+                     or (lines[i].startswith(m.group(1) + ')') and lines[i].endswith('{'))]
+            if ends and opens and opens[0] < ends[0]:
+                yield f, n + 1, m.group(2), '\n'.join(lines[opens[0] + 1:ends[0]])
+
+
 def twins():
     """Functions of four lines or more whose bodies have the same shape."""
     by = defaultdict(list)
-    for f, text in TEXT.items():
-        for m in re.finditer(r'\bfn (\w+)[^\n]*?\((?:[^{}]|\{[^\n]*\}|\{[^{}]*\})*?\n\{\n(.*?)\n\}', text, re.S):
-            if m.group(2).count('\n') >= 3:
-                by[shape(m.group(2))].append((f, text[:m.start()].count('\n') + 1, m.group(1)))
+    for f, n, name, body in bodies():
+        if body.count('\n') >= 3:
+            by[shape(body)].append((f, n, name))
     groups = [g for g in by.values() if len(g) > 1]
     return [(f, n, 'group %d: %s' % (i, name)) for i, g in enumerate(groups, 1) for f, n, name in g]
 
