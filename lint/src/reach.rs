@@ -19,21 +19,23 @@ const KEYWORDS: [&str; 17] = [
 
 /// What std has and our sources call: methods, functions of its types, macros that call nothing. They hold no division of ours to find; what
 /// is passed to them, a closure too, stands where it is passed.
-const STD: [&str; 21] = [
+const STD: [&str; 23] = [
     ".all",
+    ".any",
+    ".as_chunks",
     ".copy_within",
     ".enumerate",
-    ".filter",
+    ".find",
     ".is_none",
     ".is_some",
+    ".is_sorted_by",
     ".iter",
     ".len",
-    ".map_or",
     ".min",
     ".ok_or",
-    ".or_else",
     ".rev",
     ".saturating_sub",
+    ".split_at",
     ".to_be_bytes",
     ".unwrap_or",
     "matches!",

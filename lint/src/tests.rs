@@ -130,7 +130,7 @@ fn a_division_is_found_through_methods() {
         "level.half()",
         "n.levels[0].half::<u8>()",
         "(n..level.half()).len()",
-        "n.map_or(0, |Level(_)| level.half())",
+        "n.find(|Level(_)| level.half())",
         "<Level>::half(&level)",
     ] {
         divides(body, "13: / in Level::half");
@@ -144,8 +144,8 @@ fn a_division_is_found_through_types() {
     for body in [
         "Level::rest(n).0",
         "b::Level::rest(n).0",
-        "n.filter(|&(_, n)| Level::rest(n))",
-        "n.filter(Level::rest)",
+        "n.any(|&(_, n)| Level::rest(n))",
+        "n.any(Level::rest)",
     ] {
         divides(body, "17: % in Level::rest");
     }
@@ -209,7 +209,7 @@ fn kind(held: Held<'_>) -> Option<Kind> {
     if !(held.len() < usize::from(1u8)) {
         return None;
     }
-    Some(Kind::Low).filter(|k| k.is_low())
+    Some(Kind::Low).iter().find(|k| k.is_low())
 }
 
 impl<'a> Kind where Kind: Copy {
@@ -243,7 +243,7 @@ fn what_neither_we_nor_std_are_known_to_have_is_refused() {
         "n.iter().product::<u16>()",
         "Level::unseen(n)",
         "u16::div_euclid(n, 2)",
-        "n.filter(u16::div_euclid)",
+        "n.any(u16::div_euclid)",
         "<u16 as Div>::div(n, 2)",
         "T::div(n, 2)",
         "unseen::<u8>(n)",
