@@ -8,7 +8,7 @@ use Rattle.definition.specs.Scope.{scope_of, owners_part, owners_of}
 use Rattle.std.proofs.Common.{Ok, Err, Some, None}
 use Rattle.records.specs.Refusals.{number}
 use Rattle.records.specs.declared.refusal.Refusal.{Refusal}
-use Rattle.group.proofs.Values.{numbers_count}
+use Rattle.records.proofs.Parts.{count_in}
 use Rattle.scope.specs.Answers.{scope_answer, OwnersStand}
 use Rattle.scope.specs.declared.answers.Owned.{Owned}
 use Rattle.scope.proofs.Whole.{owners_are}
@@ -33,6 +33,6 @@ module _ (bytes group : List ℕ) (position : ℕ) where
       → Told (record { refused = 0; kind = 1; model = own.model.0; offset = own.start; count = own.count })
   unfolding scope_told
   told_model own e o = record {
-    is = rw (← e, numbers_count group own.start own.count o.1, ← o.0);
+    is = rw (← e, count_in group own.start own.count o.1, ← o.0);
     owners = record { within = o.1; held = rw (add-sub_cancel_left) at (owners_are bytes group position own e o) };
   }

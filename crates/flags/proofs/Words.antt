@@ -8,7 +8,7 @@ use mathlib.Core.Bool.{Bool, true, false}
 use lib.Dec.{ltb}
 use borrow.Author.Tests.{eqb-true, ltb-true, ltb-false}
 use Rattle.flags.specs.declared.Mask.{Mask}
-use Rattle.flags.specs.Flags.{places, flag_at, no_flags, all_flags, none_set, with_flag, only_flag, Above, FlagsOf, held_of, mask_of, all_held}
+use Rattle.flags.specs.Flags.{places, flag_at, no_flags, all_flags, none_set, with_flag, only_flag, Above, FlagsOf}
 use Rattle.flags.proofs.Bits.{pow_pos, no_digit, all_digit, bit_new, bit_old, bit_above, small_set, small_clear}
 
 -- No flag is set in none.
@@ -99,12 +99,3 @@ no_flags_none = refl
 pub all_flag : (i : ℕ) → i < places → flag_at all_flags i ≡ true
 unfolding flag_at
 all_flag i few = all_digit i few
-
--- What was put into a table comes out of it.
-pub mask_held : (mask : Mask) → mask_of (held_of mask) ≡ mask
-unfolding mask_of held_of
-mask_held mask = refl
-
-pub all_held_lem : mask_of all_held ≡ all_flags
-unfolding mask_of
-all_held_lem = refl

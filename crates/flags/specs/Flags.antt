@@ -1,5 +1,5 @@
 -- Sets of places. What is here is all that others know of a mask: they go by the laws in proofs/Words, and unfold none of it.
-use Rattle.std.specs.Prelude.{Bool, false, not, ◌&&◌, List, [], ◌∷◌, ◌≡◌, ℕ, ◌+◌, ◌/◌, ◌%◌, ◌^◌, ◌<◌, eqb, get_or}
+use Rattle.std.specs.Prelude.{Bool, false, not, ◌&&◌, List, ◌≡◌, ℕ, ◌+◌, ◌/◌, ◌%◌, ◌^◌, ◌<◌, eqb, get_or}
 use Rattle.flags.specs.declared.Mask.{Mask}
 
 -- The places of a mask.
@@ -32,23 +32,6 @@ with_flag mask i = record { word = mask.word + 2 ^ i }
 -- The flag of one place.
 unfoldable pub only_flag : ℕ → Mask
 only_flag i = with_flag no_flags i
-
--- A mask as it stands in a table: its words, and which mask they are.
-abbrev pub Held : Type 0
-Held = List ℕ
-
-unfoldable pub held_of : Mask → Held
-held_of mask = mask.word ∷ []
-
-unfoldable pub mask_of : Held → Mask
-mask_of held = record { word = get_or held 0 0 }
-
--- No flag and every flag, in a table.
-abbrev pub no_held : Held
-no_held = 0 ∷ []
-
-abbrev pub all_held : Held
-all_held = 18446744073709551615 ∷ []
 
 -- A place is above all flags that are set.
 pub record Above (mask : Mask) (i : ℕ) : Type 0 where

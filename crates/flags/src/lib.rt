@@ -3,7 +3,7 @@
 #![tactic(auto)]
 
 ghost use Rattle.std.specs.Prelude.{◌≡◌, ◌≤◌, ◌<◌};
-ghost use Rattle.flags.specs.Flags.{places, flag_at, none_set, with_flag, only_flag, Above, PackedLess, held_of, mask_of};
+ghost use Rattle.flags.specs.Flags.{places, flag_at, none_set, with_flag, only_flag, Above, PackedLess};
 
 // The places of a mask.
 pub const PLACES: usize = 64;
@@ -17,16 +17,9 @@ pub struct Mask {
 // No flag, and every flag: constants, so that no call stands where they are used.
 pub const NO_FLAGS: Mask = Mask { word: 0 };
 
-const FULL: u64 = 18446744073709551615;
-
-pub const ALL_FLAGS: Mask = Mask { word: FULL };
-
-// A mask as it stands in a table: a table of numbers can be lent, and one of structs cannot.
-pub type Held = [u64; 1];
-
-pub const NO_HELD: Held = [0];
-
-pub const ALL_HELD: Held = [FULL];
+pub const ALL_FLAGS: Mask = Mask {
+    word: 18446744073709551615,
+};
 
 // Is no flag set?
 pub fn none_set(mask: Mask) -> bool
@@ -58,20 +51,6 @@ pub fn one_flag(i: usize) -> Mask
     ensures { result ≡ only_flag i }
 {
     with_flag(NO_FLAGS, i)
-}
-
-// A mask into a table, and out of it.
-pub fn to_held(mask: Mask) -> Held
-    ensures { result ≡ held_of mask }
-{
-    [mask.word]
-}
-
-pub fn from_held(held: Held) -> Mask
-    ensures { result ≡ mask_of held }
-{
-    let word = held[0];
-    Mask { word }
 }
 
 // The flags of the first places that one row has and another has not.

@@ -2,34 +2,32 @@
 use Prim.Native.Nat.{ℕ, ◌*◌, ◌≤◌, ◌<◌, min}
 use native.Mathlib.Omega.{arith}
 use native.Mathlib.Nat.{zero-add}
-use mathlib.Core.Bool.{true, false}
+use mathlib.Core.Bool.{Bool, true, false}
 use mathlib.Core.Path.{◌≡◌, refl, ap, sym, ◌∙◌}
 use mathlib.Core.List.{List, ◌++◌}
 use lib.ListN.{length, take, drop, replicate, length-append, length-replicate}
 use lib.Seq.{take_at}
 use borrow.Author.Tests.{lt-ltb, le-ltb}
-use Rattle.definition.specs.Base.{Outcome, refused, accepted}
+use Rattle.definition.specs.Base.{Outcome, refused, accepted, on_accepted, pick}
 use Rattle.definition.specs.Flatten.{group_left, fitted, flatten_of, laid_over}
 use Rattle.definition.specs.Limits.{field_limit}
 use Rattle.definition.specs.Writer.{group_bytes_of}
 use Rattle.definition.specs.Rule.{read_rule}
 use Rattle.definition.specs.Signature.{Signature, read_signature}
-use Rattle.definition.specs.Walk.{State, walk_of, unmapped_auxiliary, unmapped_kind, completed}
+use Rattle.definition.specs.Walk.{State, walk_of, unmapped_auxiliary, unmapped_kind}
+use Rattle.laws.proofs.Lists.{never}
 use Rattle.theorems.proofs.Theorems.{demand_3}
 use Rattle.records.specs.Buffer.{Put}
-use Rattle.rule.specs.Lookup.{rule_at}
-use Rattle.rule.specs.Answers.{rule_reading, Usable}
-use Rattle.plan.specs.Table.{Entries, Tabled}
-use Rattle.walk.specs.Tables.{Tables}
-use Rattle.walk.specs.Ended.{Readable, Ground, Finished, Ended}
+use Rattle.rule.specs.Views.{RuleBy}
+use Rattle.plan.specs.Plan.{plan_of}
+use Rattle.walk.specs.declared.tables.Tables.{Tables}
+use Rattle.walk.specs.Walked.{state_left}
 use Rattle.std.proofs.Common.{Result, Ok, Err}
-use Rattle.records.specs.Refusals.{number, outcome}
+use Rattle.records.specs.Refusals.{number, outcome, outcome_by}
 use Rattle.records.specs.declared.refusal.Refusal.{Refusal}
 use Rattle.records.specs.declared.refusal.Refusal.TheVariants.{NoRoom}
-use Rattle.flags.specs.Flags.{Held}
 use Rattle.walk.specs.Went.{whole_walk, Went}
 use Rattle.flatten.specs.Answers.{outcome_in, answer_of, Demanded, Writes, Untyped, walk_outcome, rule_outcome}
-use Rattle.walk.proofs.Grounds.{AllMapped}
 
 -- What is answered, by how long the group was measured to be.
 module _ (p out : List ℕ) {none o : List ℕ} {room m : ℕ} (u : room ≡ min (length out) 65535) (a : Put none o p 0 m) where
@@ -52,41 +50,49 @@ module _ (p out : List ℕ) {none o : List ℕ} {room m : ℕ} (u : room ≡ min
 pub refused_at_once : (out : List ℕ) {r : Refusal} {x : Outcome (List ℕ)} → x ≡ refused (number r) → Writes (Err r) out out x
 refused_at_once out e = record { answer = rw e; buffer = rw e }
 
--- The walk's end.
-abbrev End : Signature → List ℕ → Tables → List ℕ → Type 0
-End sig s tb types = (state : State) × (whole_walk sig s ≡ accepted state) × Finished sig s tb types state
-
-abbrev pub ending : {sig : Signature} {s index types : List ℕ} {kinds : Entries} {tb : Tables} → End sig s tb types → Ground sig s index
-    → Tabled kinds (completed (rule_at s).maps (rule_at s).kinds (rule_at s).auxiliaries) → Ended s index types kinds tb
-ending {sig} w gr td = record { sig = sig; state = w.0; ground = gr; tabled = td; finished = w.2 }
-
 -- 21, 22, else what comes of the walk.
-module _ (sig : Signature) (s : List ℕ) (room : ℕ) where
-  pub refused_21 : unmapped_auxiliary (rule_at s) ≡ true → rule_outcome sig s room ≡ refused 21
-  unfolding rule_outcome walk_of
-  refused_21 e = rw e
+module _ (x : RuleBy) (room : ℕ) where
+  abbrev group : State → Outcome (List ℕ)
+  group state = fitted room (group_bytes_of (group_left x.rule state))
 
-  pub refused_22 : unmapped_auxiliary (rule_at s) ≡ false → unmapped_kind (rule_at s) ≡ true → rule_outcome sig s room ≡ refused 22
-  unfolding rule_outcome walk_of
-  refused_22 a e = rw (a, e)
-
-  pub walked_on : AllMapped s → rule_outcome sig s room ≡ walk_outcome sig s room
+  pub planned : rule_outcome x room ≡ on_accepted (plan_of x) (λ (y : RuleBy). walk_outcome y room)
   unfolding rule_outcome walk_outcome walk_of
-  walked_on a = rw (a.0, a.1)
+  planned = go (unmapped_auxiliary x.rule) (unmapped_kind x.rule)
+    where
+      go : (a b : Bool) → on_accepted (pick a (refused 21) (pick b (refused 22) (whole_walk x))) group
+          ≡ on_accepted (pick a (refused 21) (pick b (refused 22) (accepted x))) (λ (y : RuleBy). walk_outcome y room)
+      go true b = refl
+      go false true = refl
+      go false false = refl
 
   -- A refused walk.
-  pub walk_stopped : {r : Refusal} {sources types : List ℕ} {masks : List (List Held)} {vars : List (List ℕ)} {target source : ℕ}
-      → Went (Err r) sig s sources masks vars types target source → walk_outcome sig s room ≡ refused (number r)
+  pub walk_stopped : {r : Refusal} {tb : Tables} {types : List ℕ} {target source : ℕ} → Went (Err r) x tb types target source
+      → walk_outcome x room ≡ refused (number r)
   unfolding walk_outcome
   walk_stopped w = rw w.is
 
   -- The group is written for the state that the walk ended in.
-  pub ended_writes : {index types : List ℕ} {kinds : Entries} {tb : Tables} {q : Result ℕ Refusal} {out₀ out : List ℕ} → (x : End sig s tb types)
-      → (g : Ground sig s index) (td : Tabled kinds (completed (rule_at s).maps (rule_at s).kinds (rule_at s).auxiliaries))
-      → ((e : Ended s index types kinds tb) → Writes q out₀ out (fitted room (group_bytes_of (group_left (rule_at s) e.state))))
-      → Writes q out₀ out (walk_outcome sig s room)
+  pub ended_outcome : whole_walk x ≡ accepted (state_left x)
+      → walk_outcome x room ≡ fitted room (group_bytes_of (group_left x.rule (state_left x)))
   unfolding walk_outcome
-  ended_writes x g td v = rw x.1 (v (ending x g td))
+  ended_outcome e = rw e refl
+
+-- A plan that there is is of the same rule.
+abbrev value_of : RuleBy → Outcome RuleBy → RuleBy
+value_of x (accepted y) = y
+value_of x (refused k) = x
+
+abbrev is_accepted : Outcome RuleBy → Bool
+is_accepted (accepted y) = true
+is_accepted (refused k) = false
+
+pub same_rule : (x : RuleBy) {p : RuleBy} → accepted p ≡ plan_of x → p ≡ x
+same_rule x {p} e = go (unmapped_auxiliary x.rule) (unmapped_kind x.rule) e
+  where
+    go : (a b : Bool) → accepted p ≡ pick a (refused 21) (pick b (refused 22) (accepted x)) → p ≡ x
+    go true b e = never refl (ap is_accepted e)
+    go false true e = never refl (ap is_accepted e)
+    go false false e = ap (value_of x) e
 
 -- A table of types before the walk.
 pub untyped : (size : ℕ) {n : ℕ} → field_limit * n ≤ size → Untyped (replicate size 0) n
@@ -98,18 +104,14 @@ module _ (bytes s : List ℕ) (room : ℕ) {a : Result Signature Refusal} (e : o
   unfolding flatten_of
   unsigned q = rw (← e, q) refl
 
-  module _ {sig : Signature} (p : a ≡ Ok sig) {b : Result ℕ Refusal} (f : rule_reading s b ≡ read_rule sig s) where
+  module _ {sig : Signature} (p : a ≡ Ok sig) {b : Result RuleBy Refusal} (f : outcome_by (λ (x : RuleBy). x.rule) b ≡ read_rule sig s) where
     pub unread : {r : Refusal} → b ≡ Err r → flatten_of bytes s room ≡ refused (number r)
     unfolding flatten_of
     unread q = rw (← e, p, ← f, q) refl
 
-    pub readable : {index : List ℕ} {n : ℕ} → b ≡ Ok n → Usable sig s index b → Readable sig s index n
-    unfolding rule_at
-    readable q u = record { bytes = bytes; signature_read = sym (rw p at e); rule_read = sym (rw q at f); rule_indexed = rw q at u }
-
-    pub flatten_read : {n : ℕ} → b ≡ Ok n → flatten_of bytes s room ≡ rule_outcome sig s room
-    unfolding flatten_of rule_outcome rule_at
-    flatten_read q = rw (← e, p, ← f, q) refl
+    pub flatten_read : {x : RuleBy} → b ≡ Ok x → x.sig ≡ sig → flatten_of bytes s room ≡ rule_outcome x room
+    unfolding flatten_of rule_outcome
+    flatten_read q k = rw (← e, p, ← f, q, ← k) refl
 
 -- Written bytes stand at the buffer's front.
 pub record Front (n : ℕ) (out : List ℕ) (o : Outcome (List ℕ)) : Type 0 where

@@ -2,14 +2,13 @@
 use Rattle.std.specs.Prelude.{List, ◌≡◌, ℕ, ◌*◌, ◌≤◌, Result, Ok, Err, length, take, replicate}
 use Rattle.definition.specs.Base.{Outcome, refused, accepted, on_accepted}
 use Rattle.definition.specs.Limits.{field_limit}
-use Rattle.definition.specs.Signature.{Signature}
 use Rattle.definition.specs.Walk.{State, walk_of}
 use Rattle.definition.specs.Writer.{group_bytes_of}
 use Rattle.definition.specs.Flatten.{group_left, fitted, laid_over}
 use Rattle.definition.specs.Demands.{Demand3}
 use Rattle.records.specs.Refusals.{outcome_by}
 use Rattle.records.specs.declared.refusal.Refusal.{Refusal}
-use Rattle.rule.specs.Lookup.{rule_at}
+use Rattle.rule.specs.Views.{RuleBy}
 use Rattle.walk.specs.Went.{whole_walk}
 
 -- How many bytes were written, or the refusal's number.
@@ -38,8 +37,8 @@ pub record Untyped (types : List ℕ) (n : ℕ) : Type 0 where
   pub enough : field_limit * n ≤ length types
 
 -- What comes of the walk, and what flatten makes of an accepted rule.
-unfoldable pub walk_outcome : Signature → List ℕ → ℕ → Outcome (List ℕ)
-walk_outcome sig s room = on_accepted (whole_walk sig s) (λ (state : State). fitted room (group_bytes_of (group_left (rule_at s) state)))
+unfoldable pub walk_outcome : RuleBy → ℕ → Outcome (List ℕ)
+walk_outcome x room = on_accepted (whole_walk x) (λ (state : State). fitted room (group_bytes_of (group_left x.rule state)))
 
-unfoldable pub rule_outcome : Signature → List ℕ → ℕ → Outcome (List ℕ)
-rule_outcome sig s room = on_accepted (walk_of sig (rule_at s)) (λ (state : State). fitted room (group_bytes_of (group_left (rule_at s) state)))
+unfoldable pub rule_outcome : RuleBy → ℕ → Outcome (List ℕ)
+rule_outcome x room = on_accepted (walk_of x.sig x.rule) (λ (state : State). fitted room (group_bytes_of (group_left x.rule state)))

@@ -1,28 +1,21 @@
 // The entry: a signature and a rule as bytes, flattened into a lent buffer.
-ghost use Rattle.std.specs.Prelude.{◌≡◌, ◌≤◌, length};
+ghost use Rattle.std.specs.Prelude.{◌≡◌, length};
 ghost use Rattle.definition.specs.Flatten.{group_left, fitted, flatten_of, laid_over};
-ghost use Rattle.definition.specs.Walk.{completed};
 ghost use Rattle.definition.specs.Writer.{group_bytes_of};
-ghost use Rattle.rule.specs.Lookup.{rule_at};
-ghost use Rattle.signature.specs.Index.{signature_at, Indexed};
-ghost use Rattle.plan.specs.Table.{Tabled};
-ghost use Rattle.walk.specs.Tables.{tables, no_rows};
-ghost use Rattle.walk.specs.Ended.{Ended, Ground, Readable};
 ghost use Rattle.flatten.specs.Answers.{Untyped, Writes, outcome_in, answer_of, Demanded, walk_outcome, rule_outcome};
 
-use flags::{Held, NO_HELD};
 use naming::variables::VARIABLES;
-use plan::sources::{unmapped_auxiliary, unmapped_kind};
-use plan::table::{Kinds, NO_KINDS, kind_table};
+use plan::plan::Plan;
+use plan::table::NO_KINDS;
 use records::refusal::Refusal;
-use rule::elements::element_count;
-use rule::ids::{FIELDS, RULE_INDEX, STRUCTURES};
+use rule::ids::{FIELDS, RULE_INDEX};
 use rule::reader::read_rule;
+use rule::views::Rule;
 use signature::ids::INDEX;
-use signature::lookup::Signature;
 use signature::reader::read_signature;
-use walk::tables::{SORTS, UNREACHED, initial_matching_stmts, no_el_vars};
-use walk::walk::{first_row, meet_map, walk_map};
+use walk::tables::{initial_matching_stmts, no_tables};
+use walk::walk::{first_row, walk_map};
+use walk::walked::Walked;
 use writer::output::put_group;
 
 // At most so many bytes of a buffer are used.
@@ -34,101 +27,54 @@ const FEW_STRUCTURES: usize = 4;
 const FEW_VARIABLES: usize = FIELDS * FEW_STRUCTURES;
 
 // The group, measured first, then written where it fits.
-fn write_group(
-    out: &mut [u8],
-    s: &[u8],
-    index: &[u16; RULE_INDEX],
-    n: usize,
-    kinds: &Kinds,
-    sources: &[u8; STRUCTURES],
-    masks: &[[Held; SORTS]; STRUCTURES],
-    vars: &[[u16; FIELDS]; STRUCTURES],
-    types: &[u8],
-) -> Result<usize, Refusal>
-    requires n_value { n ≡ length (rule_at s.now).structures }
-    requires ended { Ended s.now index.now types.now kinds.now (tables sources.now masks.now vars.now) }
-    ensures { (e : Ended s.now index.now types.now kinds.now (tables sources.now masks.now vars.now))
-        → Writes result out.old out.new
-        (fitted (length out.old) (group_bytes_of (group_left (rule_at s.now) e.state))) }
+fn write_group(out: &mut [u8], w: &Walked<'_>) -> Result<usize, Refusal>
+    ensures { Writes result out.old out.new (fitted (length out.old) (group_bytes_of (group_left w.now.rule w.now.state))) }
 {
     let room = out.len().min(ANSWER);
     // A refusal leaves the buffer as it was, so it comes before the first byte: lent an empty slice, `put_group` only counts.
-    if room < put_group(&mut [], s, index, n, kinds, sources, masks, vars, types) {
+    if room < put_group(&mut [], w) {
         return Err(Refusal::NoRoom);
     }
-    Ok(put_group(out, s, index, n, kinds, sources, masks, vars, types))
+    Ok(put_group(out, w))
 }
 
-// The walk over all pairs that have a kind, by target, then source; then the group of what it leaves. The variables come by value, none
-// given out yet.
-fn flatten_morphisms(
-    sig: &Signature<'_>,
-    s: &[u8],
-    index: &[u16; RULE_INDEX],
-    n: usize,
-    kinds: &Kinds,
-    mut vars: [[u16; FIELDS]; STRUCTURES],
-    types: &mut [u8],
-    out: &mut [u8],
-) -> Result<usize, Refusal>
-    requires untyped { Untyped types.old n × (vars ≡ no_rows) }
-    requires ground { Ground sig.now s.now index.now }
-    requires n_value { (n ≡ length (rule_at s.now).structures) × Tabled kinds.now (completed (rule_at s.now).maps (rule_at s.now).kinds (rule_at
-        s.now).auxiliaries) }
-    ensures { Writes result out.old out.new (walk_outcome sig.now s.now (length out.old)) }
+// The walk over all pairs that have a kind, by target, then source; then the group of what it leaves. The table of the variables' types has a
+// place for each element.
+fn flatten_morphisms(plan: &Plan<'_>, types: &mut [u8], out: &mut [u8]) -> Result<usize, Refusal>
+    requires { Untyped types.old (length plan.now.rule.structures) }
+    ensures { Writes result out.old out.new (walk_outcome plan.now (length out.old)) }
 {
-    let mut sources = [UNREACHED; STRUCTURES];
-    sources[0] = 0;
-    let mut masks = [[NO_HELD; SORTS]; STRUCTURES];
-    masks[0] = initial_matching_stmts();
-    vars[0] = first_row(types, s, index);
-    let mut next = element_count(index, 0) as u16;
-    for target in 0..n {
-        for source in 0..n {
-            if let Some(kind) = kinds[source][target] {
-                let v = meet_map(s, index, source, target, kind, next);
-                let m = walk_map(
-                    sig,
-                    s,
-                    index,
-                    v,
-                    vars[source],
-                    &mut sources,
-                    &mut masks,
-                    types,
-                )?;
-                let row = m.vars;
-                vars[target] = row;
-                next = m.next;
+    let rule = plan.rule();
+    let structures = rule.structures();
+    let first = rule.structure(0);
+    let mut tables = no_tables();
+    tables.sources[0] = Some(0);
+    tables.masks[0] = initial_matching_stmts();
+    tables.vars[0] = first_row(types, &first);
+    let mut next = first.element_count() as u16;
+    for target in 0..structures {
+        for source in 0..structures {
+            if let Some(kind) = plan.kind(source, target) {
+                next = walk_map(plan, source, target, kind, next, &mut tables, types)?;
             }
         }
     }
-    write_group(out, s, index, n, kinds, &sources, &masks, &vars, types)
+    let w = Walked {
+        plan,
+        tables: &tables,
+        types,
+    };
+    write_group(out, &w)
 }
 
-// An accepted rule, with its signature and its index. The table of its variables' types is lent, with a place for each element.
-fn flatten_rule(
-    sig: &Signature<'_>,
-    s: &[u8],
-    index: &[u16; RULE_INDEX],
-    n: usize,
-    types: &mut [u8],
-    out: &mut [u8],
-) -> Result<usize, Refusal>
-    requires untyped { Untyped types.old n }
-    requires readable { Readable sig.now s.now index.now n }
-    ensures { Writes result out.old out.new
-        (rule_outcome sig.now s.now (length out.old)) }
+// An accepted rule: 21 and 22, then the walk.
+fn flatten_rule(rule: &Rule<'_>, types: &mut [u8], out: &mut [u8]) -> Result<usize, Refusal>
+    requires { Untyped types.old (length rule.now.rule.structures) }
+    ensures { Writes result out.old out.new (rule_outcome rule.now (length out.old)) }
 {
-    if unmapped_auxiliary(s, index) {
-        return Err(Refusal::UnmappedAuxiliary);
-    }
-    if unmapped_kind(s, index) {
-        return Err(Refusal::UnmappedKind);
-    }
     let mut kinds = NO_KINDS;
-    kind_table(s, index, &mut kinds);
-    flatten_morphisms(sig, s, index, n, &kinds, no_el_vars(), types, out)
+    let plan = Plan::new(rule, &mut kinds)?;
+    flatten_morphisms(&plan, types, out)
 }
 
 // Flatten: the group at the front of the buffer, whose rest is as it was, and its length; or a refusal, and the buffer as it was.
@@ -140,11 +86,11 @@ pub fn flatten(sig: &[u8], rule: &[u8], out: &mut [u8]) -> Result<usize, Refusal
     let mut symbols = [0u16; INDEX];
     let signature = read_signature(sig, &mut symbols)?;
     let mut index = [0u16; RULE_INDEX];
-    let n = read_rule(&signature, rule, &mut index)?;
-    if n <= FEW_STRUCTURES {
+    let accepted = read_rule(&signature, rule, &mut index)?;
+    if accepted.structures() <= FEW_STRUCTURES {
         let mut types = [0u8; FEW_VARIABLES];
-        return flatten_rule(&signature, rule, &index, n, &mut types, out);
+        return flatten_rule(&accepted, &mut types, out);
     }
     let mut types = [0u8; VARIABLES];
-    flatten_rule(&signature, rule, &index, n, &mut types, out)
+    flatten_rule(&accepted, &mut types, out)
 }

@@ -1,19 +1,20 @@
 -- The check of a section: the fields of one letter from a position on, whatever a field's check is.
-use Prim.Native.Nat.{ℕ, ◌+◌, ◌≤◌, ◌<◌}
+use Prim.Native.Nat.{ℕ, ◌+◌, ◌-◌, ◌≤◌, ◌<◌}
 use mathlib.Core.List.{List, [], ◌∷◌, ◌++◌, append_assoc, append-nil}
 use mathlib.Core.Option.{Option, none, some}
-use mathlib.Core.Path.{◌≡◌, refl, ◌∙◌}
+use mathlib.Core.Path.{◌≡◌, refl, sym, ◌∙◌}
 use lib.ListN.{length, length-append}
 use borrow.Author.Tests.{eq-eqb, ne_eqb}
 use Rattle.definition.specs.Records.{Field, fault_from}
-use Rattle.records.specs.Places.{field_at, field_of, Run, none, got}
-use Rattle.records.specs.declared.fields.Field as read
-use Rattle.std.proofs.Common.{Option as Read, Some, None, Err}
-use Rattle.records.proofs.Runs.{Behind, run_got, run_bad, run_end, run_snoc}
+use Rattle.records.specs.Places.{field_at, field_of, stretch, Run, none, got}
+use Rattle.records.specs.Iter.{fields_in}
+use Rattle.records.proofs.FieldsIn.{run_fields}
+use Rattle.std.proofs.Common.{Err}
+use Rattle.records.proofs.Runs.{Behind, run_got, run_snoc}
 use Rattle.group.specs.Sections.{leading, trailing}
 use Rattle.records.specs.Refusals.{number}
 use Rattle.records.specs.declared.refusal.Refusal.{Refusal}
-use Rattle.group.specs.Answers.{HereAt, Section, counted}
+use Rattle.group.specs.Answers.{Section, counted}
 
 -- The check stands at a position, behind so many fields of the letter: what is left gives the answer.
 pub record Along (s : List ℕ) (from end letter : ℕ) (check : ℕ → Option Field → Field → Option ℕ) (fs : List Field) (at count : ℕ) : Type 0 where
@@ -38,22 +39,15 @@ module _ {s : List ℕ} {from end letter : ℕ} {check : ℕ → Option Field �
     pub front_over : leading letter w.rest ≡ []
     pub back_over : trailing letter w.rest ≡ w.rest
 
-  pub over_end : end ≤ at → Over
+  pub over_done : end ≤ length s → fields_in (stretch s at (end - at)) ≡ [] → Over
   unfolding leading trailing
-  over_end h = let e = run_end w.run h in record { front_over = rw e; back_over = rw e }
+  over_done h n = let e : w.rest ≡ [] = sym (run_fields w.run h) ∙ n in record { front_over = rw e; back_over = rw e }
 
   pub over_stop : at < end → {l start len next : ℕ} → field_at s at ≡ got l start len next → (l ≡ letter → ⊥) → Over
   unfolding leading trailing
   over_stop lt {l} e q =
       let b = run_got w.run lt e in
       record { front_over = rw (b.same, ne_eqb l letter q); back_over = rw (b.same, ne_eqb l letter q) }
-
-  pub over_none : at < end → HereAt None s at letter → Over
-  over_none lt n = go (field_at s at) refl
-    where
-      go : (f : Read read.Field) → field_at s at ≡ f → Over
-      go None e = run_bad w.run lt e
-      go (Some f) e = over_stop lt e (λ q. n.is f.start f.len f.next (rw q at e))
 
   pub over_front : Over → leading letter fs ≡ w.done
   over_front v = w.front ∙ rw (v.front_over, append-nil)

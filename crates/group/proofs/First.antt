@@ -7,6 +7,9 @@ use mathlib.Core.Path.{◌≡◌, refl, sym, ◌∙◌, ap}
 use Rattle.definition.specs.Records.{Field}
 use Rattle.records.specs.Places.{field_at, field_of, Run, none, more, got}
 use Rattle.records.proofs.Link.{got_same}
+use Rattle.records.specs.Refusals.{number}
+use Rattle.records.specs.declared.refusal.Refusal.{Refusal}
+use Rattle.std.proofs.Common.{Err}
 use Rattle.group.specs.Answers.{First, counted}
 
 -- The first field of a run is the one that is read.
@@ -23,3 +26,6 @@ module _ {s : List ℕ} {at end l start len next : ℕ} {f : Field} {fs : List F
     (check : Field → Option ℕ) where
   pub first_sound : {count : ℕ} → ((letter : ℕ) → option.none ≡ check (field_of s letter start len)) → First (counted count next) s at end (check f) f fs
   first_sound k = record { is = (ap check (run_cons r e).0 ∙ sym (k l), rw (run_cons r e).0 (more e none), (run_cons r e).1) }
+
+  pub first_fault : {n : Refusal} → ((letter : ℕ) → some (number n) ≡ check (field_of s letter start len)) → First (Err n) s at end (check f) f fs
+  first_fault k = record { is = ap check (run_cons r e).0 ∙ sym (k l) }

@@ -3,6 +3,8 @@ pub mod Ordered
 pub mod Shape
 pub mod Leading
 pub mod Along
+pub mod Given
+pub mod Stating
 pub mod Drawn
 pub mod First
 pub mod Positions
@@ -12,6 +14,7 @@ pub mod Whole
 pub mod Passing
 pub mod Listing
 pub mod Values
+pub mod Sections
+pub mod Reading
 pub mod SoundStatement
 pub mod Writing
-pub mod View

@@ -1,70 +1,80 @@
 -- What the index and the bytes say of an accepted group's variables and rules.
 use mathlib.Core.Bool.{false, Bool, true, ◌&&◌}
-use Prim.Native.Nat.{ℕ, ◌+◌, ◌-◌, ◌*◌, ◌/◌, ◌≤◌, ◌<◌}
+use Prim.Native.Nat.{ℕ, ◌+◌, ◌-◌, ◌/◌, ◌≤◌, ◌<◌}
 use native.Mathlib.Omega.{arith}
 use mathlib.Core.List.{List, [], ◌∷◌}
 use mathlib.Core.Path.{◌≡◌, refl, sym, ◌∙◌, ap}
 use lib.ListN.{length, get_or, set, take, drop, length-set, drop_of_length-le}
 use lib.Seq.{take_all}
 use Rattle.definition.specs.Letters.{letter_w, letter_u}
-use Rattle.definition.specs.Limits.{column_limit}
-use Rattle.definition.specs.Records.{Field, Block, numbers, with_letter, blocks}
+use Rattle.definition.specs.Limits.{variable_limit, column_limit}
+use Rattle.definition.specs.Records.{Field, numbers, number_at, with_letter, blocks}
+use Rattle.definition.specs.Signature.{Signature}
 use Rattle.definition.specs.Group.{Variable, FlatRule, variable_of, flat_rule_of, group_of, group_part}
 use Rattle.definition.specs.Scope.{variable_numbered, same_variable, same_variables}
 use Rattle.laws.proofs.Lists.{length_each, get_d_each}
-use Rattle.records.specs.Places.{two_at, stretch}
+use Rattle.laws.proofs.Numbers.{length_numbers}
+use Rattle.records.specs.Places.{two_at, stretch, field_of}
 use Rattle.records.specs.Held.{field_in}
 use Rattle.records.proofs.Link.{one_more}
 use Rattle.records.proofs.Index.{length_held, held_get}
-use Rattle.records.proofs.Numbers.{length_numbers_in, numbers_in_lem, take_stretch}
+use Rattle.records.proofs.Numbers.{number_in, drop_stretch}
+use native.Mathlib.Nat.{add-zero}
 use Rattle.records.proofs.Parts.{store_more, take_more}
-use Rattle.records.proofs.Runs.{run_within}
-use Rattle.laws.proofs.Numbers.{take_numbers}
-use Rattle.group.specs.Index.{variables_from, premises_at, conclusions_at, rule_end, VariableAt, no_block, Rules}
-use Rattle.group.specs.Lookups.{table, Listed, NameAt, SectionsAt}
-use Rattle.group.proofs.Drawn.{variable_type, variable_name}
+use Rattle.group.specs.Index.{variables_from, VariableAt, no_block, Rules, Indexed}
+use Rattle.group.specs.Lookups.{Accepted, content, Named}
 
--- A variable is what the field at its entry says.
-module _ {s index : List ℕ} {count : ℕ} (w : Listed s index count) where
-  variable_is : (v : ℕ) → v < count → variable_numbered (table s) v ≡ variable_of (field_in s (get_or index (variables_from + v) 0))
+-- The variables of the group, as many as the index counts: one is what the field at its entry says.
+module _ {sig : Signature} {s index : List ℕ} {count rules : ℕ} (w : Indexed sig s index count rules) where
+  abbrev variables : List Variable
+  variables = (group_of (group_part s).fields).variables
+
+  fields_length : length (with_letter letter_w (group_part s).fields) ≡ count
+  fields_length = rw (← w.variable.held) (length_held s index variables_from count)
+
+  pub variables_length : length variables ≡ count
   unfolding group_of
-  variable_is v h =
-      let d : Field = record { letter = letter_w; content = [] } in
-      let l : v < length (with_letter letter_w (group_part s).fields) = rw (← w.held, length_held) h in
-      get_d_each variable_of (with_letter letter_w (group_part s).fields) v d (record { type = 0; name = [] }) l
-      ∙ ap variable_of (rw (← w.held) (held_get s index variables_from count v d h))
+  variables_length = length_each variable_of (with_letter letter_w (group_part s).fields) ∙ fields_length
 
-  module _ (v p : ℕ) (h : v < count) (e : p ≡ get_or index (variables_from + v) 0) where
-    pub variable_there : VariableAt s p
-    variable_there = rw e (w.each v h)
+  module _ (v : ℕ) (h : v < length variables) where
+    listed : v < count
+    listed = rw variables_length at h
 
-    there : variable_numbered (table s) v ≡ variable_of (field_in s p)
-    there = rw e (variable_is v h)
+    pub variable_entry : variables_from + v < variable_limit
+    variable_entry = let few = w.variable.few in let l = listed in omega arith
 
-    pub type_is : two_at s (p + 3) ≡ (variable_numbered (table s) v).type
-    unfolding field_in
-    type_is =
-        let a = variable_there in
-        sym (ap (λ (x : Variable). x.type) there ∙ variable_type s (p + 3) (two_at s (p + 1)) (omega (arith, a.within)) (get_or s p 0) a.long)
+    module _ {p : ℕ} (e : p ≡ get_or index (variables_from + v) 0) where
+      pub variable_there : VariableAt s p
+      variable_there = rw e (w.variable.each v listed)
 
-    pub name_is : {start len : ℕ} → start ≡ p + 5 → len ≡ two_at s (p + 1) - 2 → NameAt s start len (variable_numbered (table s) v).name
-    unfolding field_in
-    name_is {start} {len} f g =
-        let a = variable_there in
-        let q : p + 3 + 2 ≡ p + 5 = omega arith in
-        record {
-          within = omega (arith, a.within, a.long);
-          same = rw (f, g) (sym (ap (λ (x : Variable). x.name) there
-              ∙ variable_name s (p + 3) (two_at s (p + 1)) (omega (arith, a.within)) (get_or s p 0) ∙ rw q));
-        }
+      pub variable_is : variable_of (field_in s p) ≡ variable_numbered variables v
+      unfolding group_of
+      variable_is =
+          let d : Field = record { letter = letter_w; content = [] } in
+          rw e (sym (get_d_each variable_of (with_letter letter_w (group_part s).fields) v d (record { type = 0; name = [] }) (rw fields_length listed)
+          ∙ ap variable_of (rw (← w.variable.held) (held_get s index variables_from count v d listed))))
 
--- A rule's sections lie in the record.
-pub sections_are : {s index : List ℕ} {count k : ℕ} {bs : List Block} {premises conclusions end : ℕ} → Rules s index count bs → k < count
-    → premises ≡ premises_at s index k → conclusions ≡ conclusions_at index k → end ≡ rule_end index k
-    → SectionsAt s premises conclusions end (get_or bs k no_block)
-sections_are {k = k} w h a b c =
-    let r = w.each k h in
-    rw (a, b, c) (record { premise = r.premise; conclusion = r.conclusion; within = run_within r.conclusion (run_within r.premise r.within) })
+-- Its type and its name.
+module _ (s : List ℕ) (start len : ℕ) (h : start + len ≤ length s) (letter : ℕ) where
+  variable_type : 2 ≤ len → (variable_of (field_of s letter start len)).type ≡ two_at s start
+  unfolding variable_of
+  variable_type l = number_in s start len h 0 (omega arith) ∙ rw (add-zero start)
+
+  variable_name : (variable_of (field_of s letter start len)).name ≡ stretch s (start + 2) (len - 2)
+  unfolding variable_of
+  variable_name = drop_stretch s start len 2
+
+module _ {s : List ℕ} {p : ℕ} (a : VariableAt s p) {x : Variable} (e : variable_of (field_in s p) ≡ x) where
+  pub type_is : two_at s (p + 3) ≡ x.type
+  unfolding field_in
+  type_is = sym (variable_type s (p + 3) (two_at s (p + 1)) (omega (arith, a.within)) (get_or s p 0) a.long) ∙ ap (λ (x : Variable). x.type) e
+
+  pub name_is : {from end : ℕ} → from ≡ p + 5 → end ≡ p + 3 + two_at s (p + 1) → take (end - from) (drop from s) ≡ x.name
+  unfolding field_in stretch
+  name_is {from} {end} f g =
+      let q : p + 3 + 2 ≡ from = omega arith in
+      let n : two_at s (p + 1) - 2 ≡ end - from = omega (arith, a.long) in
+      rw (q, n) at (sym (variable_name s (p + 3) (two_at s (p + 1)) (omega (arith, a.within)) (get_or s p 0)) ∙ ap (λ (x : Variable). x.name) e)
 
 -- The rules of the group, as many as the index counts.
 module _ {s index : List ℕ} {count : ℕ} (w : Rules s index count (blocks letter_u (group_part s).fields)) where
@@ -77,27 +87,18 @@ module _ {s index : List ℕ} {count : ℕ} (w : Rules s index count (blocks let
   unfolding group_of
   rule_is k d h = get_d_each flat_rule_of (blocks letter_u (group_part s).fields) k no_block d (rw w.counted h)
 
--- Numbers of a stretch, two bytes each.
-module _ (s : List ℕ) (at count : ℕ) (h : at + 2 * count ≤ length s) where
-  half : 2 * count / 2 ≡ count
-  half = omega arith
+-- Numbers of two bytes each, one by one.
+module _ (s : List ℕ) where
+  left_on : (i : ℕ) → i < length s / 2 → drop i (numbers s) ≡ number_at i s ∷ drop (i + 1) (numbers s)
+  unfolding number_at
+  left_on i l = one_more (numbers s) i (rw length_numbers l)
 
-  pub numbers_count : length (numbers (stretch s at (2 * count))) ≡ count
-  numbers_count = length_numbers_in s at (2 * count) h ∙ half
+  pub number_named : {g : Accepted} → Named g (numbers s) → {i n : ℕ} → i < length s / 2 → n ≡ number_at i s → n < length (content g).variables
+  unfolding number_at
+  number_named w {i} l e = rw e (w.each i (rw length_numbers l))
 
-  pub number_at_lem : (i : ℕ) → i < count → get_or (numbers (stretch s at (2 * count))) i 0 ≡ two_at s (at + 2 * i)
-  number_at_lem i l = numbers_in_lem s at (2 * count) h i (rw half l)
-
-  -- The first of them.
-  pub taken : (k : ℕ) → k ≤ count → take k (numbers (stretch s at (2 * count))) ≡ numbers (stretch s at (2 * k))
-  taken k l = take_numbers k (stretch s at (2 * count)) ∙ ap numbers (take_stretch s at (2 * count) (2 * k) (omega arith))
-
-  left_on : (i : ℕ) → i < count
-      → drop i (numbers (stretch s at (2 * count))) ≡ two_at s (at + 2 * i) ∷ drop (i + 1) (numbers (stretch s at (2 * count)))
-  left_on i l = one_more (numbers (stretch s at (2 * count))) i (rw numbers_count l) ∙ rw (number_at_lem i l)
-
-  left_end : (i : ℕ) → count ≤ i → drop i (numbers (stretch s at (2 * count))) ≡ []
-  left_end i l = let e : length (numbers (stretch s at (2 * count))) ≤ i = rw numbers_count l in drop_of_length-le (numbers (stretch s at (2 * count))) e
+  left_end : (i : ℕ) → length s / 2 ≤ i → drop i (numbers s) ≡ []
+  left_end i l = let e : length (numbers s) ≤ i = rw length_numbers l in drop_of_length-le (numbers s) e
 
 -- A loop that fills a statement's array with the members of a list: the first i stand there.
 pub record Filling (xs vars : List ℕ) (i : ℕ) : Type 0 where
@@ -116,30 +117,29 @@ module _ {xs vars : List ℕ} {i n : ℕ} (many : length xs ≡ n) (w : Filling 
   pub filled : i ≤ n → n ≤ i → take n vars ≡ xs
   filled a b = let e : i ≡ n = omega arith in rw e at w.same ∙ take_all n xs (omega arith)
 
--- Whether the variables at two positions are the same, from an index on.
-unfoldable pub same_left : List ℕ → ℕ → ℕ → ℕ → ℕ → Bool
-same_left s a b count i = same_variables (table s) (drop i (numbers (stretch s a (2 * count)))) (drop i (numbers (stretch s b (2 * count))))
+-- Whether two lists of variables are the same, from an index on.
+unfoldable pub same_left : List Variable → List ℕ → List ℕ → ℕ → Bool
+same_left variables a b i = same_variables variables (drop i (numbers a)) (drop i (numbers b))
 
-pub same_first : (s : List ℕ) (a b count : ℕ)
-    → same_left s a b count 0 ≡ same_variables (table s) (numbers (stretch s a (2 * count))) (numbers (stretch s b (2 * count)))
+pub same_first : (vs : List Variable) (a b : List ℕ) → same_left vs a b 0 ≡ same_variables vs (numbers a) (numbers b)
 unfolding same_left
-same_first s a b count = refl
+same_first vs a b = refl
 
-module _ (s : List ℕ) (a b count : ℕ) (p : a + 2 * count ≤ length s) (q : b + 2 * count ≤ length s) where
-  module _ (i : ℕ) (l : i < count) where
-    same_turn : same_left s a b count i ≡ (same_variable (table s) (two_at s (a + 2 * i)) (two_at s (b + 2 * i)) && same_left s a b count (i + 1))
+module _ (variables : List Variable) (a b : List ℕ) (e : length a ≡ length b) where
+  module _ (i : ℕ) (l : i < length a / 2) where
+    same_turn : same_left variables a b i ≡ (same_variable variables (number_at i a) (number_at i b) && same_left variables a b (i + 1))
     unfolding same_left same_variables
-    same_turn = rw (left_on s a count p i l, left_on s b count q i l)
+    same_turn = rw (left_on a i l, left_on b i (rw e at l))
 
-    pub same_next : same_variable (table s) (two_at s (a + 2 * i)) (two_at s (b + 2 * i)) ≡ true → same_left s a b count i ≡ same_left s a b count (i + 1)
-    same_next e = same_turn ∙ rw e
+    pub same_next : same_variable variables (number_at i a) (number_at i b) ≡ true → same_left variables a b i ≡ same_left variables a b (i + 1)
+    same_next q = same_turn ∙ rw q
 
-    pub same_stop : same_variable (table s) (two_at s (a + 2 * i)) (two_at s (b + 2 * i)) ≡ false → same_left s a b count i ≡ false
-    same_stop e = same_turn ∙ rw e
+    pub same_stop : same_variable variables (number_at i a) (number_at i b) ≡ false → same_left variables a b i ≡ false
+    same_stop q = same_turn ∙ rw q
 
-  pub same_last : (i : ℕ) → count ≤ i → same_left s a b count i ≡ true
+  pub same_last : (i : ℕ) → length a / 2 ≤ i → same_left variables a b i ≡ true
   unfolding same_left same_variables
-  same_last i l = rw (left_end s a count p i l, left_end s b count q i l)
+  same_last i l = rw (left_end a i l, left_end b i (rw e at l))
 
 -- The steps of a loop that compares them.
 pub ruleset same_steps = (same_first, same_next, same_stop, same_last)

@@ -127,15 +127,15 @@ module _ (sig : Signature) {s : List ℕ} {end : ℕ} {whole : Bool} (p : Parted
 
   -- A fault of the G.
   pub read_title : {r : Result Checked Refusal} {n : Refusal}
-      → ((end : ℕ) (f : Field) (fs : List Field) → Run s 0 end (f ∷ fs) → First r s 0 end (title_fault 0 none f) f fs)
+      → ((f : Field) (fs : List Field) → Run s 0 end (f ∷ fs) → First r s 0 end (title_fault 0 none f) f fs)
       → r ≡ Err n → refused (number n) ≡ read_group sig s
-  read_title t e = drawn _ (faults it sig ∙ rw (rw e at (t end it.head it.tail it.run)).is)
+  read_title t e = drawn _ (faults it sig ∙ rw (rw e at (t it.head it.tail it.run)).is)
 
   -- What the checks told, and that there was no fault: first that of the G.
-  module _ {r₁ : Result Checked Refusal} (t : (end : ℕ) (f : Field) (fs : List Field) → Run s 0 end (f ∷ fs) → First r₁ s 0 end (title_fault 0 none f) f fs)
+  module _ {r₁ : Result Checked Refusal} (t : (f : Field) (fs : List Field) → Run s 0 end (f ∷ fs) → First r₁ s 0 end (title_fault 0 none f) f fs)
       {c₁ next₁ : ℕ} (told₁ : r₁ ≡ counted c₁ next₁) where
     title_checked : First (counted c₁ next₁) s 0 end (title_fault 0 none it.head) it.head it.tail
-    title_checked = rw told₁ at (t end it.head it.tail it.run)
+    title_checked = rw told₁ at (t it.head it.tail it.run)
 
     abbrev Variables : ℕ → Result Checked Refusal → List ℕ → Type 0
     Variables types r index = (signature : Signature) (fs : List Field) → length signature.types ≡ types → Run s next₁ end fs

@@ -1,33 +1,21 @@
 -- The reader's answers as the definition's.
-use Rattle.std.specs.Prelude as std
-use Rattle.std.specs.Prelude.{Result, Ok, Err, Some, None, Bool, not, ◌&&◌, ◌||◌, List, [], ◌∷◌, ◌≡◌, ℕ, zero, suc, ◌+◌, ◌≤◌, ◌<◌, eqb, length, get_or}
+use Rattle.std.specs.Prelude.{Result, Ok, Err, Bool, not, ◌&&◌, ◌||◌, List, [], ◌∷◌, ◌≡◌, ℕ, zero, suc, ◌+◌, ◌≤◌, ◌<◌, eqb, length, get_or}
 use Rattle.std.proofs.Math.Option.{Option, none, some}
-use Rattle.definition.specs.Base.{Outcome, empty}
+use Rattle.definition.specs.Base.{empty}
 use Rattle.definition.specs.Letters.{letter_w, letter_u, letter_b, letter_h, member}
 use Rattle.definition.specs.Limits.{rule_limit}
 use Rattle.definition.specs.Records.{Field, Block, fault_from, with_letter, up_to, blocks}
 use Rattle.definition.specs.Signature.{Signature, type_parents, arity}
-use Rattle.definition.specs.Group.{Group, group_of, group_part, variable_fault, flat_rules_fault}
+use Rattle.definition.specs.Group.{variable_fault, flat_rules_fault}
 use Rattle.definition.specs.Scope.{conclusion_at}
-use Rattle.records.specs.Places.{two_at, field_at, Run, got}
+use Rattle.records.specs.Places.{two_at, Run}
 use Rattle.records.specs.Held.{field_in}
 use Rattle.group.specs.Sections.{leading, trailing, AtRule, block_fault}
-use Rattle.group.specs.Index.{rules_from, Variables, RuleSound, FirstConclusion, no_block, Rules, Indexed}
-use Rattle.records.specs.Refusals.{number, outcome_by}
-use Rattle.records.specs.declared.fields.Field as read
+use Rattle.group.specs.Index.{rules_from, Variables, RuleSound, FirstConclusion, no_block, Rules}
+use Rattle.records.specs.Refusals.{number}
 use Rattle.records.specs.declared.refusal.Refusal.{Refusal}
-use Rattle.group.specs.declared.ids.GroupCounts.{GroupCounts}
 use Rattle.group.specs.declared.reader.Checked.{Checked}
 use Rattle.group.specs.declared.reader.Ruled.{Ruled}
-
--- A group read: refused, or accepted with what its fields say. `Usable` ties the two counts to them.
-abbrev pub group_reading : List ℕ → Result GroupCounts Refusal → Outcome Group
-group_reading s = outcome_by (λ (counts : GroupCounts). group_of (group_part s).fields)
-
--- What is accepted can be looked up.
-abbrev pub Usable : Signature → List ℕ → List ℕ → Result GroupCounts Refusal → Type 0
-Usable sig s index (Err r) = Unit
-Usable sig s index (Ok counts) = Indexed sig s index counts.variables counts.rules
 
 -- So many fields of a section, and where the next one starts.
 abbrev pub counted : ℕ → ℕ → Result Checked Refusal
@@ -41,22 +29,14 @@ ruled conclusions next = Ok record { heads = conclusions; next = next }
 abbrev pub columns_differ : Signature → ℕ → ℕ → ℕ → Bool
 columns_differ sig kind symbol columns = not (eqb columns (arity sig kind symbol)) || (eqb kind member && empty (type_parents sig symbol))
 
--- A field of a letter stands at a position and lies in the record, or none of that letter stands there.
-abbrev HereAs : std.Option read.Field → List ℕ → ℕ → ℕ → Type 0
-HereAs (Some f) s at letter = (field_at s at ≡ got letter f.start f.len f.next) × (at < f.next) × (f.start + f.len ≤ length s) × (f.next ≤ length s)
-HereAs None s at letter = (start len next : ℕ) → field_at s at ≡ got letter start len next → ⊥
-
-pub record HereAt (r : std.Option read.Field) (s : List ℕ) (at letter : ℕ) : Type 0 where
-  pub is : HereAs r s at letter
-
--- Where a section, or a rule, ends: not before its start, and in the record.
+-- Where a section, or a rule, ends: not before its start, and not behind the part.
 abbrev pub Onward : Result Checked Refusal → ℕ → ℕ → Type 0
-Onward (Err r) from size = Unit
-Onward (Ok c) from size = (from ≤ c.next) × (c.next ≤ size)
+Onward (Err r) from end = Unit
+Onward (Ok c) from end = (from ≤ c.next) × (c.next ≤ end)
 
 abbrev pub RuleOnward : Result Ruled Refusal → ℕ → ℕ → ℕ → Type 0
-RuleOnward (Err r) before from size = Unit
-RuleOnward (Ok r) before from size = (before < rule_limit) × (from < r.next) × (r.heads ≤ r.next) × (r.next ≤ size)
+RuleOnward (Err r) before from end = Unit
+RuleOnward (Ok r) before from end = (before < rule_limit) × (from < r.next) × (r.heads ≤ r.next) × (r.next ≤ end)
 
 -- The first field checked: its fault, or what stands behind it.
 abbrev FirstAs : Result Checked Refusal → List ℕ → ℕ → ℕ → Option ℕ → Field → List Field → Type 0

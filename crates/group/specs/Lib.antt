@@ -3,4 +3,5 @@ pub mod Sections
 pub mod Index
 pub mod Answers
 pub mod Lookups
+pub mod Views
 pub mod Written

@@ -1,79 +1,69 @@
 -- What the lookups answer, on the values of an accepted group.
-use Rattle.std.specs.Prelude.{List, [], ◌∷◌, ◌≡◌, ℕ, zero, suc, ◌+◌, ◌-◌, ◌*◌, ◌%◌, ◌≤◌, ◌<◌, ltb, length}
-use Rattle.definition.specs.Base.{pick, each}
-use Rattle.definition.specs.Letters.{letter_w, letter_b, letter_h}
-use Rattle.definition.specs.Records.{Field, Block, numbers, with_letter}
-use Rattle.definition.specs.Signature.{Signature}
-use Rattle.definition.specs.Group as definition
-use Rattle.definition.specs.Group.{Variable, FlatRule, statement_of, group_of, group_part}
-use Rattle.records.specs.Held.{field_in}
-use Rattle.records.specs.Places.{two_at, stretch, Run}
-use Rattle.group.specs.Index.{Variables}
-use Rattle.group.specs.Sections.{Stated}
-use Rattle.group.specs.declared.lookup.Sections.{Sections}
-use Rattle.group.specs.declared.lookup.StatementField.{StatementField}
+use Rattle.std.specs.Prelude.{List, [], ◌≡◌, ℕ, ◌+◌, ◌≤◌, ◌<◌, length, get_or}
+use Rattle.definition.specs.Base.{each}
+use Rattle.definition.specs.Letters.{letter_u, letter_b, letter_h, func_domain}
+use Rattle.definition.specs.Records.{Field, Block, with_letter}
+use Rattle.definition.specs.Signature.{Signature, symbol_count}
+use Rattle.definition.specs.Group.{Statement, FlatRule, Group, statement_of, flat_rule_of, group_of, group_part}
+use Rattle.records.specs.Places.{stretch, Run}
+use Rattle.records.specs.Iter.{fields_in}
+use Rattle.group.specs.Index.{no_block}
 
--- The variables of a group's bytes.
-abbrev pub table : List ℕ → List Variable
-table s = (group_of (group_part s).fields).variables
+-- An accepted group in contracts: the signature that it was read by, and its bytes.
+pub record Accepted : Type 0 where
+  pub signature : Signature
+  pub bytes : List ℕ
 
--- The index holds them.
-abbrev pub Listed : List ℕ → List ℕ → ℕ → Type 0
-Listed s index count = Variables s index count (with_letter letter_w (group_part s).fields)
+-- What it says.
+abbrev pub content : Accepted → Group
+content g = group_of (group_part g.bytes).fields
 
--- A name stands at a position.
-pub record NameAt (s : List ℕ) (start len : ℕ) (name : List ℕ) : Type 0 where
-  pub within : start + len ≤ length s
-  pub same : stretch s start len ≡ name
+-- Its rule at a position.
+abbrev pub rule_numbered : Accepted → ℕ → FlatRule
+rule_numbered g k = get_or (content g).rules k (flat_rule_of no_block)
 
 -- The sections of a rule stand between positions.
 pub record SectionsAt (s : List ℕ) (premises conclusions end : ℕ) (b : Block) : Type 0 where
   pub premise : Run s premises conclusions (with_letter letter_b b.body)
   pub conclusion : Run s conclusions end (with_letter letter_h b.body)
+  pub premises_before : premises ≤ conclusions
+  pub conclusions_before : conclusions ≤ end
   pub within : end ≤ length s
 
--- A B or H field stands at a position.
-pub record StatementAt (s : List ℕ) (at : ℕ) : Type 0 where
-  pub within : at + 3 + two_at s (at + 1) ≤ length s
-  pub long : 3 ≤ two_at s (at + 1)
-  pub odd : two_at s (at + 1) % 2 ≡ 1
+-- Numbers of its variables.
+pub record Named (g : Accepted) (vs : List ℕ) : Type 0 where
+  pub each : (i : ℕ) → i < length vs → get_or vs i 0 < length (content g).variables
 
--- What was read of one as the definition's statement: its variables are the numbers that stand there.
-abbrev pub statement_from : List ℕ → StatementField → definition.Statement
-statement_from s r = record { kind = r.kind; symbol = r.symbol; variables = numbers (stretch s r.start (2 * r.count)) }
+-- A statement about a symbol that the signature has, of variables that the group has.
+pub record Sound (g : Accepted) (x : Statement) : Type 0 where
+  pub symbol : x.symbol < symbol_count g.signature x.kind
+  pub named : Named g x.variables
 
--- It is what the field says; where its variables start, that they lie in the group, and where the next field starts.
-pub record Reads (s : List ℕ) (at : ℕ) (r : StatementField) : Type 0 where
-  pub says : statement_from s r ≡ statement_of (field_in s at)
-  pub begins : r.start ≡ at + 6
-  pub within : r.start + 2 * r.count ≤ length s
-  pub ends : r.next ≡ at + 3 + two_at s (at + 1)
+-- A field that can be read as a statement: it has a kind that there is and a symbol.
+pub record Readable (f : Field) : Type 0 where
+  pub long : 3 ≤ length f.content
+  pub known : (statement_of f).kind ≤ func_domain
 
--- The statements of the fields from one position up to another.
-unfoldable pub fields_up_to : ℕ → List ℕ → ℕ → ℕ → List Field
-fields_up_to zero s at end = []
-fields_up_to (suc k) s at end = pick (ltb at end) (field_in s at ∷ fields_up_to k s (at + 3 + two_at s (at + 1)) end) []
+-- A field that says one.
+pub record SoundField (g : Accepted) (f : Field) : Type 0 where
+  pub long : 3 ≤ length f.content
+  pub says : Sound g (statement_of f)
 
-unfoldable pub statements_in : List ℕ → ℕ → ℕ → List definition.Statement
-statements_in s from end = each statement_of (fields_up_to (end - from) s from end)
+-- No field.
+abbrev pub no_field : Field
+no_field = record { letter = letter_u; content = [] }
 
--- B or H fields without a fault stand there.
-pub record StatementsAt (sig : Signature) (letter variables : ℕ) (s : List ℕ) (from end : ℕ) : Type 0 where
-  pub fields : List Field
-  pub run : Run s from end fields
-  pub stated : Stated sig letter variables fields
+-- Each of some fields says one.
+pub record AllSound (g : Accepted) (fs : List Field) : Type 0 where
+  pub each : (i : ℕ) → i < length fs → SoundField g (get_or fs i no_field)
 
--- So it is with both sections of a rule.
-pub record RuleStands (sig : Signature) (variables : ℕ) (s : List ℕ) (rule : Sections) : Type 0 where
-  pub premise : StatementsAt sig letter_b variables s rule.premises rule.conclusions
-  pub conclusion : StatementsAt sig letter_h variables s rule.conclusions rule.end
+-- The statements of a section's bytes.
+unfoldable pub statements_in : List ℕ → List Statement
+statements_in s = each statement_of (fields_in s)
 
--- They say what a rule says.
-pub record RuleSays (s : List ℕ) (rule : Sections) (x : FlatRule) : Type 0 where
-  pub premise : x.premise ≡ statements_in s rule.premises rule.conclusions
-  pub conclusion : x.conclusion ≡ statements_in s rule.conclusions rule.end
-
--- So many numbers stand from a position on, each of a variable.
-pub record VariablesAt (s : List ℕ) (variables at count : ℕ) : Type 0 where
-  pub within : at + 2 * count ≤ length s
-  pub each : (i : ℕ) → i < count → two_at s (at + 2 * i) < variables
+-- A rule's sections in the group's bytes: their statements are sound, and the conclusions stand at a position.
+pub record RuleStands (g : Accepted) (premises conclusions : List ℕ) (from : ℕ) : Type 0 where
+  pub premise : AllSound g (fields_in premises)
+  pub conclusion : AllSound g (fields_in conclusions)
+  pub within : from + length conclusions ≤ length g.bytes
+  pub same : conclusions ≡ stretch g.bytes from (length conclusions)

@@ -6,6 +6,8 @@ use Rattle.definition.specs.Letters.{letter_u, letter_b, letter_h}
 use Rattle.definition.specs.Records.{Field, Block, Grammar, follows, fault_among}
 use Rattle.definition.specs.Signature.{Signature}
 use Rattle.definition.specs.Group.{group_grammar, premise_kinds, conclusion_kinds, flat_rule_fault, statement_fault}
+use Rattle.group.specs.declared.ids.Side.{Side}
+use Rattle.group.specs.declared.ids.Side.TheVariants.{Premise, Conclusion}
 
 -- The fields of a letter that stand first, and what stands behind them.
 unfoldable pub leading : ℕ → List Field → List Field
@@ -25,6 +27,15 @@ Ordered g behind (f ∷ fs) = (follows g.places behind f.letter ≡ true) × Ord
 abbrev pub AtRule : List Field → Type 0
 AtRule [] = Unit
 AtRule (f ∷ fs) = (f.letter ≡ letter_u) × Ordered group_grammar letter_u fs
+
+-- The field of a letter with a content.
+abbrev pub field_with : ℕ → List ℕ → Field
+field_with letter content = record { letter = letter; content = content }
+
+-- The letter of a side's fields.
+abbrev pub letter_of : Side → ℕ
+letter_of Premise = letter_b
+letter_of Conclusion = letter_h
 
 -- The kinds that a statement of a letter may have.
 abbrev pub kinds_of : ℕ → List ℕ

@@ -4,11 +4,12 @@ use Rattle.definition.specs.Group as definition
 use Rattle.definition.specs.Letters.{letter_w}
 use Rattle.definition.specs.Writer.{two_bytes}
 use Rattle.records.specs.Buffer.{head_bytes}
+use Rattle.signature.specs.Relations.{kind_of, number_of}
 use Rattle.group.specs.declared.statement.Statement.{Statement}
 
 -- What a statement says that is to be written.
 abbrev pub said : Statement → definition.Statement
-said x = record { kind = x.kind; symbol = x.symbol; variables = take x.count x.vars }
+said x = record { kind = kind_of x.relation; symbol = number_of x.relation; variables = take x.count x.vars }
 
 -- What stands before a variable's name: the head of its field, its type.
 unfoldable pub variable_head : ℕ → ℕ → List ℕ

@@ -1,62 +1,51 @@
-// The faults of a G, W, U, B or H field, the lowest number first.
-ghost use Rattle.std.specs.Prelude.{◌≡◌, ℕ, ◌+◌, ◌≤◌, ◌<◌, eqb, length};
+// The faults of a G, W, U, B or H field, by its content, the lowest number first.
+ghost use Rattle.std.specs.Prelude.{◌≡◌, ℕ, ◌<◌, length};
 ghost use Rattle.std.proofs.Math.Option.{Option};
 ghost use Rattle.definition.specs.Base.{has};
 ghost use Rattle.definition.specs.Records.{Field};
-ghost use Rattle.definition.specs.Letters.{member};
 ghost use Rattle.definition.specs.Signature.{Signature, symbol_count};
 ghost use Rattle.definition.specs.Group.{title_fault, variable_fault, flat_rule_fault, statement_fault};
-ghost use Rattle.records.specs.Places.{field_of};
 ghost use Rattle.records.specs.Refusals.{fault_of};
-ghost use Rattle.signature.specs.Index.{signature_at, Indexed};
 ghost use Rattle.signature.specs.Relations.{kind_of, number_of};
-ghost use Rattle.group.specs.Sections.{kinds_of};
+ghost use Rattle.group.specs.Sections.{letter_of, kinds_of, field_with};
 ghost use Rattle.group.specs.Answers.{columns_differ};
 
-use crate::ids::{LETTER_B, NAME_AT, NAME_BYTES, RULES, VARIABLES, VARS_AT};
-use records::fields::{num, two};
-use records::names::bad_name;
-use records::order::named;
+use crate::ids::{NAME_AT, NAME_BYTES, RULES, Side, VARIABLES, VARS_AT};
+use records::contents::{bad_name, named, number};
+use records::fields::num;
 use records::refusal::Refusal;
 use signature::ids::{EQUALITY, FUNC_DOMAIN, FUNCTION, MEMBER, PREDICATE, Relation, TYPE_SET};
 use signature::lookup::{Signature, relation};
 
 // A G field: its name.
 #[tactic(auto, unfolding(definition::specs::Group::title_fault, definition::specs::Base::lowest))]
-pub fn title_fault(s: &[u8], start: usize, len: usize) -> Result<(), Refusal>
-    requires { start + len ≤ length s.now }
+pub fn title_fault(name: &[u8]) -> Result<(), Refusal>
     ensures { (letter before : ℕ) (last : Option Field)
-        → fault_of result ≡ title_fault before last (field_of s.now letter start len) }
+        → fault_of result ≡ title_fault before last (field_with letter name.now) }
 {
-    if bad_name(s, start, len, 1, NAME_BYTES) {
+    if bad_name(name, 1, NAME_BYTES) {
         return Err(Refusal::BadName);
     }
     Ok(())
 }
 
 // A W field: a type, then a name.
-#[tactic(auto, using(crate::proofs::Drawn::variable_tests))]
-pub fn variable_fault(
-    s: &[u8],
-    start: usize,
-    len: usize,
-    types: usize,
-    before: usize,
-) -> Result<(), Refusal>
-    requires { start + len ≤ length s.now }
+#[tactic(auto, unfolding(definition::specs::Group::variable_fault, definition::specs::Group::variable_of, definition::specs::Base::lowest))]
+pub fn variable_fault(content: &[u8], types: usize, before: usize) -> Result<(), Refusal>
     ensures { (sig : Signature) (letter : ℕ) (last : Option Field) → length sig.types ≡ types
-        → fault_of result ≡ variable_fault sig before last (field_of s.now letter start len) }
+        → fault_of result ≡ variable_fault sig before last (field_with letter content.now) }
 {
-    if len < NAME_AT {
+    if content.len() < NAME_AT {
         return Err(Refusal::BadLength);
     }
     if VARIABLES <= before {
         return Err(Refusal::TooMany);
     }
-    if types <= two(s, start) {
+    if types <= usize::from(number(content, 0)) {
         return Err(Refusal::Undeclared);
     }
-    if bad_name(s, start + NAME_AT, len - NAME_AT, 1, NAME_BYTES) {
+    let (_, name) = content.split_at(NAME_AT);
+    if bad_name(name, 1, NAME_BYTES) {
         return Err(Refusal::BadName);
     }
     Ok(())
@@ -64,27 +53,26 @@ pub fn variable_fault(
 
 // A U field: its name.
 #[tactic(auto, unfolding(definition::specs::Group::flat_rule_fault, definition::specs::Base::lowest))]
-pub fn rule_fault(s: &[u8], start: usize, len: usize, before: usize) -> Result<(), Refusal>
-    requires { start + len ≤ length s.now }
-    ensures { (letter : ℕ) → fault_of result ≡ flat_rule_fault before (field_of s.now letter start len) }
+pub fn rule_fault(name: &[u8], before: usize) -> Result<(), Refusal>
+    ensures { (letter : ℕ) → fault_of result ≡ flat_rule_fault before (field_with letter name.now) }
 {
     if RULES <= before {
         return Err(Refusal::TooMany);
     }
-    if bad_name(s, start, len, 1, NAME_BYTES) {
+    if bad_name(name, 1, NAME_BYTES) {
         return Err(Refusal::BadName);
     }
     Ok(())
 }
 
-// May a statement of a kind stand in a field of a letter, B or H?
+// May a statement of a kind stand on a side? The kind is a byte of the record, which may be none that there is.
 #[tactic(auto, unfolding(definition::specs::Base::any, definition::specs::Base::has))]
-fn may_state(letter: u8, kind: u8) -> bool
-    ensures { result ≡ has kind (kinds_of letter) }
+fn may_state(side: Side, kind: u8) -> bool
+    ensures { result ≡ has kind (kinds_of (letter_of side)) }
 {
-    match letter {
-        LETTER_B => matches!(kind, PREDICATE | FUNCTION | MEMBER | EQUALITY | TYPE_SET),
-        _ => matches!(kind, PREDICATE | FUNCTION | MEMBER | EQUALITY | FUNC_DOMAIN),
+    match side {
+        Side::Premise => matches!(kind, PREDICATE | FUNCTION | MEMBER | EQUALITY | TYPE_SET),
+        Side::Conclusion => matches!(kind, PREDICATE | FUNCTION | MEMBER | EQUALITY | FUNC_DOMAIN),
     }
 }
 
@@ -101,29 +89,27 @@ fn bad_columns(sig: &Signature<'_>, rel: Relation, columns: usize) -> bool
 #[tactic(auto, using(crate::proofs::Drawn::statement_tests))]
 pub fn statement_fault(
     sig: &Signature<'_>,
-    s: &[u8],
-    letter: u8,
-    start: usize,
-    len: usize,
+    side: Side,
+    content: &[u8],
     variables: usize,
 ) -> Result<(), Refusal>
-    requires len_in_bounds { start + len ≤ length s.now }
     ensures { (before : ℕ) (last : Option Field) → fault_of result
         ≡ statement_fault sig.now
-        (kinds_of letter) variables before last (field_of s.now letter start len) }
+        (kinds_of (letter_of side)) variables before last (field_with (letter_of side) content.now) }
 {
-    if (len & 1) != 1 || len < VARS_AT {
+    if (content.len() & 1) != 1 || content.len() < VARS_AT {
         return Err(Refusal::BadLength);
     }
-    let kind = s[start];
-    if !may_state(letter, kind) {
+    let kind = content[0];
+    if !may_state(side, kind) {
         return Err(Refusal::Undeclared);
     }
-    let rel = relation(kind, num(s, start + 1));
-    if !sig.declares(rel) || !named(s, start + VARS_AT, len - VARS_AT, variables) {
+    let rel = relation(kind, num(content, 1));
+    let (_, vars) = content.split_at(VARS_AT);
+    if !sig.declares(rel) || !named(vars, variables) {
         return Err(Refusal::Undeclared);
     }
-    if bad_columns(sig, rel, (len - VARS_AT) >> 1) {
+    if bad_columns(sig, rel, vars.len() >> 1) {
         return Err(Refusal::BadArity);
     }
     Ok(())

@@ -1,3 +1,7 @@
+// The numbers of a group: its variables and rules, its letters, its limits, its index.
+ghost use Rattle.std.specs.Prelude.{◌≡◌};
+ghost use Rattle.group.specs.Sections.{letter_of};
+
 // The number of a variable: its position among the W fields. A type of its own, as those of the signature are.
 #[derive(Clone, Copy, PartialEq, Eq, PartialOrd, Ord)]
 pub struct VarId(pub u16);
@@ -7,6 +11,25 @@ pub struct VarId(pub u16);
 pub struct GroupCounts {
     pub variables: usize,
     pub rules: usize,
+}
+
+// The two sides of a rule, each a section of its statements.
+#[derive(Clone, Copy)]
+pub enum Side {
+    Premise,
+    Conclusion,
+}
+
+impl Side {
+    // The letter of its fields.
+    pub fn letter(self) -> u8
+        ensures { result ≡ letter_of self }
+    {
+        match self {
+            Side::Premise => LETTER_B,
+            Side::Conclusion => LETTER_H,
+        }
+    }
 }
 
 // The letters of the record.

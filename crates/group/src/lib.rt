@@ -5,5 +5,6 @@ pub mod faults;
 pub mod ids;
 pub mod lookup;
 pub mod reader;
+pub mod rule;
 pub mod statement;
 pub mod write;

@@ -1,147 +1,106 @@
-// What an accepted group says: its variables, where its rules stand, and its statements.
-ghost use Rattle.std.specs.Prelude.{◌≡◌, ◌*◌, ◌<◌, get_or};
-ghost use Rattle.definition.specs.Letters.{letter_u};
-ghost use Rattle.definition.specs.Records.{numbers, blocks};
-ghost use Rattle.definition.specs.Group.{group_part};
+// A group that was accepted, and what it says: its variables, and its rules.
+ghost use Rattle.std.specs.Prelude.{◌≡◌, ◌<◌, length};
+ghost use Rattle.definition.specs.Records.{numbers};
 ghost use Rattle.definition.specs.Scope.{variable_numbered, same_variable, same_variables};
-ghost use Rattle.records.specs.Places.{stretch};
-ghost use Rattle.group.specs.Index.{conclusions_at, no_block, Rules};
-ghost use Rattle.group.specs.Lookups.{table, Listed, NameAt, SectionsAt, StatementAt, Reads, VariablesAt};
+ghost use Rattle.definition.specs.Group.{variable_of};
+ghost use Rattle.records.specs.Held.{field_in};
+ghost use Rattle.group.specs.Index.{VariableAt, Indexed};
+ghost use Rattle.group.specs.Lookups.{Accepted, content, Named};
 
-use crate::ids::{
-    BEFORE_NAME, BEFORE_VARS, CONCLUSIONS_FROM, FIELD_HEAD, GROUP_INDEX, NAME_AT, RULES_FROM,
-    VARIABLES_FROM, VARS_AT, VarId,
-};
+use crate::ids::{BEFORE_NAME, FIELD_HEAD, GROUP_INDEX, GroupCounts, VARIABLES_FROM, VarId};
+use records::contents::number;
 use records::fields::{num, two};
-use records::order::same_bytes;
 use signature::ids::TypeId;
+use signature::lookup::Signature;
+use std::marker::Model;
 
-// Where a name stands.
-#[derive(Clone, Copy)]
-pub struct Name {
-    pub start: usize,
-    pub len: usize,
+// A group that was accepted: the signature that it was read by, its bytes, the index of its fields, and how many variables and rules
+// there are. In contracts it is that signature and those bytes.
+#[derive(Drop)]
+pub struct Group<'a> {
+    pub(crate) signature: &'a Signature<'a>,
+    pub(crate) bytes: &'a [u8],
+    pub(crate) index: &'a [u16; GROUP_INDEX],
+    pub(crate) counts: GroupCounts,
 }
 
-// A rule: its B fields stand from `premises` to `conclusions`, its H fields from there to `end`.
-#[derive(Clone, Copy)]
-pub struct Sections {
-    pub premises: usize,
-    pub conclusions: usize,
-    pub end: usize,
+impl<'a> Model for Group<'a> {
+    ghost Value = { Accepted };
+
+    ghost view = { λ g. record { signature = g.signature.now; bytes = g.bytes.now } };
+
+    ghost invariant = { λ g. Indexed g.signature.now g.bytes.now g.index.now g.counts.variables g.counts.rules };
 }
 
-// A B or H field: its kind and symbol, how many variables it has, where their numbers start, two bytes each, and where the next
-// field does. The variables stay where they stand: scope compares the first few of them, and an array would be filled for each field.
-#[derive(Clone, Copy)]
-pub struct StatementField {
-    pub kind: u8,
-    pub symbol: u16,
-    pub count: usize,
-    pub start: usize,
-    pub next: usize,
-}
-
-// The type of a variable.
-#[tactic(auto, using(crate::proofs::Values::type_is))]
-pub fn variable_type(s: &[u8], index: &[u16; GROUP_INDEX], variables: usize, v: VarId) -> TypeId
-    requires listed { Listed s.now index.now variables }
-    requires v_lt_variables { v.0 < variables }
-    ensures { result.0 ≡ (variable_numbered (table s.now) v.0).type }
-{
-    let at = usize::from(index[VARIABLES_FROM + usize::from(v.0)]);
-    TypeId(num(s, at + FIELD_HEAD))
-}
-
-// Where the name of a variable stands.
-#[tactic(auto, using(crate::proofs::Values::name_is))]
-pub fn variable_name(s: &[u8], index: &[u16; GROUP_INDEX], variables: usize, v: VarId) -> Name
-    requires listed { Listed s.now index.now variables }
-    requires v_lt_variables { v.0 < variables }
-    ensures { NameAt s.now result.start result.len (variable_numbered (table s.now) v.0).name }
-{
-    let at = usize::from(index[VARIABLES_FROM + usize::from(v.0)]);
-    Name {
-        start: at + BEFORE_NAME,
-        len: two(s, at + 1) - NAME_AT,
+impl<'a> Group<'a> {
+    // The signature that it was read by.
+    pub fn signature(&self) -> &'a Signature<'a>
+        ensures { result.now ≡ self.now.signature }
+    {
+        self.signature
     }
-}
 
-// Are two variables the same, by name and type? Their numbers say nothing: `a1` at 2 and `a` at 12 both print `a12`.
-#[tactic(auto, unfolding(definition::specs::Scope::same_variable))]
-pub fn same_variable(
-    s: &[u8],
-    index: &[u16; GROUP_INDEX],
-    variables: usize,
-    v: VarId,
-    w: VarId,
-) -> bool
-    requires listed { Listed s.now index.now variables }
-    requires v_lt_variables { (v.0 < variables) × (w.0 < variables) }
-    ensures { result ≡ same_variable (table s.now) v.0 w.0 }
-{
-    if variable_type(s, index, variables, v) != variable_type(s, index, variables, w) {
-        return false;
+    // How many rules it has.
+    #[tactic(auto, using(crate::proofs::Values::rules_length))]
+    pub fn rules(&self) -> usize
+        ensures { result ≡ length (content self.now).rules }
+    {
+        self.counts.rules
     }
-    let a = variable_name(s, index, variables, v);
-    let b = variable_name(s, index, variables, w);
-    same_bytes(s, a.start, a.len, b.start, b.len)
-}
 
-// Where the sections of a rule stand.
-pub fn rule_sections(s: &[u8], index: &[u16; GROUP_INDEX], rules: usize, k: usize) -> Sections
-    requires rules { Rules s.now index.now rules (blocks letter_u (group_part s.now).fields) }
-    requires k_lt_rules { k < rules }
-    ensures sections_at { SectionsAt s.now result.premises result.conclusions result.end
-        (get_or (blocks letter_u (group_part s.now).fields) k no_block) }
-    ensures conclusions_value { result.conclusions ≡ conclusions_at index.now k }
-{
-    let at = usize::from(index[RULES_FROM + k]);
-    Sections {
-        premises: at + FIELD_HEAD + two(s, at + 1),
-        conclusions: usize::from(index[CONCLUSIONS_FROM + k]),
-        end: usize::from(index[RULES_FROM + k + 1]),
+    // Where the field of a variable stands.
+    fn field_of(&self, v: VarId) -> usize
+        requires { v.0 < length (content self.now).variables }
+        ensures stands { VariableAt self.now.bytes result }
+        ensures says { variable_of (field_in self.now.bytes result)
+            ≡ variable_numbered (content self.now).variables v.0 }
+    {
+        usize::from(self.index[VARIABLES_FROM + usize::from(v.0)])
     }
-}
 
-// The B or H field at a position.
-#[tactic(auto, using(crate::proofs::View::reads))]
-pub fn read_statement(s: &[u8], at: usize) -> StatementField
-    requires { StatementAt s.now at }
-    ensures { Reads s.now at result }
-{
-    let len = two(s, at + 1);
-    StatementField {
-        kind: s[at + FIELD_HEAD],
-        symbol: num(s, at + FIELD_HEAD + 1),
-        count: (len - VARS_AT) >> 1,
-        start: at + BEFORE_VARS,
-        next: at + FIELD_HEAD + len,
+    // The type of a variable.
+    pub fn variable_type(&self, v: VarId) -> TypeId
+        requires { v.0 < length (content self.now).variables }
+        ensures { result.0 ≡ (variable_numbered (content self.now).variables v.0).type }
+    {
+        let at = self.field_of(v);
+        TypeId(num(self.bytes, at + FIELD_HEAD))
     }
-}
 
-// Are the variables at two positions the same, so many of each?
-#[tactic(auto, using(crate::proofs::Values::same_steps))]
-pub fn same_variables(
-    s: &[u8],
-    index: &[u16; GROUP_INDEX],
-    variables: usize,
-    a: usize,
-    b: usize,
-    count: usize,
-) -> bool
-    requires listed { Listed s.now index.now variables }
-    requires variables_at { VariablesAt s.now variables a count }
-    requires variables_at_2 { VariablesAt s.now variables b count }
-    ensures { result ≡ same_variables (table s.now)
-        (numbers (stretch s.now a (2 * count))) (numbers (stretch s.now b (2 * count))) }
-{
-    for i in 0..count {
-        let v = VarId(num(s, a + 2 * i));
-        let w = VarId(num(s, b + 2 * i));
-        if !same_variable(s, index, variables, v, w) {
-            return false;
+    // The name of a variable.
+    pub fn variable_name(&self, v: VarId) -> &'a [u8]
+        requires { v.0 < length (content self.now).variables }
+        ensures { result.now ≡ (variable_numbered (content self.now).variables v.0).name }
+    {
+        let at = self.field_of(v);
+        let len = two(self.bytes, at + 1);
+        &self.bytes[at + BEFORE_NAME..at + FIELD_HEAD + len]
+    }
+
+    // Are two variables the same, by name and type? Their numbers say nothing: `a1` at 2 and `a` at 12 both print `a12`.
+    #[tactic(auto, unfolding(definition::specs::Scope::same_variable), using(records::proofs::Slices::same_slices))]
+    pub fn same_variable(&self, v: VarId, w: VarId) -> bool
+        requires { (v.0 < length (content self.now).variables) × (w.0 < length (content self.now).variables) }
+        ensures { result ≡ same_variable (content self.now).variables v.0 w.0 }
+    {
+        self.variable_type(v) == self.variable_type(w)
+            && self.variable_name(v) == self.variable_name(w)
+    }
+
+    // Are the variables of two lists the same? Each is of two bytes.
+    #[tactic(auto, using(crate::proofs::Values::same_steps))]
+    pub fn same_variables(&self, a: &[u8], b: &[u8]) -> bool
+        requires same_length { length a.now ≡ length b.now }
+        requires named { Named self.now (numbers a.now) × Named self.now (numbers b.now) }
+        ensures { result ≡ same_variables (content self.now).variables (numbers a.now) (numbers b.now) }
+    {
+        for i in 0..a.len() >> 1 {
+            let v = VarId(number(a, i));
+            let w = VarId(number(b, i));
+            if !self.same_variable(v, w) {
+                return false;
+            }
         }
+        true
     }
-    true
 }

@@ -1,5 +1,5 @@
 // Reading a group: the part before the first field that draws 2, then the faults of its fields, front to back.
-ghost use Rattle.std.specs.Prelude.{◌≡◌, List, ◌∷◌, ℕ, ◌+◌, ◌≤◌, ◌<◌, length};
+ghost use Rattle.std.specs.Prelude.{IfOk, ◌≡◌, List, ◌∷◌, ℕ, ◌+◌, ◌≤◌, ◌<◌, length};
 ghost use Rattle.std.proofs.Math.Option.{none};
 ghost use Rattle.definition.specs.Limits.{group_bytes};
 ghost use Rattle.definition.specs.Records as definition;
@@ -7,13 +7,12 @@ ghost use Rattle.definition.specs.Records.{follows};
 ghost use Rattle.definition.specs.Signature.{Signature};
 ghost use Rattle.definition.specs.Group.{group_grammar, group_part, read_group, title_fault, statement_fault};
 ghost use Rattle.records.specs.Places.{Run, Parted};
+ghost use Rattle.records.specs.Refusals.{outcome_by};
+ghost use Rattle.group.specs.Lookups.{content};
 ghost use Rattle.signature.specs.Index.{signature_at, Indexed};
-ghost use Rattle.group.specs.Sections.{AtRule, kinds_of};
+ghost use Rattle.group.specs.Sections.{AtRule, letter_of, kinds_of};
 ghost use Rattle.group.specs.Index.{index_size};
 ghost use Rattle.group.specs.Answers.{
-  group_reading,
-  Usable,
-  HereAt,
   Onward,
   RuleOnward,
   First,
@@ -26,10 +25,11 @@ ghost use Rattle.group.specs.Answers.{
 
 use crate::faults::{rule_fault, statement_fault, title_fault, variable_fault};
 use crate::ids::{
-    CONCLUSIONS_FROM, GROUP_BYTES, GROUP_INDEX, GroupCounts, LETTER_B, LETTER_G, LETTER_H,
-    LETTER_U, LETTER_W, RULES_FROM, VARIABLES_FROM,
+    CONCLUSIONS_FROM, FIELD_HEAD, GROUP_BYTES, GROUP_INDEX, GroupCounts, LETTER_B, LETTER_G,
+    LETTER_H, LETTER_U, LETTER_W, RULES_FROM, Side, VARIABLES_FROM,
 };
-use records::fields::{Field, read_field};
+use crate::lookup::Group;
+use records::iter::Fields;
 use records::refusal::Refusal;
 use signature::ids::START;
 use signature::lookup::Signature;
@@ -55,7 +55,7 @@ struct Ruled {
     next: usize,
 }
 
-// May a field of a letter stand directly behind one of another?
+// May a field of a letter stand directly behind one of another? A letter is a byte of the record, which may be none that there is.
 #[tactic(auto, unfolding(definition::specs::Records::follows, definition::specs::Base::any, definition::specs::Base::has))]
 fn may_follow(behind: u8, letter: u8) -> bool
     ensures { result ≡ follows group_grammar.places behind letter }
@@ -70,82 +70,68 @@ fn may_follow(behind: u8, letter: u8) -> bool
     }
 }
 
-// The field of a letter that stands at a position, if one does.
-fn field_here(s: &[u8], at: usize, letter: u8) -> Option<Field>
-    ensures { HereAt result s.now at letter }
-{
-    read_field(s, at).filter(|f| f.letter == letter)
-}
-
 // The pass along the letters.
 fn pass(s: &[u8]) -> Passed
     ensures { Parted s.now (group_part s.now) result.end result.whole }
 {
-    let mut at: usize = 0;
+    let mut end: usize = 0;
     let mut behind = START;
-    while at < s.len() {
-        let Some(Field { letter, next, .. }) = read_field(s, at) else {
-            return Passed {
-                end: at,
-                whole: false,
-            };
-        };
-        if !may_follow(behind, letter) {
-            return Passed {
-                end: at,
-                whole: false,
-            };
+    for f in Fields::new(s) {
+        if !may_follow(behind, f.letter) {
+            return Passed { end, whole: false };
         }
-        behind = letter;
-        at = next;
+        behind = f.letter;
+        end += FIELD_HEAD + f.content.len();
     }
     // A G is required, and any letter may be the last.
     Passed {
-        end: at,
-        whole: behind != START,
+        end,
+        whole: end == s.len() && behind != START,
     }
 }
 
-// The G field, which is the first. The pass has read every field of the part, so here and below none is found bad.
-fn title(s: &[u8]) -> Result<Checked, Refusal>
-    ensures by_index { (end : ℕ) (f : definition.Field) (fs : List definition.Field)
+// The G field, which is the first. The pass has read every field up to `end`, so here and below none is found bad.
+fn title(s: &[u8], end: usize) -> Result<Checked, Refusal>
+    requires end_in_bounds { end ≤ length s.now }
+    ensures by_index { (f : definition.Field) (fs : List definition.Field)
         → Run s.now 0 end (f ∷ fs) → First result s.now 0 end (title_fault 0 none f) f fs }
-    ensures onward { Onward result 0 (length s.now) }
+    ensures onward { Onward result 0 end }
 {
-    let f = read_field(s, 0).ok_or(Refusal::BadFields)?;
-    title_fault(s, f.start, f.len)?;
+    let mut fields = Fields::new(&s[..end]);
+    let f = fields.next().ok_or(Refusal::BadFields)?;
+    title_fault(f.content)?;
     Ok(Checked {
         count: 1,
-        next: f.next,
+        next: FIELD_HEAD + f.content.len(),
     })
 }
 
-// The W fields; their positions go into the index.
+// The W fields; their positions go into the index, which is lent as a slice, since that tells its length.
 fn variables(
     s: &[u8],
     from: usize,
     end: usize,
     types: usize,
-    index: &mut [u16; GROUP_INDEX],
+    index: &mut [u16],
 ) -> Result<Checked, Refusal>
-    requires from_in_bounds { (from ≤ length s.now) × (length s.now ≤ group_bytes) }
+    requires from_in_bounds { (from ≤ end) × (end ≤ length s.now) × (length s.now ≤ group_bytes) }
     requires index_len { length index.old ≡ index_size }
     ensures variable { (signature : Signature) (fs : List definition.Field)
         → length signature.types ≡ types → Run s.now from end fs
         → Variable result signature s.now index.new from end fs }
-    ensures onward { Onward result from (length s.now) }
+    ensures onward { Onward result from end }
     ensures index_len_2 { length index.new ≡ index_size }
 {
     let mut at = from;
     let mut count: usize = 0;
-    while at < end {
-        let Some(f) = field_here(s, at, LETTER_W) else {
+    for f in Fields::new(&s[from..end]) {
+        if f.letter != LETTER_W {
             break;
-        };
-        variable_fault(s, f.start, f.len, types, count)?;
+        }
+        variable_fault(f.content, types, count)?;
         index[VARIABLES_FROM + count] = at as u16;
         count += 1;
-        at = f.next;
+        at += FIELD_HEAD + f.content.len();
     }
     Ok(Checked { count, next: at })
 }
@@ -156,24 +142,24 @@ fn statements(
     s: &[u8],
     from: usize,
     end: usize,
-    letter: u8,
+    side: Side,
     variables: usize,
 ) -> Result<Checked, Refusal>
-    requires from_in_bounds { from ≤ length s.now }
+    requires from_in_bounds { (from ≤ end) × (end ≤ length s.now) }
     ensures section { (fs : List definition.Field) → Run s.now from end fs
-        → Section result s.now from end letter
-        (statement_fault sig.now (kinds_of letter) variables) fs }
-    ensures onward { Onward result from (length s.now) }
+        → Section result s.now from end (letter_of side)
+        (statement_fault sig.now (kinds_of (letter_of side)) variables) fs }
+    ensures onward { Onward result from end }
 {
     let mut at = from;
     let mut count: usize = 0;
-    while at < end {
-        let Some(f) = field_here(s, at, letter) else {
+    for f in Fields::new(&s[from..end]) {
+        if f.letter != side.letter() {
             break;
-        };
-        statement_fault(sig, s, letter, f.start, f.len, variables)?;
+        }
+        statement_fault(sig, side, f.content, variables)?;
         count += 1;
-        at = f.next;
+        at += FIELD_HEAD + f.content.len();
     }
     Ok(Checked { count, next: at })
 }
@@ -187,30 +173,34 @@ fn rule(
     variables: usize,
     before: usize,
 ) -> Result<Ruled, Refusal>
+    requires at_in_bounds { (at ≤ end) × (end ≤ length s.now) }
     ensures rule { (f : definition.Field) (fs : List definition.Field) → Run s.now at end (f ∷ fs) → AtRule (f ∷ fs)
         → Rule result sig.now variables before s.now at end f fs }
-    ensures rule_onward { RuleOnward result before at (length s.now) }
+    ensures rule_onward { RuleOnward result before at end }
 {
-    let f = read_field(s, at).ok_or(Refusal::BadFields)?;
-    rule_fault(s, f.start, f.len, before)?;
-    let b = statements(sig, s, f.next, end, LETTER_B, variables)?;
-    let h = statements(sig, s, b.next, end, LETTER_H, variables)?;
+    let mut fields = Fields::new(&s[at..end]);
+    let f = fields.next().ok_or(Refusal::BadFields)?;
+    rule_fault(f.content, before)?;
+    let behind = at + (FIELD_HEAD + f.content.len());
+    let b = statements(sig, s, behind, end, Side::Premise, variables)?;
+    let h = statements(sig, s, b.next, end, Side::Conclusion, variables)?;
     Ok(Ruled {
         heads: b.next,
         next: h.next,
     })
 }
 
-// The rules. Each entry of the index ends the rule before it, the first one what stands before the rules.
+// The rules. Each entry of the index ends the rule before it, the first one what stands before the rules. The loop goes on by what a
+// rule says, which is several fields.
 fn rules(
     sig: &Signature<'_>,
     s: &[u8],
     from: usize,
     end: usize,
     variables: usize,
-    index: &mut [u16; GROUP_INDEX],
+    index: &mut [u16],
 ) -> Result<Checked, Refusal>
-    requires from_in_bounds { (from ≤ length s.now) × (length s.now ≤ group_bytes) }
+    requires from_in_bounds { (from ≤ end) × (end ≤ length s.now) × (length s.now ≤ group_bytes) }
     requires index_len { length index.old ≡ index_size }
     ensures all_rules { (fs : List definition.Field) → Run s.now from end fs → AtRule fs
         → AllRules result sig.now variables
@@ -230,19 +220,14 @@ fn rules(
     Ok(Checked { count, next: at })
 }
 
-// The group's answer; where it is accepted, the index holds the positions of its fields.
-// Where it is refused, the entries of the index are left free: any may have been written, and only their number holds.
-// The index has the entries that its type says; a proof cannot tell that of a lent array, so the lender does.
-pub fn read_group(
-    sig: &Signature<'_>,
-    s: &[u8],
-    index: &mut [u16; GROUP_INDEX],
-) -> Result<GroupCounts, Refusal>
-    requires index_len { length index.old ≡ index_size }
-    ensures result_value { group_reading s.now result
-        ≡ read_group sig.now s.now }
-    ensures usable { Usable sig.now s.now index.new result }
-    ensures index_len_unchanged { length index.new ≡ length index.old }
+// The group, or why it is refused. The index is lent for as long as the group is used.
+pub fn read_group<'a>(
+    sig: &'a Signature<'a>,
+    s: &'a [u8],
+    index: &'a mut [u16; GROUP_INDEX],
+) -> Result<Group<'a>, Refusal>
+    ensures value { outcome_by content result ≡ read_group sig.now s.now }
+    ensures read { IfOk result (λ g. (g.signature ≡ sig.now) × (g.bytes ≡ s.now)) }
 {
     if GROUP_BYTES < s.len() {
         return Err(Refusal::TooLong);
@@ -251,14 +236,20 @@ pub fn read_group(
     if p.end == 0 {
         return Err(Refusal::BadFields);
     }
-    let g = title(s)?;
+    let g = title(s, p.end)?;
     let w = variables(s, g.next, p.end, sig.types(), index)?;
     let u = rules(sig, s, w.next, p.end, w.count, index)?;
     if !p.whole {
         return Err(Refusal::BadFields);
     }
-    Ok(GroupCounts {
+    let counts = GroupCounts {
         variables: w.count,
         rules: u.count,
+    };
+    Ok(Group {
+        signature: sig,
+        bytes: s,
+        index,
+        counts,
     })
 }

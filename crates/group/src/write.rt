@@ -4,12 +4,14 @@ ghost use Rattle.definition.specs.Group as definition;
 ghost use Rattle.definition.specs.Limits.{column_limit};
 ghost use Rattle.definition.specs.Writer.{statement_field, field_bytes};
 ghost use Rattle.records.specs.Buffer.{Put, capped, count_limit};
+ghost use Rattle.signature.specs.Relations.{kind_of, number_of};
+ghost use Rattle.group.specs.Sections.{letter_of};
 ghost use Rattle.group.specs.Written.{said, variable_head, statement_head};
 
-use crate::ids::{BEFORE_VARS, LETTER_W, NAME_AT, VARS_AT};
+use crate::ids::{BEFORE_VARS, LETTER_W, NAME_AT, Side, VARS_AT};
 use crate::statement::Statement;
 use records::write::{past, put_byte, put_field_head, put_num};
-use signature::ids::TypeId;
+use signature::ids::{Relation, TypeId};
 
 // The head of a W field and the variable's type; a name of so many bytes follows.
 pub fn put_variable_head(out: &mut [u8], from: usize, ty: TypeId, name: u16) -> usize
@@ -21,21 +23,22 @@ pub fn put_variable_head(out: &mut [u8], from: usize, ty: TypeId, name: u16) -> 
 }
 
 // What stands before a statement's variables, at the front of a buffer: the head of its field, its kind, its symbol.
-pub fn put_statement_head(out: &mut [u8], letter: u8, kind: u8, symbol: u16, count: usize) -> usize
+pub fn put_statement_head(out: &mut [u8], side: Side, relation: Relation, count: usize) -> usize
     requires { count ≤ column_limit }
-    ensures { Put out.old out.new (statement_head letter kind symbol count) 0 result }
+    ensures { Put out.old out.new
+        (statement_head (letter_of side) (kind_of relation) (number_of relation) count) 0 result }
 {
-    let head = put_field_head(out, 0, letter, (VARS_AT + 2 * count) as u16);
-    let behind = put_byte(out, head, kind);
-    put_num(out, behind, symbol)
+    let head = put_field_head(out, 0, side.letter(), (VARS_AT + 2 * count) as u16);
+    let behind = put_byte(out, head, relation.kind());
+    put_num(out, behind, relation.number())
 }
 
 // A statement at the front of a buffer.
-fn write_statement(out: &mut [u8], letter: u8, x: Statement) -> usize
+fn write_statement(out: &mut [u8], side: Side, x: Statement) -> usize
     requires { x.count ≤ column_limit }
-    ensures { Put out.old out.new (field_bytes (statement_field letter (said x))) 0 result }
+    ensures { Put out.old out.new (field_bytes (statement_field (letter_of side) (said x))) 0 result }
 {
-    let mut at = put_statement_head(out, letter, x.kind, x.symbol, x.count);
+    let mut at = put_statement_head(out, side, x.relation, x.count);
     for v in &x.vars[..x.count] {
         at = put_num(out, at, *v);
     }
@@ -43,12 +46,12 @@ fn write_statement(out: &mut [u8], letter: u8, x: Statement) -> usize
 }
 
 // A statement, written into the rest of the buffer from its own start.
-pub fn put_statement(out: &mut [u8], from: usize, letter: u8, x: Statement) -> usize
+pub fn put_statement(out: &mut [u8], from: usize, side: Side, x: Statement) -> usize
     requires { (from ≤ count_limit) × (x.count ≤ column_limit) }
-    ensures { Put out.old out.new (field_bytes (statement_field letter (said x))) from result }
+    ensures { Put out.old out.new (field_bytes (statement_field (letter_of side) (said x))) from result }
 {
     let rest = from.min(out.len());
-    let len = write_statement(&mut out[rest..], letter, x);
+    let len = write_statement(&mut out[rest..], side, x);
     past(from, len)
 }
 

@@ -1,72 +1,79 @@
 -- Member rows by the flags of their elements.
 use Prim.Native.Nat.{ℕ, ◌<◌}
+use native.Mathlib.Omega.{arith}
 use mathlib.Core.Bool.{Bool, true, false, not, ◌&&◌, and-true}
 use mathlib.Core.List.{List}
-use mathlib.Core.Path.{◌≡◌, sym, ◌∙◌, ap}
-use lib.ListN.{get_or, take}
+use mathlib.Core.Logic.{⊎_elim}
+use mathlib.Core.Path.{◌≡◌, sym, ◌∙◌}
+use lib.ListN.{length, get_or, take}
 use Rattle.definition.specs.Base.{keep, each, place_from, empty, ◌∈◌}
 use Rattle.definition.specs.Names.{numbers_of}
-use Rattle.definition.specs.Rule.{Element, Row, Pair}
+use Rattle.definition.specs.Rule.{Structure, Element, Row, Pair}
 use Rattle.definition.specs.Rows.{member_row, members, last_element, constrained}
 use Rattle.definition.specs.Signature.{Signature}
+use Rattle.laws.proofs.Lists.{get_d_each, mem_at, trichotomy}
+use Rattle.laws.proofs.Numbering.{place_in}
 use Rattle.laws.proofs.RowLaws.{members_mem, member_last}
-use Rattle.rule.specs.Elements.{count_at}
-use Rattle.rule.proofs.Finding.{search_found}
-use Rattle.rule.specs.ElementFields.{element_in}
-use Rattle.rows.specs.Members.{new_member}
-use Rattle.rows.specs.Table.{is_new}
-use Rattle.rule.proofs.ElementLaws.{no_element, element_is}
-use Rattle.rows.proofs.Kept.{constrained_at}
 use Rattle.records.proofs.Parts.{mem_place}
-use Rattle.rows.proofs.Whole.{keep_same, keep_keep}
 use Rattle.flags.specs.declared.Mask.{Mask}
 use Rattle.flags.specs.Flags.{flag_at}
-use Rattle.rule.specs.Structures.{structure_in, Laid}
-use Rattle.naming.proofs.Placed.{numbers_are, elements_are, element_get}
-use Rattle.statements.specs.Said.{member_flag}
 use Rattle.rule.specs.Rows.{has_parents}
+use Rattle.rule.specs.Views.{StructureBy, Sound, no_element}
+use Rattle.rows.specs.Members.{new_member}
+use Rattle.rows.specs.Table.{is_new}
+use Rattle.rows.proofs.Kept.{constrained_at}
+use Rattle.rows.proofs.Places.{numbers_many}
+use Rattle.rows.proofs.Whole.{keep_same, keep_keep}
+use Rattle.statements.specs.Said.{member_flag}
 use Rattle.kinds.specs.Added.{Unmarked}
 
-module _ {s index : List ℕ} {k : ℕ} (w : Laid s index k) where
+module _ {x : StructureBy} (w : Sound x) where
+  abbrev st : Structure
+  st = x.structure
+
+  abbrev element_in : ℕ → Element
+  element_in i = get_or st.elements i no_element
+
   -- An element's number is found at its place.
-  place_of : (i : ℕ) → i < count_at index k → place_from 0 (element_in s index k i).number (numbers_of (structure_in s k)) ≡ i
+  place_of : (i : ℕ) → i < length st.elements → place_from 0 (element_in i).number (numbers_of st) ≡ i
+  unfolding numbers_of
   place_of i l =
-      let f = search_found w.elements.elements _ i l (ap (λ (e : Element). e.number) (element_is w.elements i l)) in
-      rw (numbers_are w) (sym f.is.0)
+      let n = numbers_many st in
+      let number : get_or (numbers_of st) i 0 ≡ (element_in i).number = get_d_each (λ (e : Element). e.number) st.elements i no_element 0 l in
+      let p = place_in (element_in i).number (numbers_of st) (rw number at (mem_at (numbers_of st) i 0 (omega arith))) in
+      ⊎_elim (λ (a : place_from 0 (element_in i).number (numbers_of st) < i). let y = w.ascend _ i a (omega arith) in absurd (omega (arith, number, p.1)))
+      (⊎_elim (λ (a : place_from 0 (element_in i).number (numbers_of st) ≡ i). a)
+      (λ (a : i < place_from 0 (element_in i).number (numbers_of st)). let y = w.ascend i _ a p.0 in absurd (omega (arith, number, p.1))))
+      (trichotomy (place_from 0 (element_in i).number (numbers_of st)) i)
 
   -- Flags that agree with a test of the member rows keep what it keeps.
   member_flags : (mask : Mask) (test : Row → Bool)
-      → ((i : ℕ) → i < count_at index k → has_parents (element_in s index k i) ≡ true → flag_at mask i ≡ test (member_row (element_in s index k i)))
-      → keep (member_flag (structure_in s k) mask) (members (structure_in s k)) ≡ keep test (members (structure_in s k))
+      → ((i : ℕ) → i < length st.elements → has_parents (element_in i) ≡ true → flag_at mask i ≡ test (member_row (element_in i)))
+      → keep (member_flag st mask) (members st) ≡ keep test (members st)
   unfolding member_flag
-  member_flags mask test h = keep_same (member_flag (structure_in s k) mask) test (members (structure_in s k)) (λ r m. go r (members_mem (structure_in s k) m))
+  member_flags mask test h = keep_same (member_flag st mask) test (members st) (λ r m. go r (members_mem st m))
     where
-      at : (i : ℕ) → i < count_at index k → empty (element_in s index k i).parents ≡ false
-          → member_flag (structure_in s k) mask (member_row (element_in s index k i)) ≡ test (member_row (element_in s index k i))
-      at i l e = rw (member_last (element_in s index k i), place_of i l) (h i l (rw e))
+      at : (i : ℕ) → i < length st.elements → empty (element_in i).parents ≡ false
+          → member_flag st mask (member_row (element_in i)) ≡ test (member_row (element_in i))
+      at i l e = rw (member_last (element_in i), place_of i l) (h i l (rw e))
 
-      go : (r : Row) → (e : Element) × (e ∈ (structure_in s k).elements) × (empty e.parents ≡ false) × (r ≡ member_row e)
-          → member_flag (structure_in s k) mask r ≡ test r
-      go r q =
-          let p = mem_place (structure_in s k).elements no_element q.1 in
-          let l : p.0 < count_at index k = rw (elements_are w) at p.1 in
-          let e : element_in s index k p.0 ≡ q.0 = sym (element_get w p.0 l) ∙ p.2 in
-          rw (q.3, ← e) (at p.0 l (rw e q.2))
+      go : (r : Row) → (e : Element) × (e ∈ st.elements) × (empty e.parents ≡ false) × (r ≡ member_row e) → member_flag st mask r ≡ test r
+      go r q = let p = mem_place st.elements no_element q.1 in rw (q.3, ← p.2) (at p.0 p.1 (rw p.2 q.2))
 
-  module _ (mask : Mask) (pairs : List Pair) (sources : List Row) (marks : List Bool) (u : Unmarked mask s index k pairs sources marks) where
+  module _ (mask : Mask) (pairs : List Pair) (sources : List Row) (marks : List Bool) (u : Unmarked mask st pairs sources marks) where
     -- Without marks, all new ones;
-    pub members_all : ((i : ℕ) → i < count_at index k → get_or marks i false ≡ false)
-        → keep (member_flag (structure_in s k) mask) (members (structure_in s k)) ≡ keep (is_new pairs sources) (members (structure_in s k))
+    pub members_all : ((i : ℕ) → i < length st.elements → get_or marks i false ≡ false)
+        → keep (member_flag st mask) (members st) ≡ keep (is_new pairs sources) (members st)
     unfolding new_member
     members_all none = member_flags mask (is_new pairs sources)
-        (λ i l h. u i l ∙ rw (none i l, h, and-true (is_new pairs sources (member_row (element_in s index k i)))))
+        (λ i l h. u i l ∙ rw (none i l, h, and-true (is_new pairs sources (member_row (element_in i)))))
 
     -- with the constrained ones marked, those whose element is not.
-    pub members_free : (sig : Signature) → take (count_at index k) marks ≡ each (constrained sig (structure_in s k)) (numbers_of (structure_in s k))
-        → keep (member_flag (structure_in s k) mask) (members (structure_in s k))
-        ≡ keep (λ (r : Row). not (constrained sig (structure_in s k) (last_element r))) (keep (is_new pairs sources) (members (structure_in s k)))
+    pub members_free : (sig : Signature) → take (length st.elements) marks ≡ each (constrained sig st) (numbers_of st)
+        → keep (member_flag st mask) (members st)
+        ≡ keep (λ (r : Row). not (constrained sig st (last_element r))) (keep (is_new pairs sources) (members st))
     unfolding new_member
     members_free sig e =
-        member_flags mask (λ (r : Row). is_new pairs sources r && not (constrained sig (structure_in s k) (last_element r)))
-        (λ i l h. u i l ∙ rw (h, constrained_at s index k (structure_in s k) w.same marks i l sig e, member_last (element_in s index k i)))
-        ∙ sym (keep_keep (λ (r : Row). not (constrained sig (structure_in s k) (last_element r))) (is_new pairs sources) (members (structure_in s k)))
+        member_flags mask (λ (r : Row). is_new pairs sources r && not (constrained sig st (last_element r)))
+        (λ i l h. u i l ∙ rw (h, constrained_at sig st marks e i l, member_last (element_in i)))
+        ∙ sym (keep_keep (λ (r : Row). not (constrained sig st (last_element r))) (is_new pairs sources) (members st))

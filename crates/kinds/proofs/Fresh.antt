@@ -11,10 +11,10 @@ use lib.Seq.{get_or-take, length-take-le}
 use Rattle.definition.specs.Base.{cons_if, keep, each, given}
 use Rattle.laws.proofs.Lists.{length_each, get_d_each}
 use Rattle.records.proofs.Lists.{keep_append}
-use Rattle.rows.proofs.Kept.{flag_at_lem}
 use Rattle.flags.specs.declared.Mask.{Mask}
 use Rattle.flags.specs.Flags.{places, flag_at, with_flag, FlagsOf}
 use Rattle.flags.proofs.Words.{flags_set, flags_clear}
+use Rattle.rows.proofs.Kept.{flag_at_lem}
 use Rattle.naming.specs.Variables.{kept_by, kept_in}
 use Rattle.records.proofs.Parts.{take_more}
 use Rattle.kinds.specs.Elements.{FreeOf, Two, News}

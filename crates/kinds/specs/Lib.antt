@@ -1,5 +1,5 @@
 -- What the contracts of this crate cite beside the definition.
-pub mod Added
-pub mod Elements
 pub mod Yielding
+pub mod Elements
+pub mod Added
 pub mod Steps

@@ -4,4 +4,5 @@
 pub mod added;
 pub mod elements;
 pub mod morphisms;
+pub mod step;
 pub mod yielding;

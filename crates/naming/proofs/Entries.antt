@@ -1,9 +1,9 @@
--- Loops along a row of variables: what is left at an index, and a turn of each.
-use Prim.Native.Nat.{ℕ, suc, ◌+◌, ◌≤◌, ◌<◌}
+-- Loops along a row of variables, and a turn of each.
+use Prim.Native.Nat.{ℕ, suc, ◌+◌, ◌-◌, ◌≤◌, ◌<◌}
 use native.Mathlib.Omega.{arith}
 use native.Mathlib.Numerals.{add-one}
 use mathlib.Core.Bool.{Bool, true, false}
-use mathlib.Core.List.{List, ◌∷◌, ◌++◌, append_assoc, append-nil}
+use mathlib.Core.List.{List, [], ◌∷◌, ◌++◌, append_assoc, append-nil}
 use mathlib.Core.Option.{none, some}
 use mathlib.Core.Path.{◌≡◌, refl, sym, ◌∙◌}
 use mathlib.Core.Logic.{⊎_elim}
@@ -11,69 +11,66 @@ use lib.Dec.{ltb, leb}
 use Rattle.std.proofs.lemmas.Bool.Decides.{leb_tells}
 use Rattle.std.proofs.lemmas.List.Recursion.{is_count_by}
 use Rattle.laws.proofs.Lists.{length_each, get_d_each}
-use Rattle.std.specs.Prelude.{count_by}
-use lib.ListN.{length, get_or, set, take, drop, length-set, drop_of_length-le}
-use lib.Seq.{ext_get_or, take_all, take-suc, drop-cons, take-suc-set, drop-set-lt, get_or-take, length-take-le}
-use borrow.Author.Tests.{eq-eqb, ne_eqb, lt-ltb, le-ltb}
+use Rattle.std.specs.Prelude as std
+use Rattle.std.specs.Prelude.{Some, None, count_by}
+use lib.ListN.{length, get_or, set, take, drop, replicate, length-set, drop_of_length-le, take-append-drop}
+use lib.Seq.{ext_get_or, drop-cons, take-suc-set, drop-set-lt, get_or-take, length-take-le}
+use borrow.Author.Tests.{lt-ltb, le-ltb}
 use Rattle.definition.specs.Base.{pick, each, given}
+use Rattle.definition.specs.Limits.{field_limit}
 use Rattle.definition.specs.Names.{numbered}
 use Rattle.laws.specs.Numbering.{fresh}
-use Rattle.naming.specs.Variables.{no_var, taken_by, kept_by}
+use Rattle.rule.specs.Views.{StructureBy, Sound}
+use Rattle.naming.specs.Variables.{row_of, taken_by, kept_by}
+use Rattle.naming.proofs.Whole.{length_numbered}
 
--- What the first entries of a row say, from an index on.
-unfoldable pub left_in : {A : Type 0} → (ℕ → A) → ℕ → List ℕ → ℕ → List A
-left_in says count row i = each says (drop i (take count row))
+-- The entries of a structure's elements.
+pub entries_long : {x : StructureBy} → Sound x → {count : ℕ} → count ≡ length x.structure.elements → (row : List ℕ) → field_limit ≤ length row
+    → length (take count row) ≡ length x.structure.elements
+entries_long w {count} e row h = let few = w.sound.elements_few in length-take-le count row (omega arith) ∙ e
 
-module _ {A : Type 0} (says : ℕ → A) (row : List ℕ) {count i : ℕ} (few : count ≤ length row) where
-  pub left_on : i < count → left_in says count row i ≡ says (get_or row i 0) ∷ left_in says count row (i + 1)
-  unfolding left_in each
-  left_on h =
-      let l : i < length (take count row) = rw (length-take-le count row few) h in
-      rw (add-one, drop-cons (take count row) i 0 l, get_or-take count row i 0 h)
-
--- The front of a row is being numbered: the entries before an index have their variables, the others are as they were.
-pub record Numbering (row : List ℕ) (next : ℕ) (vars : List ℕ) (number i : ℕ) : Type 0 where
-  pub left : numbered next (each taken_by row) ≡ take i vars ++ numbered number (each taken_by (drop i row))
-  pub tail : drop i vars ≡ drop i row
+-- A row is being filled, by what each element takes over: the entries before an index have their variables, behind them 0 stands.
+pub record Numbering (taken : List (std.Option ℕ)) (next : ℕ) (vars : List ℕ) (number i : ℕ) : Type 0 where
+  pub left : numbered next (each taken_by taken) ≡ take i vars ++ numbered number (each taken_by (drop i taken))
+  pub tail : drop i vars ≡ replicate (field_limit - i) 0
   pub few : number ≤ next + i
-  pub long : length vars ≡ length row
+  pub long : length vars ≡ field_limit
 
-pub numbering : (row : List ℕ) (next : ℕ) → Numbering row next row next 0
-numbering row next = record { left = refl; tail = refl; few = omega arith; long = refl }
+module _ {taken : List (std.Option ℕ)} {vars : List ℕ} {next number i : ℕ} (n : Numbering taken next vars number i) (few : length taken ≤ field_limit) where
+  module _ (h : i < length taken) where
+    tail_on : (v : ℕ) → drop (i + 1) (set vars i v) ≡ replicate (field_limit - (i + 1)) 0
+    tail_on v =
+        let a = drop-cons vars i 0 (rw n.long (omega arith)) in
+        let q : field_limit - i ≡ suc (field_limit - suc i) = omega arith in
+        let t = n.tail in
+        let b : replicate {A = ℕ} (field_limit - i) 0 ≡ 0 ∷ replicate (field_limit - suc i) 0 = rw q refl in
+        rw (add-one i, drop-set-lt (suc i) vars i v (omega arith)) cc
 
-module _ {row vars : List ℕ} {next number i : ℕ} (n : Numbering row next vars number i) where
-  -- What is left at the next entry, which is as it was.
-  tail_on : i < length row → get_or vars i 0 ∷ drop (suc i) vars ≡ get_or row i 0 ∷ drop (suc i) row
-  tail_on h = let a = drop-cons vars i 0 (rw n.long h) in let b = drop-cons row i 0 h in let t = n.tail in cc
+    pub number_some : {v : ℕ} → get_or taken i None ≡ Some v → Numbering taken next (set vars i v) number (i + 1)
+    unfolding numbered each
+    number_some {v} e = record {
+      left = n.left ∙ rw (drop-cons taken i None h, e, add-one i, take-suc-set vars i v (rw n.long (omega arith)), append_assoc);
+      tail = tail_on v;
+      few = let f = n.few in omega arith;
+      long = length-set vars i v ∙ n.long;
+    }
 
-  left_at : i < length row → each taken_by (drop i row) ≡ taken_by (get_or vars i 0) ∷ each taken_by (drop (suc i) row)
-  unfolding each
-  left_at h = let t = tail_on h in let e : get_or row i 0 ≡ get_or vars i 0 = cc in rw (drop-cons row i 0 h, e)
+    pub number_none : get_or taken i None ≡ None → Numbering taken next (set vars i number) (number + 1) (i + 1)
+    unfolding numbered each
+    number_none e = record {
+      left = n.left ∙ rw (drop-cons taken i None h, e, add-one i, take-suc-set vars i number (rw n.long (omega arith)), append_assoc);
+      tail = tail_on number;
+      few = let f = n.few in omega arith;
+      long = length-set vars i number ∙ n.long;
+    }
 
-  tail_at : i < length row → drop (suc i) vars ≡ drop (suc i) row
-  tail_at h = let t = tail_on h in cc
-
-  pub number_new : i < length row → get_or vars i 0 ≡ no_var → Numbering row next (set vars i number) (number + 1) (i + 1)
-  unfolding numbered
-  number_new h e = record {
-    left = n.left ∙ rw (left_at h, eq-eqb _ _ e, add-one i, take-suc-set vars i number (rw n.long h), append_assoc);
-    tail = rw (add-one i, drop-set-lt (suc i) vars i number (omega arith)) (tail_at h);
-    few = let f = n.few in omega arith;
-    long = length-set vars i number ∙ n.long;
-  }
-
-  pub number_kept : i < length row → (get_or vars i 0 ≡ no_var → ⊥) → Numbering row next vars number (i + 1)
-  unfolding numbered
-  number_kept h e = record {
-    left = n.left ∙ rw (left_at h, ne_eqb _ _ e, add-one i, take-suc vars i 0 (rw n.long h), append_assoc);
-    tail = rw (add-one i) (tail_at h);
-    few = let f = n.few in omega arith;
-    long = n.long;
-  }
-
-  pub number_end : length row ≤ i → vars ≡ numbered next (each taken_by row)
-  unfolding numbered each
-  number_end h = sym (n.left ∙ rw (drop_of_length-le row h, take_all i vars (rw n.long h), append-nil))
+  pub number_end : length taken ≡ i → vars ≡ row_of (numbered next (each taken_by taken))
+  unfolding numbered row_of each
+  number_end h =
+      let past : drop i taken ≡ [] = drop_of_length-le taken (omega arith) in
+      let e : numbered next (each taken_by taken) ≡ take i vars = n.left ∙ rw (past, append-nil) in
+      let l = length_numbered next (each taken_by taken) ∙ length_each taken_by taken in
+      rw (l, h, e, ← n.tail) (sym (take-append-drop i vars))
 
 -- How many are new, by a test of each.
 pub fresh_counted : (first : ℕ) (row : List ℕ) → count_by (λ v. leb first v) row ≡ fresh (each (kept_by first) row)

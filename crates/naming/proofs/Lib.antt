@@ -1,8 +1,6 @@
 -- Laws of this crate.
-pub mod Entries
 pub mod Whole
-pub mod Placed
-pub mod Seeking
+pub mod Entries
 pub mod Carrying
 pub mod News
 pub mod Printing

@@ -14,10 +14,9 @@ use Rattle.definition.specs.Names.{numbers_of, numbered, new_variables}
 use Rattle.definition.specs.Rows.{in_image}
 use Rattle.definition.specs.Rule.{Structure}
 use Rattle.laws.proofs.Lists.{trichotomy}
+use Rattle.rule.specs.MapFields.{KeysIn}
 use Rattle.rows.specs.Kernel.{TypesOf}
-use Rattle.rule.specs.MapFields.{pairs_in, Joins}
-use Rattle.rule.specs.declared.maps.Map.{Map}
-use Rattle.rule.specs.Structures.{structure_in}
+use Rattle.rows.specs.Morphisms.{MorphismBy}
 use Rattle.naming.specs.Variables.{row_of, variables_in, kept_in, new_in, GivenOut}
 use Rattle.naming.specs.Maps.{taken_over}
 use Rattle.naming.proofs.Whole.{TakenBelow, kept_row}
@@ -32,12 +31,11 @@ module _ (st : Structure) {next : ℕ} {taken : List (Option ℕ)} (t : TakenBel
   new_row = rw (kept_row t long)
 
 -- Those that were taken over are the images.
-pub images_taken : {s row : List ℕ} {source target next : ℕ} {m : Map} → Joins s source target m → GivenOut (structure_in s source) row next
-    → each given (kept_in next (length (structure_in s target).elements) (row_of (numbered next (taken_over s row source target m))))
-    ≡ each (in_image (pairs_in s m)) (numbers_of (structure_in s target))
-images_taken {s} {row} {source} {target} {m = m} j g =
-    let l = length_carried (structure_in s source) (structure_in s target) (variables_in (structure_in s source) row) (pairs_in s m) in
-    rw (kept_row (taken_below j g) l) (given_images (structure_in s source) (structure_in s target) (variables_in (structure_in s source) row) (pairs_in s m))
+pub images_taken : {row : List ℕ} (m : MorphismBy) {next : ℕ} → KeysIn (numbers_of m.source) m.pairs → GivenOut m.source row next
+    → each given (kept_in next (length m.target.elements) (row_of (numbered next (taken_over row m)))) ≡ each (in_image m.pairs) (numbers_of m.target)
+images_taken {row} m keys g =
+    let l = length_carried m.source m.target (variables_in m.source row) m.pairs in
+    rw (kept_row (taken_below m keys g) l) (given_images m.source m.target (variables_in m.source row) m.pairs)
 
 -- The table of types, with the types of the new variables behind those of the others.
 abbrev no_variable : Variable

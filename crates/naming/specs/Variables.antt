@@ -1,5 +1,6 @@
 -- Rows of variables as lists.
-use Rattle.std.specs.Prelude.{List, ◌++◌, ℕ, ◌-◌, ◌<◌, eqb, ltb, length, take, replicate}
+use Rattle.std.specs.Prelude as std
+use Rattle.std.specs.Prelude.{Some, None, List, ◌++◌, ℕ, ◌-◌, ◌<◌, ltb, length, take, replicate}
 use Rattle.std.proofs.Math.Option.{Option, none, some}
 use Rattle.definition.specs.Base.{pick, each, ◌∈◌}
 use Rattle.definition.specs.Limits.{field_limit}
@@ -7,27 +8,20 @@ use Rattle.definition.specs.Rule.{Structure}
 use Rattle.definition.specs.Group.{Variable}
 use Rattle.definition.specs.Names.{numbers_of, variable_at, new_variables}
 
--- The entry of an element that takes nothing over.
-abbrev pub no_var : ℕ
-no_var = 65535
-
--- The entry of an element, by what it takes over.
-abbrev pub entry_of : Option ℕ → ℕ
-entry_of none = no_var
-entry_of (some v) = v
-
--- Entries as a whole row.
+-- Variables as a whole row, behind which 0 stands.
 unfoldable pub row_of : List ℕ → List ℕ
-row_of vs = vs ++ replicate (field_limit - length vs) no_var
+row_of vs = vs ++ replicate (field_limit - length vs) 0
 
--- What a row's first entries say before it is numbered: what each element takes over.
-abbrev pub taken_by : ℕ → Option ℕ
-taken_by v = pick (eqb v no_var) none (some v)
+-- What an element takes over, as the definition's.
+abbrev pub taken_by : std.Option ℕ → Option ℕ
+taken_by (Some v) = some v
+taken_by None = none
 
-unfoldable pub taken_in : ℕ → List ℕ → List (Option ℕ)
-taken_in count row = each taken_by (take count row)
+-- What the elements of a structure take over.
+unfoldable pub taken_in : Structure → List (std.Option ℕ) → List (Option ℕ)
+taken_in st taken = each taken_by (take (length st.elements) taken)
 
--- The same of a row that was numbered from `first` on: the entries below it were taken over.
+-- What the elements took over, by a row that was numbered from `first` on: the entries below it were taken over.
 abbrev pub kept_by : ℕ → ℕ → Option ℕ
 kept_by first v = pick (ltb v first) (some v) none
 

@@ -1,44 +1,35 @@
 // The bases of the variables' names.
-ghost use Rattle.std.specs.Prelude.{◌≡◌, ◌≤◌};
+ghost use Rattle.std.specs.Prelude.{◌≡◌};
 ghost use Rattle.definition.specs.Base.{first_of};
 ghost use Rattle.definition.specs.Names.{base_name, name_for};
-ghost use Rattle.rule.specs.Structures.{structure_in, names_of, Laid};
-ghost use Rattle.naming.specs.Bases.{name_is, base_bytes, Fits};
+ghost use Rattle.rule.specs.Name.{numbers_before};
+ghost use Rattle.rule.specs.Structures.{names_of};
+ghost use Rattle.naming.specs.Bases.{name_is};
 
-use rule::ids::{ElId, RULE_INDEX};
-use rule::names::{Name, read_name};
-use rule::sections::name_section;
+use rule::ids::ElId;
+use rule::name::NameKind;
+use rule::views::Structure;
 
-// The first V name of an element, else its first I name. An element without a name has the base `el`.
-pub fn el_base_name(s: &[u8], index: &[u16; RULE_INDEX], k: usize, e: ElId) -> Option<Name>
-    requires { Laid s.now index.now k }
-    ensures result_value { base_bytes s.now result ≡ base_name (structure_in s.now k) e.0 }
-    ensures fits { Fits s.now result }
+// The first V name of an element, else its first I name, else `el`.
+#[tactic(auto, unfolding(definition::specs::Names::base_name))]
+pub fn el_base_name<'a>(st: &Structure<'a>, e: ElId) -> &'a [u8]
+    ensures { result.now ≡ base_name st.now.structure e.0 }
 {
-    first_name(s, index, k, 1, e).or_else(|| first_name(s, index, k, 2, e))
+    if let Some(name) = first_name(st, NameKind::Variable, e) {
+        return name;
+    }
+    first_name(st, NameKind::Identifier, e).unwrap_or(b"el")
 }
 
-// The first name of an element among those that have so many numbers before each: one in V, two in I.
-fn first_name(
-    s: &[u8],
-    index: &[u16; RULE_INDEX],
-    k: usize,
-    numbers: usize,
-    e: ElId,
-) -> Option<Name>
-    requires laid { Laid s.now index.now k }
-    requires numbers_few { (1 ≤ numbers) × (numbers ≤ 2) }
-    ensures first { name_is s.now result ≡ first_of (name_for e.0) (names_of (structure_in s.now k) numbers) }
-    ensures fits { Fits s.now result }
+// The first name of an element among those of a kind.
+#[tactic(auto, unfolding(definition::specs::Base::first_of))]
+fn first_name<'a>(st: &Structure<'a>, kind: NameKind, e: ElId) -> Option<&'a [u8]>
+    ensures { name_is result ≡ first_of (name_for e.0) (names_of st.now.structure (numbers_before kind)) }
 {
-    let names = name_section(index, k, numbers);
-    let mut at = names.from;
-    while at < names.to {
-        let f = read_name(s, at, numbers);
-        if f.element == e {
-            return Some(f.name);
+    for named in st.names(kind) {
+        if named.element == e {
+            return Some(named.name);
         }
-        at = f.next;
     }
     None
 }

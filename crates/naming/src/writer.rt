@@ -1,5 +1,5 @@
 // Names as bytes: the W fields of new variables, the group's name, the rules' names.
-ghost use Rattle.std.specs.Prelude.{List, ◌∷◌, ◌++◌, ◌≡◌, ℕ, ◌+◌, ◌≤◌, ◌<◌, length};
+ghost use Rattle.std.specs.Prelude.{◌∷◌, ◌++◌, ◌≡◌, ◌+◌, ◌≤◌, ◌<◌, length, get_or};
 ghost use Rattle.definition.specs.Base.{each};
 ghost use Rattle.definition.specs.Letters.{underscore};
 ghost use Rattle.definition.specs.Limits.{field_limit, name_bytes, variable_limit};
@@ -7,95 +7,61 @@ ghost use Rattle.definition.specs.Names.{decimal, new_variable};
 ghost use Rattle.definition.specs.Walk.{group_name};
 ghost use Rattle.definition.specs.Writer.{variable_field, field_bytes, record_bytes};
 ghost use Rattle.records.specs.Buffer.{Put, count_limit};
-ghost use Rattle.rule.specs.ElementFields.{element_in};
-ghost use Rattle.rule.specs.Elements.{count_at};
-ghost use Rattle.rule.specs.Lookup.{rule_at};
-ghost use Rattle.rule.specs.Structures.{structure_in, Laid, Headed};
+ghost use Rattle.rule.specs.Views.{Sound, no_element};
 ghost use Rattle.naming.specs.Variables.{new_in};
-ghost use Rattle.naming.specs.Bases.{base_bytes, Fits, variable_bytes};
 
 use crate::bases::el_base_name;
 use group::ids::BEFORE_NAME;
 use group::write::put_variable_head;
 use records::decimal::{digits, put_decimal};
 use records::write::{past, put_byte, put_bytes};
-use rule::elements::{element_count, read_element};
-use rule::ids::{FIELDS, RULE_INDEX};
-use rule::names::{Name, rule_index, rule_name};
+use rule::ids::FIELDS;
+use rule::views::{Rule, Structure};
 use signature::ids::TypeId;
 
-// The length of `el`.
-const EL_BYTES: usize = 2;
-
-// The length of `anonymous_rule_`.
-const ANONYMOUS_BYTES: usize = 15;
-
-// The base of a name.
-fn put_base(out: &mut [u8], from: usize, s: &[u8], base: Option<Name>) -> usize
-    requires { (from ≤ count_limit) × Fits s.now base }
-    ensures { Put out.old out.new (base_bytes s.now base) from result }
-{
-    match base {
-        Some(name) => put_bytes(out, from, s, name.start, name.len),
-        None => put_bytes(out, from, b"el", 0, EL_BYTES),
-    }
-}
+// What stands before the index of an unnamed rule.
+const ANONYMOUS: &[u8] = b"anonymous_rule_";
 
 // The name of a new variable: a base followed by its number.
-fn put_name(out: &mut [u8], from: usize, s: &[u8], base: Option<Name>, number: u16) -> usize
-    requires { (from ≤ count_limit) × Fits s.now base }
-    ensures { Put out.old out.new (base_bytes s.now base ++ decimal number) from result }
+fn put_name(out: &mut [u8], from: usize, base: &[u8], number: u16) -> usize
+    requires { from ≤ count_limit }
+    ensures { Put out.old out.new (base.now ++ decimal number) from result }
 {
-    let at = put_base(out, from, s, base);
+    let at = put_bytes(out, from, base, 0, base.len());
     put_decimal(out, at, number)
 }
 
-// How many bytes a base has, in any record in which it fits.
-fn base_length(base: Option<Name>) -> usize
-    ensures { (s : List ℕ) → Fits s base → (result ≡ length (base_bytes s base)) × (result ≤ name_bytes) }
+// How many bytes such a name has.
+fn name_length(base: &[u8], number: u16) -> u16
+    requires { length base.now ≤ name_bytes }
+    ensures { (result ≡ length (base.now ++ decimal number)) × (result < 256) }
 {
-    base.map_or(EL_BYTES, |name| name.len)
-}
-
-// How many bytes such a name has, its base being one of the record.
-fn name_length(s: &[u8], base: Option<Name>, number: u16) -> u16
-    requires { Fits s.now base }
-    ensures { (result ≡ length (base_bytes s.now base ++ decimal number)) × (result < 256) }
-{
-    (base_length(base) + digits(number)) as u16
+    (base.len() + digits(number)) as u16
 }
 
 // A W field at the front of a buffer: letter, length, type, name.
-fn put_variable(out: &mut [u8], s: &[u8], t: TypeId, base: Option<Name>, number: u16) -> usize
-    requires { Fits s.now base }
-    ensures { Put out.old out.new (variable_bytes s.now t.0 base number) 0 result }
+fn put_variable(out: &mut [u8], t: TypeId, base: &[u8], number: u16) -> usize
+    requires { length base.now ≤ name_bytes }
+    ensures { Put out.old out.new (field_bytes (variable_field (record { type = t.0; name = base.now ++ decimal number }))) 0 result }
 {
-    let at = put_variable_head(out, 0, t, name_length(s, base, number));
-    put_name(out, at, s, base, number)
+    let at = put_variable_head(out, 0, t, name_length(base, number));
+    put_name(out, at, base, number)
 }
 
 // The W field of an element's new variable, written into the rest of the buffer from its own start. Where nothing of it fits it is
 // only counted.
-fn put_new_variable(
-    out: &mut [u8],
-    at: usize,
-    s: &[u8],
-    index: &[u16; RULE_INDEX],
-    k: usize,
-    i: usize,
-    number: u16,
-) -> usize
-    requires at_le_count_limit { (at ≤ count_limit) × (i < count_at index.now k) }
-    requires laid { Laid s.now index.now k }
+fn put_new_variable(out: &mut [u8], at: usize, st: &Structure<'_>, i: usize, number: u16) -> usize
+    requires at_le_count_limit { (at ≤ count_limit) × (i < length st.now.structure.elements) }
+    requires sound { Sound st.now }
     ensures { Put out.old out.new
-        (field_bytes (variable_field (new_variable (structure_in s.now k) number (element_in s.now index.now k i)))) at result }
+        (field_bytes (variable_field (new_variable st.now.structure number (get_or st.now.structure.elements i no_element)))) at result }
 {
-    let e = read_element(s, index, k, i);
-    let base = el_base_name(s, index, k, e.number);
+    let e = st.element(i);
+    let base = el_base_name(st, e.number);
     if out.len() <= at {
-        return past(at, BEFORE_NAME + usize::from(name_length(s, base, number)));
+        return past(at, BEFORE_NAME + usize::from(name_length(base, number)));
     }
-    let len = put_variable(&mut out[at..], s, e.ty, base, number);
+    let len = put_variable(&mut out[at..], e.ty, base, number);
     past(at, len)
 }
 
@@ -103,25 +69,21 @@ fn put_new_variable(
 pub fn put_variables(
     out: &mut [u8],
     from: usize,
-    s: &[u8],
-    index: &[u16; RULE_INDEX],
-    k: usize,
+    st: &Structure<'_>,
     row: &[u16; FIELDS],
     next: &mut u16,
 ) -> usize
     requires from_le_count_limit { from ≤ count_limit }
-    requires laid { Laid s.now index.now k }
-    requires field_limit_bound { (next.old + field_limit ≤ variable_limit) × (length (structure_in s.now k).elements ≤ length row.now) }
-    ensures put { Put out.old out.new
-        (record_bytes (each variable_field (new_in (structure_in s.now k) next.old row.now))) from result }
-    ensures next_after { next.new ≡ next.old + length (new_in (structure_in s.now k) next.old row.now) }
+    requires field_limit_bound { next.old + field_limit ≤ variable_limit }
+    ensures put { Put out.old out.new (record_bytes (each variable_field (new_in st.now.structure next.old row.now))) from result }
+    ensures next_after { next.new ≡ next.old + length (new_in st.now.structure next.old row.now) }
 {
     let first = *next;
     let mut at = from;
     let mut number = first;
-    for i in 0..element_count(index, k) {
-        if first <= row[i] {
-            at = put_new_variable(out, at, s, index, k, i, number);
+    for (i, &var) in row[..st.element_count()].iter().enumerate() {
+        if first <= var {
+            at = put_new_variable(out, at, st, i, number);
             number += 1;
         }
     }
@@ -130,44 +92,41 @@ pub fn put_variables(
 }
 
 // The group's name: the rule's, or that of an unnamed one, `anonymous_rule_` and its index.
-pub fn put_group_name(out: &mut [u8], from: usize, s: &[u8]) -> usize
-    requires { (from ≤ count_limit) × Headed s.now }
-    ensures { Put out.old out.new (group_name (rule_at s.now)) from result }
+pub fn put_group_name(out: &mut [u8], from: usize, rule: &Rule<'_>) -> usize
+    requires { from ≤ count_limit }
+    ensures { Put out.old out.new (group_name rule.now.rule) from result }
 {
-    let name = rule_name(s);
-    if name.len == 0 {
-        let at = put_bytes(out, from, b"anonymous_rule_", 0, ANONYMOUS_BYTES);
-        return put_decimal(out, at, rule_index(s));
+    let name = rule.name();
+    if name.is_empty() {
+        let at = put_bytes(out, from, ANONYMOUS, 0, ANONYMOUS.len());
+        return put_decimal(out, at, rule.unnamed_index());
     }
-    put_bytes(out, from, s, name.start, name.len)
+    put_bytes(out, from, name, 0, name.len())
 }
 
 // A rule's name: the group's, `_`, and the count of rules before it.
-pub fn put_rule_name(out: &mut [u8], from: usize, s: &[u8], count: u16) -> usize
-    requires { (from ≤ count_limit) × Headed s.now }
-    ensures { Put out.old out.new (group_name (rule_at s.now) ++ (underscore ∷ decimal count)) from result }
+pub fn put_rule_name(out: &mut [u8], from: usize, rule: &Rule<'_>, count: u16) -> usize
+    requires { from ≤ count_limit }
+    ensures { Put out.old out.new (group_name rule.now.rule ++ (underscore ∷ decimal count)) from result }
 {
-    let group = put_group_name(out, from, s);
+    let group = put_group_name(out, from, rule);
     let at = put_byte(out, group, b'_');
     put_decimal(out, at, count)
 }
 
 // How many bytes the group's name has, and a rule's.
-pub fn group_name_length(s: &[u8]) -> u16
-    requires { Headed s.now }
-    ensures { (result ≡ length (group_name (rule_at s.now))) × (result < 256) }
+pub fn group_name_length(rule: &Rule<'_>) -> u16
+    ensures { (result ≡ length (group_name rule.now.rule)) × (result ≤ name_bytes) }
 {
-    let name = rule_name(s);
-    let bytes = name.len;
-    if bytes == 0 {
-        return (ANONYMOUS_BYTES + digits(rule_index(s))) as u16;
+    let name = rule.name();
+    if name.is_empty() {
+        return (ANONYMOUS.len() + digits(rule.unnamed_index())) as u16;
     }
-    bytes as u16
+    name.len() as u16
 }
 
-pub fn rule_name_length(s: &[u8], count: u16) -> u16
-    requires { Headed s.now }
-    ensures { (result ≡ length (group_name (rule_at s.now) ++ (underscore ∷ decimal count))) × (result < 256) }
+pub fn rule_name_length(rule: &Rule<'_>, count: u16) -> u16
+    ensures { (result ≡ length (group_name rule.now.rule ++ (underscore ∷ decimal count))) × (result < 256) }
 {
-    group_name_length(s) + 1 + digits(count) as u16
+    group_name_length(rule) + 1 + digits(count) as u16
 }

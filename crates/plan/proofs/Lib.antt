@@ -1,6 +1,5 @@
 -- Laws behind the walked kinds.
-pub mod Scanning
-pub mod SourceLaws
+pub mod Chains
 pub mod TableLaws
 pub mod Storing
 pub mod Walked

@@ -4,11 +4,11 @@ use Rattle.std.proofs.Math.Option as option
 use Rattle.std.proofs.Math.Option.{none, some}
 use Rattle.definition.specs.Limits.{structure_limit}
 use Rattle.definition.specs.Rule as definition
-use Rattle.definition.specs.Rule.{Kind}
-use Rattle.definition.specs.Walk.{add_pair}
+use Rattle.definition.specs.Rule.{Kind, Rule}
+use Rattle.definition.specs.Walk.{add_pair, completed}
 use Rattle.laws.specs.KindTable.{kind_at}
 use Rattle.rule.specs.Lookup.{kind_is}
-use Rattle.rule.specs.declared.lookup.MorphismKind.{MorphismKind}
+use Rattle.rule.specs.declared.tail.MorphismKind.{MorphismKind}
 
 -- An entry, and the table of them.
 abbrev pub Entry : Type 0
@@ -33,5 +33,9 @@ pub record Tabled (table : Entries) (ks : List Kind) : Type 0 where
   pub same : (u t : ℕ) → u < structure_limit → t < structure_limit → kind_in (entry_at table u t) ≡ kind_at ks u t
 
 -- A pair with a kind is added to a table, unless it has one by then.
-pub record Adds (table more : Entries) (u t : ℕ) (kind : MorphismKind) : Type 0 where
-  pub tabled : (ks : List Kind) (k : Kind) → Tabled table ks → u ≡ k.source → t ≡ k.target → kind_is kind ≡ k.kind → Tabled more (add_pair ks k)
+pub record Adds (table more : Entries) (k : Kind) : Type 0 where
+  pub tabled : (ks : List Kind) → Tabled table ks → Tabled more (add_pair ks k)
+
+-- All kinds of a rule: those of K, then those that the X add.
+abbrev pub kinds_all : Rule → List Kind
+kinds_all rule = completed rule.maps rule.kinds rule.auxiliaries

@@ -1,5 +1,6 @@
 // Which maps are walked, and of which kinds.
 #![tactic(auto)]
 
+pub mod plan;
 pub mod sources;
 pub mod table;

@@ -1,111 +1,68 @@
 // The kinds of all pairs of structures: those of K, then those that the X add.
 ghost use Rattle.std.specs.Prelude.{[], ◌≡◌, ◌<◌};
 ghost use Rattle.definition.specs.Limits.{structure_limit};
-ghost use Rattle.definition.specs.Walk.{auxiliary_kind, completed};
-ghost use Rattle.rule.specs.Lookup.{Ready, rule_at, kind_is};
-ghost use Rattle.plan.specs.Table.{Tabled, Adds};
+ghost use Rattle.rule.specs.Tail.{kind_from};
+ghost use Rattle.rule.specs.Views.{SoundBy};
+ghost use Rattle.plan.specs.Table.{kinds_all, Tabled, Adds};
 
 use crate::sources::incoming_source;
-use records::fields::{Field, read_field};
-use rule::ids::{PLACE_K, PLACE_X, RULE_INDEX, STRUCTURES};
-use rule::lookup::{MorphismKind, class_at, kind_at, source_at, structure_at, target_at};
-use rule::sections::section_behind;
+use rule::ids::STRUCTURES;
+use rule::tail::{KindField, MorphismKind, read_auxiliary, read_kind};
+use rule::views::Rule;
 
 // The kind of each pair of structures, by source, then target, where it has one.
 pub type Kinds = [[Option<MorphismKind>; STRUCTURES]; STRUCTURES];
 
 pub const NO_KINDS: Kinds = [[None; STRUCTURES]; STRUCTURES];
 
-// The kind that an X adds: Noop for class 0, else If.
-fn auxiliary_kind(class: u8) -> MorphismKind
-    ensures { kind_is result ≡ auxiliary_kind class }
-{
-    match class {
-        0 => MorphismKind::Noop,
-        _ => MorphismKind::If,
-    }
-}
-
 // A pair's kind into the table, unless the pair has one by then.
-fn add(table: &mut Kinds, source: usize, target: usize, kind: MorphismKind)
-    requires { (source < structure_limit) × (target < structure_limit) }
-    ensures { Adds table.old table.new source target kind }
+#[tactic(auto, using(crate::proofs::TableLaws::adds_none, crate::proofs::TableLaws::adds_one))]
+fn add(table: &mut Kinds, k: KindField)
+    requires { (k.source < structure_limit) × (k.target < structure_limit) }
+    ensures { Adds table.old table.new (kind_from k) }
 {
-    if table[source][target].is_none() {
-        table[source][target] = Some(kind);
+    if table[k.source][k.target].is_none() {
+        table[k.source][k.target] = Some(k.kind);
     }
 }
 
 // The kinds of K, into a table without any.
-fn stored(s: &[u8], index: &[u16; RULE_INDEX], table: &mut Kinds)
-    requires ready { Ready s.now index.now }
-    requires tabled { Tabled table.old [] }
-    ensures { Tabled table.new (rule_at s.now).kinds }
+#[tactic(auto, unfolding(definition::specs::Base::each), using(crate::proofs::Storing::store_start, crate::proofs::Storing::store_next))]
+fn stored(rule: &Rule<'_>, table: &mut Kinds)
+    requires { Tabled table.old [] }
+    ensures { Tabled table.new rule.now.rule.kinds }
 {
-    let kinds = section_behind(s, index, PLACE_K);
-    let mut at = kinds.from;
-    while at < kinds.to {
-        let Some(
-            Field {
-                start,
-                len,
-                next,
-                ..
-            },
-        ) = read_field(s, at)
-        else {
-            return;
-        };
-        add(
-            table,
-            source_at(s, start, len),
-            target_at(s, start, len),
-            kind_at(s, start, len),
-        );
-        at = next;
+    for f in rule.kinds() {
+        add(table, read_kind(f.content));
     }
 }
 
 // Behind the kinds of a table those that the X add, in order.
-fn complete(s: &[u8], index: &[u16; RULE_INDEX], table: &mut Kinds)
-    requires ready { Ready s.now index.now }
-    requires tabled { Tabled table.old (rule_at s.now).kinds }
-    ensures { Tabled table.new
-        (completed (rule_at s.now).maps (rule_at s.now).kinds (rule_at s.now).auxiliaries) }
+#[tactic(auto, unfolding(definition::specs::Base::each), using(crate::proofs::Storing::complete_start, crate::proofs::Storing::complete_next))]
+fn complete(rule: &Rule<'_>, table: &mut Kinds)
+    requires { Tabled table.old rule.now.rule.kinds }
+    ensures tabled { Tabled table.new (kinds_all rule.now.rule) }
+    ensures sound { SoundBy rule.now }
 {
-    let auxiliaries = section_behind(s, index, PLACE_X);
-    let mut at = auxiliaries.from;
-    while at < auxiliaries.to {
-        let Some(
-            Field {
-                start,
-                len,
-                next,
-                ..
-            },
-        ) = read_field(s, at)
-        else {
-            return;
-        };
-        let target = structure_at(s, start, len);
-        let source = incoming_source(s, index, target).unwrap_or(0);
+    for f in rule.auxiliaries() {
+        let x = read_auxiliary(f.content);
         add(
             table,
-            source,
-            target,
-            auxiliary_kind(class_at(s, start, len)),
+            KindField {
+                source: incoming_source(rule, x.structure).unwrap_or(0),
+                target: x.structure,
+                kind: x.kind,
+            },
         );
-        at = next;
     }
 }
 
 // The kinds of all pairs into a table without kinds, which is the caller's, so that none is copied.
-pub fn kind_table(s: &[u8], index: &[u16; RULE_INDEX], table: &mut Kinds)
-    requires ready { Ready s.now index.now }
-    requires tabled { Tabled table.old [] }
-    ensures { Tabled table.new
-        (completed (rule_at s.now).maps (rule_at s.now).kinds (rule_at s.now).auxiliaries) }
+pub fn kind_table(rule: &Rule<'_>, table: &mut Kinds)
+    requires { Tabled table.old [] }
+    ensures tabled { Tabled table.new (kinds_all rule.now.rule) }
+    ensures sound { SoundBy rule.now }
 {
-    stored(s, index, table);
-    complete(s, index, table);
+    stored(rule, table);
+    complete(rule, table);
 }

@@ -90,11 +90,11 @@ short k (l ∷ []) p q = refl
 short k (l ∷ h ∷ []) p q = refl
 short k (l ∷ h ∷ m ∷ s) p q = absurd (omega arith)
 
-long : (k l h m : ℕ) (s : List ℕ) → length s < h * 256 + m → cut (suc k) (l ∷ h ∷ m ∷ s) ≡ bad
+pub long : (k l h m : ℕ) (s : List ℕ) → length s < h * 256 + m → cut (suc k) (l ∷ h ∷ m ∷ s) ≡ bad
 unfolding cut
 long k l h m s p = rw (lt-leb _ _ p)
 
-fit : (k l h m : ℕ) (s : List ℕ) → h * 256 + m ≤ length s
+pub fit : (k l h m : ℕ) (s : List ℕ) → h * 256 + m ≤ length s
     → cut (suc k) (l ∷ h ∷ m ∷ s) ≡ record { letter = l; content = take (h * 256 + m) s } ▸ cut k (drop (h * 256 + m) s)
 unfolding cut
 fit k l h m s p = rw (le-leb _ _ p)

@@ -1,23 +1,22 @@
 -- Parts of lists: the first so many, what is left of them, and a stretch.
-use Prim.Native.Nat.{ℕ, zero, suc, ◌+◌, ◌-◌, ◌*◌, ◌/◌, ◌≤◌, ◌<◌}
+use Prim.Native.Nat.{ℕ, zero, suc, ◌+◌, ◌*◌, ◌/◌, ◌≤◌, ◌<◌}
 use native.Mathlib.Omega.{arith}
-use native.Mathlib.Nat.{zero-add}
 use native.Mathlib.Numerals.{add-one}
 use mathlib.Core.Bool.{Bool, true, false, ◌&&◌, ◌||◌}
 use mathlib.Core.List.Memᴰ
 use mathlib.Core.List.{List, [], ◌∷◌, ◌++◌, append-nil}
 use mathlib.Core.Logic.{⊎_elim}
-use mathlib.Core.Path.{◌≡◌, refl, sym, ◌∙◌, ap}
+use mathlib.Core.Path.{◌≡◌, refl, sym, ◌∙◌}
 use lib.Dec.{eqb}
 use lib.ListN.{length, get_or, set, take, drop, length-drop, drop_of_length-le, take-append-drop}
-use lib.Seq.{take-suc, take-suc-set, take-take, take_at, drop_at, take_all, get_or-take, length-take-le}
+use lib.Seq.{take-suc, take-suc-set}
 use borrow.Author.Tests.{eq-eqb, ne_eqb}
 use Rattle.definition.specs.Base.{cons_if, keep, each, any, but_last, same_list, ◌∈◌}
 use Rattle.definition.specs.Records.{numbers}
 use Rattle.laws.proofs.Lists.{never}
-use Rattle.records.specs.Places.{two_at, stretch}
+use Rattle.records.specs.Places.{stretch}
 use Rattle.records.proofs.Link.{one_more}
-use Rattle.records.proofs.Numbers.{drop_stretch, take_stretch, length_numbers_in, numbers_in_lem}
+use Rattle.records.proofs.Numbers.{length_numbers_in}
 
 -- What is first of the rest is a member.
 pub drop_mem : {A : Type 0} (i : ℕ) (xs : List A) {x : A} {rest : List A} → drop i xs ≡ x ∷ rest → x ∈ xs
@@ -83,29 +82,6 @@ module _ {A : Type 0} where
   pub store_more : (xs : List A) (i : ℕ) (a : A) → i < length xs → take (i + 1) (set xs i a) ≡ take i xs ++ (a ∷ [])
   store_more xs i a h = rw add-one (take-suc-set xs i a h)
 
--- A stretch among the first n.
-within : (xs : List ℕ) (n a k : ℕ) → a + k ≤ n → stretch xs a k ≡ stretch (take n xs) a k
-unfolding stretch
-within xs n a k h = sym (ap (take k) (drop_stretch xs 0 n a ∙ rw zero-add) ∙ take_stretch xs a (n - a) k (omega arith))
-
--- The first n agree: so do the members and the stretches among them.
-module _ (xs ys : List ℕ) (n : ℕ) (e : take n xs ≡ take n ys) where
-  pub kept_get : (i : ℕ) → i < n → get_or xs i 0 ≡ get_or ys i 0
-  kept_get i h = sym (get_or-take n xs i 0 h) ∙ rw e (get_or-take n ys i 0 h)
-
-  pub kept_stretch : (a k : ℕ) → a + k ≤ n → stretch xs a k ≡ stretch ys a k
-  kept_stretch a k h = within xs n a k h ∙ rw e (sym (within ys n a k h))
-
--- What was put behind the first ones.
-module _ (xs ys es : List ℕ) (at : ℕ) (h : at ≤ length ys) (e : take (at + length es) xs ≡ take at ys ++ es) where
-  pub put_kept : take at xs ≡ take at ys
-  put_kept = sym (take-take at (at + length es) xs (omega arith)) ∙ rw e (take_at (take at ys) es at (length-take-le at ys h))
-
-  pub put_stretch : stretch xs at (length es) ≡ es
-  unfolding stretch
-  put_stretch = within xs (at + length es) at (length es) (omega arith)
-      ∙ rw (e, drop_at (take at ys) es at (length-take-le at ys h)) (take_all (length es) es (omega arith))
-
 -- Two lists of one length, from a place on.
 module _ (xs ys : List ℕ) {n j : ℕ} (a : length xs ≡ n) (b : length ys ≡ n) where
   both_on : j < n → same_list (drop j xs) (drop j ys) ≡ (eqb (get_or xs j 0) (get_or ys j 0) && same_list (drop (j + 1) xs) (drop (j + 1) ys))
@@ -151,6 +127,3 @@ any_each p f (x ∷ xs) = rw (any_each p f xs)
 module _ (s : List ℕ) (start count : ℕ) (h : start + 2 * count ≤ length s) where
   pub count_in : length (numbers (stretch s start (2 * count))) ≡ count
   count_in = let e : 2 * count / 2 ≡ count = omega arith in length_numbers_in s start (2 * count) h ∙ e
-
-  pub element_in : (j : ℕ) → j < count → get_or (numbers (stretch s start (2 * count))) j 0 ≡ two_at s (start + 2 * j)
-  element_in j l = numbers_in_lem s start (2 * count) h j (omega arith)

@@ -15,20 +15,6 @@ pub record Behind (s : List ℕ) (end letter start len next : ℕ) (fs : List Fi
   pub same : fs ≡ field_of s letter start len ∷ rest
   pub run : Run s next end rest
 
--- A run starts with a field, behind which the next one stands; and the field with which one starts.
-pub record StartsWith (s : List ℕ) (end next : ℕ) (f : Field) (fs : List Field) : Type 0 where
-  pub rest : List Field
-  pub same : fs ≡ f ∷ rest
-  pub run : Run s next end rest
-  pub within : next ≤ end
-
-pub record Foremost (s : List ℕ) (at : ℕ) (fs : List Field) : Type 0 where
-  pub field : Field
-  pub rest : List Field
-  pub next : ℕ
-  pub same : fs ≡ field ∷ rest
-  pub run : Run s at next (field ∷ [])
-
 module _ {s : List ℕ} where
   -- A run ends no earlier than it starts, and lies in the record where it starts in it.
   pub run_le : {at end : ℕ} {fs : List Field} → Run s at end fs → at ≤ end
@@ -64,13 +50,6 @@ module _ {s : List ℕ} where
   run_got {end = end} {letter} {start} {len} {next} (more {letter = l} {start = b} {len = n} {next = x} {fs = gs} d r) h e =
       let g = got_same (sym d ∙ e) in
       record { rest = gs; same = rw (g.letter_is, g.start_is, g.len_is) refl; run = rw g.next_is at r }
-
-  pub run_starts : {at end next : ℕ} {f : Field} {fs : List Field} → Run s at end fs → at < end → Run s at next (f ∷ []) → StartsWith s end next f fs
-  run_starts r h (more e none) = let b = run_got r h e in record { rest = b.rest; same = b.same; run = b.run; within = run_le b.run }
-
-  pub run_foremost : {at end : ℕ} {fs : List Field} → Run s at end fs → at < end → Foremost s at fs
-  run_foremost none h = absurd (omega arith)
-  run_foremost (more {fs = rest} e r) h = record { field = _; rest = rest; next = _; same = refl; run = more e none }
 
   -- Between two positions stand the same fields.
   pub run_same : {at end : ℕ} {fs gs : List Field} → Run s at end fs → Run s at end gs → fs ≡ gs

@@ -5,16 +5,15 @@ use mathlib.Core.Bool.{Bool, true, false}
 use mathlib.Core.List.{List, [], ◌∷◌}
 use mathlib.Core.Path.{◌≡◌, refl, ◌∙◌, ap}
 use lib.Dec.{eqb, ltb}
-use lib.ListN.{length, drop}
+use lib.ListN.{length, get_or, drop, drop_of_length-le}
 use borrow.Author.Tests.{ne_eqb, eqb-true, lt-ltb, le-ltb, ltb-true}
 use Rattle.definition.specs.Base.{cons_if, keep, each}
 use Rattle.definition.specs.Names.{fiber}
 use Rattle.definition.specs.Rule.{Pair}
 use Rattle.laws.proofs.Lists.{and_left, and_right}
 use Rattle.rows.specs.Kernel.{images_above, images_ascend}
-use Rattle.rule.specs.MapFields.{pairs_in, pair_at, MapIn}
-use Rattle.rule.specs.declared.maps.Map.{Map}
-use Rattle.rows.proofs.KernelLaws.{left_on, left_end}
+use Rattle.rule.specs.Pairs.{no_pair}
+use Rattle.rows.proofs.KernelLaws.{left_on}
 
 -- Images above a number ascend.
 above_ascend : (e : ℕ) (ps : List Pair) → images_above e ps ≡ true → images_ascend ps ≡ true
@@ -45,33 +44,34 @@ fiber_one x (p ∷ ps) a = go (eqb p.image x) refl (fiber_one x ps (above_ascend
     go false e r = r
 
 -- The loop: the images from a place on are held against the last one before it.
-pub record Climbs (s : List ℕ) (m : Map) (last p : ℕ) : Type 0 where
-  pub left : images_ascend (pairs_in s m) ≡ images_above last (drop p (pairs_in s m))
+pub record Climbs (pairs : List Pair) (last p : ℕ) : Type 0 where
+  pub left : images_ascend pairs ≡ images_above last (drop p pairs)
 
-module _ {s : List ℕ} {m : Map} (h : MapIn s m) where
-  -- A map without pairs.
-  pub ascend_nothing : m.pairs ≡ 0 → images_ascend (pairs_in s m) ≡ true
-  unfolding images_ascend
-  ascend_nothing z = rw (left_end h 0 (omega arith))
+-- A map without pairs.
+pub ascend_nothing : (pairs : List Pair) → length pairs ≡ 0 → images_ascend pairs ≡ true
+unfolding images_ascend
+ascend_nothing [] z = refl
+ascend_nothing (p ∷ ps) z = absurd (omega arith)
 
+module _ {pairs : List Pair} where
   -- The first image.
-  pub ascend_start : (m.pairs ≡ 0 → ⊥) → {e : ℕ} → e ≡ (pair_at s m 0).image → Climbs s m e 1
+  pub ascend_start : 0 < length pairs → {e : ℕ} → e ≡ (get_or pairs 0 no_pair).image → Climbs pairs e 1
   unfolding images_ascend
-  ascend_start n q = record { left = rw (left_on h 0 (omega arith), q) }
+  ascend_start n q = record { left = rw (left_on pairs 0 n, q) }
 
-  module _ {last p : ℕ} (w : Climbs s m last p) where
+  module _ {last p : ℕ} (w : Climbs pairs last p) where
     -- Behind the last image.
-    pub ascend_end : m.pairs ≤ p → images_ascend (pairs_in s m) ≡ true
+    pub ascend_end : length pairs ≤ p → images_ascend pairs ≡ true
     unfolding images_above
-    ascend_end l = w.left ∙ rw (left_end h p l)
+    ascend_end l = w.left ∙ rw (drop_of_length-le pairs l)
 
-    module _ (l : p < m.pairs) {e : ℕ} (q : e ≡ (pair_at s m p).image) where
+    module _ (l : p < length pairs) {e : ℕ} (q : e ≡ (get_or pairs p no_pair).image) where
       -- An image that isn't above the last one.
-      pub ascend_not : e ≤ last → images_ascend (pairs_in s m) ≡ false
+      pub ascend_not : e ≤ last → images_ascend pairs ≡ false
       unfolding images_above
-      ascend_not d = w.left ∙ rw (left_on h p l, ← q, le-ltb _ _ d)
+      ascend_not d = w.left ∙ rw (left_on pairs p l, ← q, le-ltb _ _ d)
 
       -- An image that is.
-      pub ascend_next : last < e → Climbs s m e (p + 1)
+      pub ascend_next : last < e → Climbs pairs e (p + 1)
       unfolding images_above
-      ascend_next d = record { left = w.left ∙ rw (left_on h p l, ← q, lt-ltb _ _ d) }
+      ascend_next d = record { left = w.left ∙ rw (left_on pairs p l, ← q, lt-ltb _ _ d) }

@@ -17,16 +17,13 @@ use Rattle.definition.specs.Kinds.{Side, variable_in, type_in, kernel_variables,
 use Rattle.definition.specs.Names.{numbers_of, variable_at, fiber}
 use Rattle.definition.specs.Rule.{Structure, Pair}
 use Rattle.definition.specs.Rows.{pairs_among, kernel_pairs}
-use Rattle.definition.specs.Signature.{Signature}
 use Rattle.laws.proofs.Lists.{bool_cases, never, and_left, and_right, and_true, or_cases, any_mem, any_true, get_d_each, mem_has, each_append, mem_at}
 use Rattle.rule.specs.Elements.{Finds}
 use Rattle.std.proofs.Common.{Some, None}
-use Rattle.rule.specs.Lookup.{no_pair}
+use Rattle.rule.specs.Pairs.{no_pair}
 use Rattle.rows.specs.Kernel.{KeyVars, KeyTypes, Typed, TypesOf, SideAt, clash}
-use Rattle.rule.specs.MapFields.{pairs_in, pair_at, MapIn, KeysIn, ImagesIn}
-use Rattle.rule.specs.declared.maps.Map.{Map}
+use Rattle.rule.specs.MapFields.{KeysIn, ImagesIn}
 use Rattle.records.proofs.Parts.{any_append, any_each, take_more, store_more}
-use Rattle.rule.proofs.MapLaws.{pairs_many}
 
 -- Whether a test holds of some pair and a later one.
 unfoldable pub any_two : (Pair → Pair → Bool) → List Pair → Bool
@@ -48,7 +45,7 @@ unfolding any joined
 any_joined t f [] = refl
 any_joined t f (x ∷ xs) = any_append t (f x) (joined f xs) ∙ rw (any_joined t f xs)
 
-pub any_never : {A : Type 0} (xs : List A) → any (λ (a : A). false) xs ≡ false
+any_never : {A : Type 0} (xs : List A) → any (λ (a : A). false) xs ≡ false
 unfolding any
 any_never [] = refl
 any_never (x ∷ xs) = any_never xs
@@ -119,7 +116,7 @@ module _ (t : Pair → Bool) (target : Structure) (pairs : List Pair) (named : I
   unfolding kernel_pairs
   fibers = any_joined t (λ (e : ℕ). pairs_among (fiber pairs e)) (numbers_of target) ∙ simp (among t)
 
-  pub any_kernel : any t (kernel_pairs pairs target) ≡ any_two (λ (a b : Pair). eqb a.image b.image && t (record { key = a.key; image = b.key })) pairs
+  any_kernel : any t (kernel_pairs pairs target) ≡ any_two (λ (a b : Pair). eqb a.image b.image && t (record { key = a.key; image = b.key })) pairs
   any_kernel = fibers ∙ both_ways
       (λ h.
       let r = any_true _ (numbers_of target) h in
@@ -136,96 +133,77 @@ module _ (t : Pair → Bool) (target : Structure) (pairs : List Pair) (named : I
       (and_true _ _ (eq-eqb w.a.image w.a.image refl)
       (and_true _ _ (eq-eqb w.b.image w.a.image (sym x)) (and_right (eqb w.a.image w.b.image) _ w.holds)))))
 
--- 25 over the pairs.
-module _ (sig : Signature) (table : List Variable) (source target : Side) (pairs : List Pair) (named : ImagesIn target.structure pairs) where
-  abbrev type : Pair → ℕ
-  type p = type_in table (variable_in source p.key)
-
-  abbrev differ : Pair → Bool
-  differ p = not (eqb (type_in table (variable_in source p.key)) (type_in table (variable_in source p.image)))
-
-  pub kernel_is : kernel_clashes table source target pairs ≡ any_two (clash type) pairs
-  unfolding kernel_clashes kernel_variables
-  kernel_is = any_each _ _ (kernel_pairs pairs target.structure) ∙ any_kernel differ target.structure pairs named
+-- What is left of the pairs at a place.
+pub left_on : (pairs : List Pair) (p : ℕ) → p < length pairs → drop p pairs ≡ get_or pairs p no_pair ∷ drop (p + 1) pairs
+left_on pairs p l = rw add-one (drop-cons pairs p no_pair l)
 
 -- The loops over the keys: the tests from a place on.
-unfoldable pub later_from : (Pair → ℕ) → List ℕ → Map → ℕ → ℕ → Bool
-later_from type s m p q = any (clash type (pair_at s m p)) (drop q (pairs_in s m))
+module _ (type : Pair → ℕ) (pairs : List Pair) where
+  unfoldable pub later_from : ℕ → ℕ → Bool
+  later_from p q = any (clash type (get_or pairs p no_pair)) (drop q pairs)
 
-unfoldable pub keys_from : (Pair → ℕ) → List ℕ → Map → ℕ → Bool
-keys_from type s m p = any_two (clash type) (drop p (pairs_in s m))
+  unfoldable pub keys_from : ℕ → Bool
+  keys_from p = any_two (clash type) (drop p pairs)
 
-module _ {s : List ℕ} {m : Map} (h : MapIn s m) where
-  pub left_on : (p : ℕ) → p < m.pairs → drop p (pairs_in s m) ≡ pair_at s m p ∷ drop (p + 1) (pairs_in s m)
-  unfolding pair_at
-  left_on p l = let n = pairs_many h in rw add-one (drop-cons (pairs_in s m) p no_pair (omega arith))
-
-  pub left_end : (p : ℕ) → m.pairs ≤ p → drop p (pairs_in s m) ≡ []
-  left_end p l = let n = pairs_many h in drop_of_length-le (pairs_in s m) {i = p} (omega arith)
-
-module _ (type : Pair → ℕ) {s : List ℕ} {m : Map} (h : MapIn s m) where
   module _ (p q : ℕ) where
-    pub later_other : q < m.pairs → ((pair_at s m p).image ≡ (pair_at s m q).image → ⊥) → later_from type s m p q ≡ later_from type s m p (q + 1)
+    pub later_other : q < length pairs → ((get_or pairs p no_pair).image ≡ (get_or pairs q no_pair).image → ⊥) → later_from p q ≡ later_from p (q + 1)
     unfolding later_from any
-    later_other l d = rw (left_on h q l, ne_eqb _ _ d)
+    later_other l d = rw (left_on pairs q l, ne_eqb _ _ d)
 
-    pub later_same : q < m.pairs → type (pair_at s m p) ≡ type (pair_at s m q) → later_from type s m p q ≡ later_from type s m p (q + 1)
+    pub later_same : q < length pairs → type (get_or pairs p no_pair) ≡ type (get_or pairs q no_pair) → later_from p q ≡ later_from p (q + 1)
     unfolding later_from any
-    later_same l e = rw (left_on h q l, eq-eqb _ _ e) (go (eqb (pair_at s m p).image (pair_at s m q).image))
+    later_same l e = rw (left_on pairs q l, eq-eqb _ _ e) (go (eqb (get_or pairs p no_pair).image (get_or pairs q no_pair).image))
       where
         go : (b : Bool) {x : Bool} → (b && false || x) ≡ x
         go true = refl
         go false = refl
 
-    pub later_clash : q < m.pairs → (pair_at s m p).image ≡ (pair_at s m q).image → (type (pair_at s m p) ≡ type (pair_at s m q) → ⊥)
-        → later_from type s m p q ≡ true
+    pub later_clash : q < length pairs → (get_or pairs p no_pair).image ≡ (get_or pairs q no_pair).image
+        → (type (get_or pairs p no_pair) ≡ type (get_or pairs q no_pair) → ⊥) → later_from p q ≡ true
     unfolding later_from any
-    later_clash l e d = rw (left_on h q l, eq-eqb _ _ e, ne_eqb _ _ d)
+    later_clash l e d = rw (left_on pairs q l, eq-eqb _ _ e, ne_eqb _ _ d)
 
-    pub later_end : m.pairs ≤ q → later_from type s m p q ≡ false
+    pub later_end : length pairs ≤ q → later_from p q ≡ false
     unfolding later_from any
-    later_end l = rw (left_end h q l)
+    later_end l = rw (drop_of_length-le pairs l)
 
-  pub keys_on : (p : ℕ) → p < m.pairs → {r : Bool} → r ≡ later_from type s m p (p + 1) → keys_from type s m p ≡ (r || keys_from type s m (p + 1))
+  pub keys_on : (p : ℕ) → p < length pairs → {r : Bool} → r ≡ later_from p (p + 1) → keys_from p ≡ (r || keys_from (p + 1))
   unfolding keys_from later_from any_two
-  keys_on p l e = rw (left_on h p l, e)
+  keys_on p l e = rw (left_on pairs p l, e)
 
-  pub keys_end : (p : ℕ) → m.pairs ≤ p → keys_from type s m p ≡ false
+  pub keys_end : (p : ℕ) → length pairs ≤ p → keys_from p ≡ false
   unfolding keys_from any_two
-  keys_end p l = rw (left_end h p l)
+  keys_end p l = rw (drop_of_length-le pairs l)
 
-pub later_all : (type : Pair → ℕ) (s : List ℕ) (m : Map) (p : ℕ)
-    → any (clash type (pair_at s m p)) (drop (p + 1) (pairs_in s m)) ≡ later_from type s m p (p + 1)
-unfolding later_from
-later_all type s m p = refl
+  pub later_all : (p : ℕ) → any (clash type (get_or pairs p no_pair)) (drop (p + 1) pairs) ≡ later_from p (p + 1)
+  unfolding later_from
+  later_all p = refl
 
 -- The type of a key's variable.
-pub type_at : {s : List ℕ} {m : Map} {vars types : List ℕ} {type : Pair → ℕ} → KeyTypes s m vars types type → (i : ℕ) → i < m.pairs → {v : ℕ}
-    → v ≡ get_or vars i 0
-    → get_or types v 0 ≡ type (pair_at s m i)
-type_at f i l e = rw e (f.same i l)
-
 abbrev pub type_of : List Variable → Side → Pair → ℕ
 type_of table source p = type_in table (variable_in source p.key)
 
-pub types_of : {s : List ℕ} {m : Map} → MapIn s m → {vars types : List ℕ} {table : List Variable} {source : Side} → KeyVars source (pairs_in s m) vars
-    → TypesOf table types
-    → Typed m vars (length types) → KeyTypes s m vars types (type_of table source)
-unfolding pair_at
-types_of {s} {m} h {vars} {types} {table} {source} v t typed = record { same = same }
-  where
-    same : (i : ℕ) → i < m.pairs → get_or types (get_or vars i 0) 0 ≡ type_of table source (pair_at s m i)
-    same i l =
-        let n = pairs_many h in
-        let e : get_or vars i 0 ≡ variable_in source (get_or (pairs_in s m) i no_pair).key =
-        sym (get_or-take (length (pairs_in s m)) vars i 0 (omega arith))
-        ∙ rw v.same (get_d_each (λ (p : Pair). variable_in source p.key) (pairs_in s m) i no_pair 0 (omega arith)) in
-        t.same (get_or vars i 0) (typed.below i l) ∙ ap (type_in table) e
+module _ {pairs : List Pair} {vars types : List ℕ} where
+  pub type_at : {type : Pair → ℕ} → KeyTypes pairs vars types type → (i : ℕ) → i < length pairs → {v : ℕ} → v ≡ get_or vars i 0
+      → get_or types v 0 ≡ type (get_or pairs i no_pair)
+  type_at f i l e = rw e (f.same i l)
 
-pub clash_is : (s : List ℕ) (m : Map) (sig : Signature) (table : List Variable) (source target : Side) → ImagesIn target.structure (pairs_in s m)
-    → kernel_clashes table source target (pairs_in s m) ≡ keys_from (type_of table source) s m 0
-unfolding keys_from
-clash_is s m sig table source target named = kernel_is sig table source target (pairs_in s m) named
+  pub types_of : {table : List Variable} {source : Side} → KeyVars source pairs vars → TypesOf table types → Typed pairs vars (length types)
+      → KeyTypes pairs vars types (type_of table source)
+  types_of {table} {source} v t typed = record { same = same }
+    where
+      same : (i : ℕ) → i < length pairs → get_or types (get_or vars i 0) 0 ≡ type_of table source (get_or pairs i no_pair)
+      same i l =
+          let e : get_or vars i 0 ≡ variable_in source (get_or pairs i no_pair).key =
+          sym (get_or-take (length pairs) vars i 0 l) ∙ rw v.same (get_d_each (λ (p : Pair). variable_in source p.key) pairs i no_pair 0 l) in
+          t.same (get_or vars i 0) (typed.below i l) ∙ ap (type_in table) e
+
+-- 25 over the pairs.
+pub clash_is : (table : List Variable) (source target : Side) (pairs : List Pair) → ImagesIn target.structure pairs
+    → kernel_clashes table source target pairs ≡ keys_from (type_of table source) pairs 0
+unfolding kernel_clashes kernel_variables keys_from
+clash_is table source target pairs named = any_each _ _ (kernel_pairs pairs target.structure)
+    ∙ any_kernel (λ (p : Pair). not (eqb (type_in table (variable_in source p.key)) (type_in table (variable_in source p.image)))) target.structure pairs named
 
 -- The variables of the first keys.
 pub record KeysDone (source : Side) (pairs : List Pair) (vars : List ℕ) (p : ℕ) : Type 0 where
@@ -235,26 +213,17 @@ pub keys_start : (source : Side) (pairs : List Pair) (vars : List ℕ) → KeysD
 unfolding each
 keys_start source pairs vars = record { same = refl }
 
--- A key is found.
-pub key_found : {s : List ℕ} {m : Map} → MapIn s m → {els : List ℕ} → KeysIn els (pairs_in s m) → (p : ℕ) → p < m.pairs → {e : ℕ} → e ≡ (pair_at s m p).key
-    → Finds None e els → ⊥
-unfolding pair_at
-key_found {s} {m} h {els} k p l e f =
-    let n = pairs_many h in never (mem_has _ els (k.named _ (mem_at (pairs_in s m) p no_pair (omega arith)))) (rw e at f.is)
+module _ {pairs : List Pair} {els : List ℕ} {p e : ℕ} (l : p < length pairs) (q : e ≡ (get_or pairs p no_pair).key) where
+  -- A key is found.
+  pub key_found : KeysIn els pairs → Finds None e els → ⊥
+  key_found k f = never (mem_has _ els (k.named _ (mem_at pairs p no_pair l))) (rw q at f.is)
 
-pub keys_next : {s : List ℕ} {m : Map} → MapIn s m → {source : Side} {vars els row : List ℕ} {p e i : ℕ} → KeysDone source (pairs_in s m) vars p
-    → SideAt els row source → p < m.pairs
-    → p < length vars → e ≡ (pair_at s m p).key → Finds (Some i) e els → KeysDone source (pairs_in s m) (set vars p (get_or row i 0)) (p + 1)
-unfolding pair_at each variable_at
-keys_next {s} {m} h {source} {vars} {els} {row} {p} {e} {i} d t l b q f =
-    let n = pairs_many h in
-    let v : get_or row i 0 ≡ variable_in source (get_or (pairs_in s m) p no_pair).key = t.variables i f.is.1 ∙ rw (← q, t.numbers, ← f.is.0) in
-    record { same = rw (store_more vars p (get_or row i 0) b, d.same, take_more (pairs_in s m) p no_pair (omega arith), each_append, v) }
+  pub keys_next : {source : Side} {vars row : List ℕ} {i : ℕ} → KeysDone source pairs vars p → SideAt els row source → p < length vars
+      → Finds (Some i) e els → KeysDone source pairs (set vars p (get_or row i 0)) (p + 1)
+  unfolding each variable_at
+  keys_next {source} {vars} {row} {i} d t b f =
+      let v : get_or row i 0 ≡ variable_in source (get_or pairs p no_pair).key = t.variables i f.is.1 ∙ rw (← q, t.numbers, ← f.is.0) in
+      record { same = rw (store_more vars p (get_or row i 0) b, d.same, take_more pairs p no_pair l, each_append, v) }
 
-pub keys_all : {s : List ℕ} {m : Map} → MapIn s m → {source : Side} {vars : List ℕ} {p : ℕ} → KeysDone source (pairs_in s m) vars p → m.pairs ≤ p
-    → p ≤ m.pairs → KeyVars source (pairs_in s m) vars
-keys_all {s} {m} h {source} {vars} {p} d a b =
-    let n = pairs_many h in
-    let e : length (pairs_in s m) ≡ p = omega arith in
-    let t : take p (pairs_in s m) ≡ pairs_in s m = take_all p (pairs_in s m) (omega arith) in
-    record { same = rw e (d.same ∙ rw t) }
+pub keys_all : {source : Side} {pairs : List Pair} {vars : List ℕ} {p : ℕ} → KeysDone source pairs vars p → p ≡ length pairs → KeyVars source pairs vars
+keys_all {source} {pairs} {vars} {p} d e = record { same = rw (← e) (d.same ∙ rw (take_all p pairs (omega arith))) }

@@ -14,7 +14,6 @@ use borrow.Author.Tests.{eq-eqb, ne_eqb, lt-ltb, le-ltb, ltb-false}
 use Rattle.definition.specs.Base.{cons_if, keep, each, joined, any, has}
 use Rattle.definition.specs.Group.{Variable}
 use Rattle.definition.specs.Kinds.{Side, kernel_variables, kernel_clashes}
-use Rattle.definition.specs.Limits.{field_limit}
 use Rattle.definition.specs.Names.{numbers_of, fiber}
 use Rattle.definition.specs.Rows.{pairs_among, kernel_pairs}
 use Rattle.definition.specs.Rule.{Structure, Pair}
@@ -22,19 +21,17 @@ use Rattle.definition.specs.Signature.{Signature}
 use Rattle.records.proofs.Lists.{keep_append}
 use Rattle.laws.proofs.Lists.{never, has_mem, mem_has, each_append, trichotomy, mem_at}
 use Rattle.laws.proofs.Numbering.{place_in}
-use Rattle.rule.specs.Elements.{element_numbers, Elements, Finds}
+use Rattle.rule.specs.Elements.{Finds}
 use Rattle.std.proofs.Common.{Some, None}
-use Rattle.rule.proofs.Finding.{Ascending, numbers_length}
+use Rattle.rule.proofs.Finding.{Ascending}
 use Rattle.flags.specs.declared.Mask.{Mask}
 use Rattle.flags.specs.Flags.{places, flag_at, no_flags, none_set, PackedLess}
 use Rattle.flags.proofs.Words.{above_none, no_flag, none_no_flag}
 use Rattle.records.proofs.Parts.{take_more}
-use Rattle.rule.proofs.MapLaws.{pairs_many}
-use Rattle.rule.specs.MapFields.{ImagesIn, pairs_in, pair_at, MapIn}
-use Rattle.rule.specs.Lookup.{no_pair}
+use Rattle.rule.specs.MapFields.{ImagesIn}
+use Rattle.rule.specs.Pairs.{no_pair}
 use Rattle.rows.specs.Arguments.{Marks}
 use Rattle.rows.specs.Kernel.{Merged, several_at, images_ascend}
-use Rattle.rule.specs.declared.maps.Map.{Map}
 use Rattle.rows.proofs.ArgumentLaws.{marks_none, mark_at}
 use Rattle.rows.proofs.Ascending.{fiber_one}
 
@@ -64,76 +61,65 @@ one_more zero = le-ltb 0 0 (omega arith) ∙ sym (le-ltb 1 1 (omega arith))
 one_more (suc n) = lt-ltb 0 (suc n) (omega arith) ∙ sym (lt-ltb 1 (suc n + 1) (omega arith))
 
 -- The loop: the images of the first pairs are marked, and those of several of them once more.
-abbrev images_to : List ℕ → Map → ℕ → List ℕ
-images_to s m p = each (λ (q : Pair). q.image) (take p (pairs_in s m))
+abbrev images_to : List Pair → ℕ → List ℕ
+images_to pairs p = each (λ (q : Pair). q.image) (take p pairs)
 
-pub record Several (s : List ℕ) (m : Map) (els : List ℕ) (seen merged : List Bool) (p : ℕ) : Type 0 where
-  pub marks : Marks seen els (images_to s m p)
-  pub several : (j : ℕ) → j < length els → get_or merged j false ≡ several_at els (take p (pairs_in s m)) j
+pub record Several (pairs : List Pair) (els : List ℕ) (seen merged : List Bool) (p : ℕ) : Type 0 where
+  pub marks : Marks seen els (images_to pairs p)
+  pub several : (j : ℕ) → j < length els → get_or merged j false ≡ several_at els (take p pairs) j
 
-pub several_start : {s index : List ℕ} {k : ℕ} {m : Map} → Elements s index k
-    → Several s m (element_numbers s index k) (replicate places false) (replicate places false) 0
+pub several_start : (pairs : List Pair) (els : List ℕ) → length els ≤ places → Several pairs els (replicate places false) (replicate places false) 0
 unfolding each fiber keep
-several_start {s} {index} {k} w = let n = numbers_length s index k in let few = w.few in record {
-  marks = marks_none w;
+several_start pairs els few = record {
+  marks = marks_none els few;
   several = λ j l. get_or-replicate places j false false (omega arith) ∙ sym (le-ltb 1 0 (omega arith));
 }
 
-module _ {s : List ℕ} {m : Map} (h : MapIn s m) {els : List ℕ} {seen merged : List Bool} {p : ℕ} (w : Several s m els seen merged p) where
-  pub several_end : m.pairs ≤ p → (j : ℕ) → j < length els → get_or merged j false ≡ several_at els (pairs_in s m) j
-  several_end l j i = let n = pairs_many h in let t : take p (pairs_in s m) ≡ pairs_in s m = take_all p (pairs_in s m) (omega arith) in rw t at (w.several j i)
+module _ {pairs : List Pair} {els : List ℕ} {seen merged : List Bool} {p : ℕ} (w : Several pairs els seen merged p) where
+  pub several_end : length pairs ≤ p → (j : ℕ) → j < length els → get_or merged j false ≡ several_at els pairs j
+  several_end l j i = rw (take_all p pairs l) at (w.several j i)
 
-  module _ (l : p < m.pairs) {e : ℕ} (q : e ≡ (pair_at s m p).image) where
-    on : take (p + 1) (pairs_in s m) ≡ take p (pairs_in s m) ++ (pair_at s m p ∷ [])
-    unfolding pair_at
-    on = let n = pairs_many h in take_more (pairs_in s m) p no_pair (omega arith)
+  module _ (l : p < length pairs) {e : ℕ} (q : e ≡ (get_or pairs p no_pair).image) where
+    on : take (p + 1) pairs ≡ take p pairs ++ (get_or pairs p no_pair ∷ [])
+    on = take_more pairs p no_pair l
 
-    more : images_to s m (p + 1) ≡ images_to s m p ++ (e ∷ [])
+    more : images_to pairs (p + 1) ≡ images_to pairs p ++ (e ∷ [])
     unfolding each
     more = rw (on, each_append, q)
 
-    pub image_found : (target : Structure) → numbers_of target ≡ els → ImagesIn target (pairs_in s m) → Finds None e els → ⊥
-    unfolding pair_at
-    image_found target same named f =
-        let n = pairs_many h in
-        let i = named.named _ (mem_at (pairs_in s m) p no_pair (omega arith)) in
-        never (mem_has _ (numbers_of target) i) (rw (q, ← same) at f.is)
+    pub image_found : {target : Structure} → numbers_of target ≡ els → ImagesIn target pairs → Finds None e els → ⊥
+    image_found {target} same named f = never (mem_has _ (numbers_of target) (named.named _ (mem_at pairs p no_pair l))) (rw (q, ← same) at f.is)
 
     module _ {i : ℕ} (f : Finds (Some i) e els) (up : Ascending els) (a : i < length seen) (b : i < length merged) where
       here : get_or els i 0 ≡ e
       here = rw f.is.0 (place_in e els (has_mem e els f.is.2)).1
 
-      seen_here : get_or seen i false ≡ ltb 0 (length (fiber (take p (pairs_in s m)) e))
-      seen_here = rw here at (w.marks.at i f.is.1) ∙ seen_keys e (take p (pairs_in s m))
+      seen_here : get_or seen i false ≡ ltb 0 (length (fiber (take p pairs) e))
+      seen_here = rw here at (w.marks.at i f.is.1) ∙ seen_keys e (take p pairs)
 
-      pub several_next : Several s m els (set seen i true) (set merged i (get_or seen i false)) (p + 1)
+      pub several_next : Several pairs els (set seen i true) (set merged i (get_or seen i false)) (p + 1)
       several_next = record { marks = rw more (mark_at w.marks up f a); several = λ j l. rw on (go j l (ℕ_discrete j i)) }
         where
           go : (j : ℕ) → j < length els → Dec (j ≡ i)
-              → get_or (set merged i (get_or seen i false)) j false ≡ several_at els (take p (pairs_in s m) ++ (pair_at s m p ∷ [])) j
-          go j l (yes z) = rw (z, get_or-set_same merged i (get_or seen i false) false b, here, more_same (take p (pairs_in s m)) (pair_at s m p) e (sym q))
-              (seen_here ∙ one_more (length (fiber (take p (pairs_in s m)) e)))
+              → get_or (set merged i (get_or seen i false)) j false ≡ several_at els (take p pairs ++ (get_or pairs p no_pair ∷ [])) j
+          go j l (yes z) = rw (z, get_or-set_same merged i (get_or seen i false) false b, here, more_same (take p pairs) (get_or pairs p no_pair) e (sym q))
+              (seen_here ∙ one_more (length (fiber (take p pairs) e)))
           go j l (no z) = get_or-set_other merged i j (get_or seen i false) false z ∙ w.several j l
-              ∙ sym (ap (ltb 1) (more_other (take p (pairs_in s m)) (pair_at s m p) (get_or els j 0) (λ y. ⊎_elim
+              ∙ sym (ap (ltb 1) (more_other (take p pairs) (get_or pairs p no_pair) (get_or els j 0) (λ y. ⊎_elim
               (λ (c : j < i). let x = up j i c f.is.1 in omega (arith, here))
               (⊎_elim (λ (c : j ≡ i). z c) (λ (c : i < j). let x = up i j c l in omega (arith, here))) (trichotomy j i))))
 
 -- The flags of the marks.
-pub packed_merged : {mask : Mask} {merged : List Bool} (els : List ℕ) (target : Structure) (pairs : List Pair) → numbers_of target ≡ els
-    → length els ≤ field_limit → PackedLess mask merged (replicate places false) (length els)
-    → ((j : ℕ) → j < length els → get_or merged j false ≡ several_at els pairs j) → Merged mask target pairs
-packed_merged {mask} {merged} els target pairs e few p w = record {
-  flags = record {
-    above = rw e p.flags.above;
-    same = λ j l. rw e (same j (rw e at l));
-  };
-}
+pub packed_merged : {mask : Mask} {merged : List Bool} {target : Structure} {pairs : List Pair} → length (numbers_of target) ≤ places
+    → PackedLess mask merged (replicate places false) (length (numbers_of target))
+    → ((j : ℕ) → j < length (numbers_of target) → get_or merged j false ≡ several_at (numbers_of target) pairs j) → Merged mask target pairs
+packed_merged {mask} {merged} {target} {pairs} few p w = record { flags = record { above = p.flags.above; same = same } }
   where
     and_not : (b : Bool) → (b && not false) ≡ b
     and_not true = refl
     and_not false = refl
 
-    same : (j : ℕ) → j < length els → flag_at mask j ≡ several_at els pairs j
+    same : (j : ℕ) → j < length (numbers_of target) → flag_at mask j ≡ several_at (numbers_of target) pairs j
     same j l = p.flags.same j l ∙ rw (get_or-replicate places j false false (omega arith)) (and_not (get_or merged j false)) ∙ w j l
 
 -- Images that ascend: none is flagged.

@@ -1,191 +1,231 @@
 -- The table of images: how it is filled, and the search in it.
-use Prim.Native.Nat.{ℕ, ◌+◌, ◌*◌, ◌≤◌, ◌<◌}
+use Prim.Native.Nat.{ℕ, ◌+◌, ◌≤◌, ◌<◌}
 use native.Mathlib.Omega.{arith}
-use native.Mathlib.Nat.{add-zero}
-use mathlib.Core.Bool.{Bool, true, false, ◌||◌, and-false}
-use mathlib.Core.List.Memᴰ
-use mathlib.Core.List.{List, [], ◌∷◌, ◌++◌, append-nil, append_assoc}
+use native.Mathlib.Decide.{ℕ_discrete}
+use native.Mathlib.Numerals.{add-one}
+use mathlib.Core.Bool.{Bool, true, false, not, ◌&&◌, ◌||◌, and-false}
+use mathlib.Core.List.{List, [], ◌∷◌, ◌++◌, append-nil}
 use mathlib.Core.Option.{none, some}
 use mathlib.Core.Path.{◌≡◌, refl, sym, ◌∙◌, ap}
 use lib.Dec.{eqb}
-use lib.ListN.{length, get_or, set, take, drop, length-set, drop_of_length-le}
-use lib.Seq.{take-set-le, take_all, get_or-set_same}
+use lib.ListN.{length, get_or, set, take, drop, length-append, drop_of_length-le}
+use lib.Seq.{length-take-le, drop-cons, take_all, get_or-append_seam, get_or-set_same, get_or-set_other}
+use lib.ListN as lists
 use borrow.Author.Tests.{eq-eqb, ne_eqb}
 use Rattle.definition.specs.Base.{each, any, same_list}
-use Rattle.definition.specs.Limits.{column_limit}
+use Rattle.definition.specs.Limits.{field_limit, column_limit}
 use Rattle.definition.specs.Rule.{Row, Pair}
 use Rattle.definition.specs.Rows.{image_of, image_row, same_row}
-use Rattle.laws.proofs.Lists.{length_each, each_append}
-use Rattle.records.specs.Places.{stretch}
+use Rattle.laws.proofs.Lists.{each_append, length_each, get_d_each, mem_at, mem_each}
 use Rattle.records.proofs.Link.{one_more}
+use Rattle.records.proofs.Parts.{take_more, store_more, any_append, any_each, drop_mem, apart}
+use Rattle.records.specs.declared.refusal.Refusal.{Refusal}
+use Rattle.records.specs.declared.refusal.Refusal.TheVariants as refusal
 use Rattle.rule.specs.Rows.{Alike}
-use Rattle.rows.specs.Table as table
-use Rattle.rows.specs.Table.{lacks_image, row_lacks, image_in, Held, more, Maps}
-use Rattle.std.proofs.Common.{Ok}
-use Rattle.records.proofs.Parts.{take_more, store_more, kept_get, kept_stretch, put_kept, put_stretch, any_append}
+use Rattle.rows.specs.Table.{Short, lacks_image, row_lacks, image_in, is_new, no_row, line_els, LineOf, Held, Holds, Maps, Added, Imaged}
+use Rattle.rows.specs.declared.table.Images.{Images}
+use Rattle.rows.specs.declared.table.Line.{Line}
+use Rattle.rule.specs.Els.{els_in}
+use Rattle.rule.specs.Views.{StructureBy, Sound}
+use Rattle.rule.proofs.Soundness.{pred_short, func_short}
+use Rattle.rule.specs.declared.ids.ElId.{ElId}
+use Rattle.std.proofs.Common.{Ok, Err, Some, None}
 
 -- The first j elements of a row are mapped.
-pub record Mapping (pairs : List Pair) (es els₀ els : List ℕ) (at j : ℕ) : Type 0 where
-  pub long : length els ≡ length els₀
+pub record Mapping (pairs : List Pair) (es places : List ℕ) (j : ℕ) : Type 0 where
   pub left : any (lacks_image pairs) es ≡ any (lacks_image pairs) (drop j es)
-  pub put : take (at + j) els ≡ take at els₀ ++ each (image_in pairs) (take j es)
+  pub put : take j places ≡ each (image_in pairs) (take j es)
 
-pub mapping_start : (pairs : List Pair) (es els : List ℕ) (at : ℕ) → Mapping pairs es els els at 0
+pub mapping_start : (pairs : List Pair) (es places : List ℕ) → Mapping pairs es places 0
 unfolding each
-mapping_start pairs es els at = record { long = refl; left = refl; put = rw (add-zero, append-nil) }
+mapping_start pairs es places = record { left = refl; put = refl }
 
-module _ {pairs : List Pair} {es els₀ els : List ℕ} {at j : ℕ} (m : Mapping pairs es els₀ els at j) where
-  pub mapping_next : {e v : ℕ} → j < length es → at + j < length els → get_or es j 0 ≡ e → image_of pairs e ≡ some v
-      → Mapping pairs es els₀ (set els (at + j) v) at (j + 1)
-  unfolding any each
-  mapping_next {e} {v} h k g q = record {
-    long = length-set els (at + j) v ∙ m.long;
-    left = m.left ∙ rw (one_more es j h, g, q);
-    put = put;
-  }
-    where
-      put : take (at + (j + 1)) (set els (at + j) v) ≡ take at els₀ ++ each (image_in pairs) (take (j + 1) es)
-      put =
-          let a : at + (j + 1) ≡ at + j + 1 = omega arith in
-          rw (a, store_more els (at + j) v k, m.put, take_more es j 0 h, each_append, g, q, append_assoc)
+module _ {pairs : List Pair} {es places : List ℕ} {j : ℕ} (m : Mapping pairs es places j) where
+  module _ (h : j < length es) {e : ℕ} (g : e ≡ get_or es j 0) where
+    pub mapping_next : {v : ℕ} → j < length places → image_of pairs e ≡ some v → Mapping pairs es (set places j v) (j + 1)
+    unfolding any each
+    mapping_next {v} k q = record {
+      left = m.left ∙ rw (one_more es j h, ← g, q);
+      put = rw (store_more places j v k, m.put, take_more es j 0 h, each_append, ← g, q);
+    }
 
-  pub mapping_stop : {e : ℕ} → j < length es → get_or es j 0 ≡ e → image_of pairs e ≡ none → any (lacks_image pairs) es ≡ true
-  unfolding any
-  mapping_stop h g q = m.left ∙ rw (one_more es j h, g, q)
+    pub mapping_stop : image_of pairs e ≡ none → any (lacks_image pairs) es ≡ true
+    unfolding any
+    mapping_stop q = m.left ∙ rw (one_more es j h, ← g, q)
 
-  pub mapping_end : length es ≡ j → Maps (Ok tt) pairs es els₀ els at
+  pub mapping_end : length es ≡ j → Maps (Ok tt) pairs es places
   unfolding any
   mapping_end h =
       let l : length es ≤ j = omega arith in
-      record {
-        long = m.long;
-        is = (m.left ∙ rw (drop_of_length-le es l), rw (h, m.put) (ap (λ (xs : List ℕ). take at els₀ ++ each (image_in pairs) xs) (take_all j es l)));
-      }
+      record { is = (m.left ∙ rw (drop_of_length-le es l), rw h (m.put ∙ ap (each (image_in pairs)) (take_all j es l))) }
 
--- Rows that are held stay held where their places do, and one more is held behind them.
-module _ {symbols els : List ℕ} where
-  held_keep : (symbols' els' : List ℕ) (n : ℕ) → take n symbols' ≡ take n symbols → take (column_limit * n) els' ≡ take (column_limit * n) els
-      → {i : ℕ} {qs : List Row} → Held symbols els i qs → i + length qs ≤ n → Held symbols' els' i qs
-  held_keep symbols' els' n a b table.none h = table.none
-  held_keep symbols' els' n a b (more {i} {q} {qs} x y w r) h = more
-      (kept_get symbols' symbols n a i (omega arith) ∙ x)
-      (kept_stretch els' els (column_limit * n) b (column_limit * i) (length q.elements) (omega arith) ∙ y)
-      w (held_keep symbols' els' n a b r (omega arith))
+-- A row of one element more: its image, and that the element, or one before it, has none.
+module _ {pairs : List Pair} {es places : List ℕ} (e : ℕ) where
+  pub maps_more : Maps (Ok tt) pairs es places → {v n : ℕ} → image_of pairs e ≡ some v → n ≡ length es → n < length places
+      → Maps (Ok tt) pairs (es ++ (e ∷ [])) (set places n v)
+  unfolding any each
+  maps_more m {v} {n} q h l =
+      let a : length (es ++ (e ∷ [])) ≡ n + 1 = rw length-append (omega arith) in
+      record { is = (any_append (lacks_image pairs) es (e ∷ []) ∙ rw (m.is.0, q), rw (a, store_more places n v l, each_append, q, h) (rw m.is.1)) }
 
-  held_snoc : {i : ℕ} {qs : List Row} → Held symbols els i qs → (q : Row) → (n : ℕ) → i + length qs ≡ n → get_or symbols n 0 ≡ q.symbol
-      → stretch els (column_limit * n) (length q.elements) ≡ q.elements → length q.elements ≤ column_limit → Held symbols els i (qs ++ (q ∷ []))
-  held_snoc (table.none {i}) q n h x y w = let e : i ≡ n = omega arith in rw e (more x y w table.none)
-  held_snoc (more {i} a b c r) q n h x y w = more a b c (held_snoc r q n (omega arith) x y w)
+  pub lacks_last : Maps (Ok tt) pairs es places → image_of pairs e ≡ none → {new : List ℕ} → Maps (Err refusal.UnmappedElement) pairs (es ++ (e ∷ [])) new
+  unfolding any
+  lacks_last m q = record { is = (refl, any_append (lacks_image pairs) es (e ∷ []) ∙ rw (m.is.0, q)) }
 
--- The images of the first i rows are in the table.
-pub record Filled (pairs : List Pair) (rows : List Row) (symbols els : List ℕ) : Type 0 where
+module _ (l : Line) where
+  pub line_some : {e : ElId} → l.own ≡ Some e → line_els l ≡ els_in l.els ++ (e.0 ∷ [])
+  line_some q = rw q
+
+  pub line_none : l.own ≡ None → line_els l ≡ els_in l.els
+  line_none q = rw (q, append-nil)
+
+  pub line_room : {e : ElId} → l.own ≡ Some e → length (line_els l) ≤ column_limit → {n : ℕ} → n ≡ length (els_in l.els) → n < column_limit
+  line_room {e} q h m =
+      let k : length (line_els l) ≡ length (els_in l.els) + 1 = rw (line_some q, length-append) (omega arith) in
+      omega arith
+
+  pub lacks_before : {pairs : List Pair} {places new : List ℕ} {r : Refusal} → Maps (Err r) pairs (els_in l.els) places → Maps (Err r) pairs (line_els l) new
+  lacks_before {pairs} m = record { is = (m.is.0, any_append (lacks_image pairs) (els_in l.els) _ ∙ rw m.is.1) }
+
+-- The next row is one of few, and short.
+pub row_fits : {rows rest : List Row} {r : Row} → Short rows → (i : ℕ) → drop i rows ≡ r ∷ rest → {l : Line} → LineOf l r
+    → (i < field_limit) × (length (line_els l) ≤ column_limit)
+row_fits {rows} w i e of = let a = apart rows i e in let few = w.few in (omega (arith, a.inside), rw of.elements (w.short _ (drop_mem i rows e)))
+
+-- One row more is held behind those that are.
+module _ {old new : Images} {qs : List Row} (h : Held old qs) (q : Row) (places : List ℕ) where
+  held_snoc : new.count ≡ old.count + 1 → new.symbols ≡ set old.symbols old.count q.symbol → new.els ≡ set old.els old.count places
+      → take (length q.elements) places ≡ q.elements → old.count < length old.symbols → old.count < length old.els → Held new (qs ++ (q ∷ []))
+  held_snoc c a b p k l = record {
+    count = rw (c, length-append) (omega (arith, h.count));
+    symbol = λ i m. rw a (symbol i m (ℕ_discrete i (length qs)));
+    elements = λ i m. rw b (elements i m (ℕ_discrete i (length qs)));
+  }
+    where
+      before : (i : ℕ) → i < length (qs ++ (q ∷ [])) → (i ≡ length qs → ⊥) → i < length qs
+      before i m d = let n : length (qs ++ (q ∷ [])) ≡ length qs + 1 = rw length-append (omega arith) in omega (arith, d)
+
+      symbol : (i : ℕ) → i < length (qs ++ (q ∷ [])) → Dec (i ≡ length qs)
+          → get_or (set old.symbols old.count q.symbol) i 0 ≡ (get_or (qs ++ (q ∷ [])) i no_row).symbol
+      symbol i m (yes e) = rw (e, get_or-append_seam, ← h.count) (get_or-set_same old.symbols old.count q.symbol 0 k)
+      symbol i m (no d) = rw (lists.get_or-append qs (q ∷ []) no_row i (before i m d))
+          (get_or-set_other old.symbols old.count i q.symbol 0 (λ e. d (e ∙ h.count)) ∙ h.symbol i (before i m d))
+
+      elements : (i : ℕ) → i < length (qs ++ (q ∷ [])) → Dec (i ≡ length qs)
+          → take (length (get_or (qs ++ (q ∷ [])) i no_row).elements) (get_or (set old.els old.count places) i []) ≡ (get_or (qs ++ (q ∷ [])) i no_row).elements
+      elements i m (yes e) = rw (e, get_or-append_seam, ← h.count, get_or-set_same old.els old.count places [] l) p
+      elements i m (no d) = rw (
+        lists.get_or-append qs (q ∷ []) no_row i (before i m d),
+        get_or-set_other old.els old.count i places [] (λ e. d (e ∙ h.count)),
+      ) (h.elements i (before i m d))
+
+-- The images of rows are in the table.
+pub record Filled (pairs : List Pair) (rows : List Row) (images : Images) : Type 0 where
   pub fine : any (row_lacks pairs) rows ≡ false
-  pub held : Held symbols els 0 (each (image_row pairs) rows)
+  pub held : Held images (each (image_row pairs) rows)
 
-pub filled_none : (pairs : List Pair) (symbols els : List ℕ) → Filled pairs [] symbols els
+pub filled_none : (pairs : List Pair) {images : Images} → images.count ≡ 0 → Filled pairs [] images
 unfolding any each
-filled_none pairs symbols els = record { fine = refl; held = table.none }
+filled_none pairs e = record { fine = refl; held = record { count = e; symbol = λ i h. absurd (omega arith); elements = λ i h. absurd (omega arith) } }
 
-module _ {pairs : List Pair} {rows : List Row} {symbols els els' : List ℕ} (f : Filled pairs rows symbols els) (r : Row) (n : ℕ) (count : n ≡ length rows) where
-  pub filled_more : n < length symbols → column_limit * n ≤ length els → length r.elements ≤ column_limit
-      → Maps (Ok tt) pairs r.elements els els' (column_limit * n) → Filled pairs (rows ++ (r ∷ [])) (set symbols n r.symbol) els'
+module _ {pairs : List Pair} {rows : List Row} {old new : Images} (f : Filled pairs rows old) {l : Line} {r : Row} (of : LineOf l r) where
+  pub filled_more : any (lacks_image pairs) (line_els l) ≡ false → Added pairs l old new
+      → Filled pairs (rows ++ (r ∷ [])) new
   unfolding any each image_row
-  filled_more h k w m =
-      let many : length (each (image_row pairs) rows) ≡ length rows = length_each (image_row pairs) rows in
-      let same : length (each (image_in pairs) r.elements) ≡ length r.elements = length_each (image_in pairs) r.elements in
-      let put : take (column_limit * n + length (each (image_in pairs) r.elements)) els'
-      ≡ take (column_limit * n) els ++ each (image_in pairs) r.elements = rw same m.is.1 in
-      let kept = held_keep (set symbols n r.symbol) els' n (take-set-le n symbols n r.symbol (omega arith))
-      (put_kept els' els (each (image_in pairs) r.elements) (column_limit * n) k put) f.held (omega arith) in
+  filled_more e a =
+      let n : length (each (image_in pairs) r.elements) ≡ length r.elements = length_each (image_in pairs) r.elements in
+      let put : take (length r.elements) a.places ≡ each (image_in pairs) r.elements = rw of.elements at a.put in
       record {
-        fine = any_append (row_lacks pairs) rows (r ∷ []) ∙ rw (f.fine, m.is.0);
-        held = rw each_append (held_snoc kept (image_row pairs r) n (omega arith) (get_or-set_same symbols n r.symbol 0 h)
-            (put_stretch els' els (each (image_in pairs) r.elements) (column_limit * n) k put) (omega arith));
+        fine = any_append (row_lacks pairs) rows (r ∷ []) ∙ rw (f.fine, ← of.elements, e);
+        held = rw each_append (held_snoc f.held (image_row pairs r) a.places a.count (a.symbols ∙ rw of.symbol refl) a.els (rw n put) a.room.0 a.room.1);
       }
 
--- The search for a row in the table stands at a place.
-pub record Searching (columns : ℕ → ℕ) (row : Row) (qs : List Row) (symbols els : List ℕ) (i n : ℕ) : Type 0 where
-  pub rest : List Row
-  pub held : Held symbols els i rest
-  pub left : n ≡ i + length rest
-  pub alike : Alike row.kind columns rest
-  pub same : any (same_row row) qs ≡ any (same_row row) rest
+-- The search for a row in the table, from a place on.
+module _ {images : Images} {qs : List Row} (h : Held images qs) {columns : ℕ → ℕ} (r : Row) (a : Alike r.kind columns qs) (i : ℕ) where
+  module _ (l : i < length qs) where
+    abbrev here : Row
+    here = get_or qs i no_row
 
-pub search_start : {columns : ℕ → ℕ} {row : Row} {qs : List Row} {symbols els : List ℕ} {n : ℕ} → Held symbols els 0 qs → n ≡ length qs
-    → Alike row.kind columns qs
-    → Searching columns row qs symbols els 0 n
-search_start {qs = qs} h e a = record { rest = qs; held = h; left = omega arith; alike = a; same = refl }
+    on : any (same_row r) (drop i qs) ≡ (same_row r here || any (same_row r) (drop (i + 1) qs))
+    unfolding any
+    on = rw (add-one, drop-cons qs i no_row l)
 
--- The row at that place, and what is left behind it.
-record Tried (columns : ℕ → ℕ) (row : Row) (qs : List Row) (symbols els : List ℕ) (i n : ℕ) : Type 0 where
-  q : Row
-  rest : List Row
-  symbol : get_or symbols i 0 ≡ q.symbol
-  elements : stretch els (column_limit * i) (columns q.symbol) ≡ q.elements
-  kind_is : q.kind ≡ row.kind
-  same : any (same_row row) qs ≡ (same_row row q || any (same_row row) rest)
-  held : Held symbols els (i + 1) rest
-  left : n ≡ i + 1 + length rest
-  alike : Alike row.kind columns rest
+    pub search_other : (get_or images.symbols i 0 ≡ r.symbol → ⊥) → any (same_row r) (drop i qs) ≡ any (same_row r) (drop (i + 1) qs)
+    unfolding same_row
+    search_other d = on ∙ rw (ne_eqb r.symbol here.symbol (λ e. d (h.symbol i l ∙ sym e)), and-false (eqb r.kind here.kind))
 
-tried : {columns : ℕ → ℕ} {row : Row} {qs : List Row} {symbols els : List ℕ} {i n : ℕ} → Searching columns row qs symbols els i n → i < n
-    → Tried columns row qs symbols els i n
-unfolding any
-tried {columns} {row} {qs} {symbols} {els} {i} {n} t l = go t.rest t.held t.left t.alike t.same
+    pub search_same : get_or images.symbols i 0 ≡ r.symbol → length r.elements ≡ columns r.symbol → {b : Bool}
+        → b ≡ same_list r.elements (take (length r.elements) (get_or images.els i []))
+        → any (same_row r) (drop i qs) ≡ (b || any (same_row r) (drop (i + 1) qs))
+    unfolding same_row
+    search_same e many f =
+        let q = a.same here (mem_at qs i no_row l) in
+        let s : here.symbol ≡ r.symbol = sym (h.symbol i l) ∙ e in
+        let n : length here.elements ≡ length r.elements = q.1 ∙ ap columns s ∙ sym many in
+        let es : take (length r.elements) (get_or images.els i []) ≡ here.elements = rw n at (h.elements i l) in
+        on ∙ rw (eq-eqb r.kind here.kind (sym q.0), eq-eqb r.symbol here.symbol (sym s), f, es) refl
+
+  pub search_end : length qs ≤ i → any (same_row r) (drop i qs) ≡ false
+  unfolding any
+  search_end l = rw (drop_of_length-le qs l)
+
+-- Lists of one length with one member more.
+same_snoc : (xs ys : List ℕ) (x y : ℕ) → length xs ≡ length ys → same_list (xs ++ (x ∷ [])) (ys ++ (y ∷ [])) ≡ (eqb y x && same_list xs ys)
+unfolding same_list
+same_snoc [] [] x y h = go (ℕ_discrete x y)
   where
-    go : (rest : List Row) → Held symbols els i rest → n ≡ i + length rest → Alike row.kind columns rest → any (same_row row) qs ≡ any (same_row row) rest
-        → Tried columns row qs symbols els i n
-    go [] h e a d = absurd (omega arith)
-    go (q ∷ rest) (more x y w r) e a d =
-        let b = a.same q (Memᴰ.head refl) in
-        record {
-          q = q;
-          rest = rest;
-          symbol = x;
-          elements = rw b.1 at y;
-          kind_is = b.0;
-          same = d;
-          held = r;
-          left = omega arith;
-          alike = record { same = λ p m. a.same p (Memᴰ.tail m) };
-        }
-
-same_row_lem : (r q : Row) → q.kind ≡ r.kind → q.symbol ≡ r.symbol → same_row r q ≡ same_list r.elements q.elements
-unfolding same_row
-same_row_lem r q k e = rw (eq-eqb r.kind q.kind (sym k), eq-eqb r.symbol q.symbol (sym e))
-
-module _ {columns : ℕ → ℕ} {row : Row} {qs : List Row} {symbols els : List ℕ} {i n : ℕ} (t : Searching columns row qs symbols els i n) (l : i < n) where
-  abbrev here : Tried columns row qs symbols els i n
-  here = tried t l
-
-  behind : same_row row here.q ≡ false → Searching columns row qs symbols els (i + 1) n
-  behind e = record { rest = here.rest; held = here.held; left = here.left; alike = here.alike; same = here.same ∙ rw e }
-
-  pub search_other : (get_or symbols i 0 ≡ row.symbol → ⊥) → Searching columns row qs symbols els (i + 1) n
-  unfolding same_row
-  search_other d = behind (rw (ne_eqb row.symbol here.q.symbol (λ e. d (here.symbol ∙ sym e)), and-false (eqb row.kind here.q.kind)))
-
-  module _ (e : get_or symbols i 0 ≡ row.symbol) {count : ℕ} (many : count ≡ columns row.symbol) {r : Bool}
-      (f : r ≡ same_list row.elements (stretch els (column_limit * i) count)) where
-    compared : same_row row here.q ≡ r
-    compared =
-        let z : here.q.symbol ≡ row.symbol = sym here.symbol ∙ e in
-        let es : stretch els (column_limit * i) (columns row.symbol) ≡ here.q.elements =
-        ap (λ (k : ℕ). stretch els (column_limit * i) (columns k)) (sym z) ∙ here.elements in
-        same_row_lem row here.q here.kind_is z ∙ ap (same_list row.elements) (sym es)
-        ∙ ap (λ (k : ℕ). same_list row.elements (stretch els (column_limit * i) k)) (sym many) ∙ sym f
-
-    pub search_differs : r ≡ false → Searching columns row qs symbols els (i + 1) n
-    search_differs d = behind (compared ∙ d)
-
-    pub search_hit : r ≡ true → true ≡ any (same_row row) qs
-    search_hit d = sym (here.same ∙ rw (compared, d))
-
-pub search_end : {columns : ℕ → ℕ} {row : Row} {qs : List Row} {symbols els : List ℕ} {i n : ℕ} → Searching columns row qs symbols els i n → n ≤ i
-    → false ≡ any (same_row row) qs
-unfolding any
-search_end {row = row} {qs} {i = i} {n} t l = sym (t.same ∙ go t.rest t.left)
+    go : Dec (x ≡ y) → (eqb x y && true) ≡ (eqb y x && true)
+    go (yes e) = rw e
+    go (no d) = rw (ne_eqb x y d, ne_eqb y x (λ e. d (sym e)))
+same_snoc [] (b ∷ ys) x y h = absurd (omega arith)
+same_snoc (a ∷ xs) [] x y h = absurd (omega arith)
+same_snoc (a ∷ xs) (b ∷ ys) x y h = rw (same_snoc xs ys x y (omega arith)) (go (eqb a b) (eqb y x))
   where
-    go : (rest : List Row) → n ≡ i + length rest → any (same_row row) rest ≡ false
-    go [] e = refl
-    go (q ∷ rest) e = absurd (omega arith)
+    go : (c d : Bool) → (c && (d && same_list xs ys)) ≡ (d && (c && same_list xs ys))
+    go true d = refl
+    go false d = sym (and-false d)
+
+pub same_with : (xs : List ℕ) (e : ℕ) (places : List ℕ) {n : ℕ} → n ≡ length xs → n < length places
+    → same_list (xs ++ (e ∷ [])) (take (length (xs ++ (e ∷ []))) places) ≡ (eqb (get_or places n 0) e && same_list xs (take (length xs) places))
+same_with xs e places {n} h l =
+    let a : length (xs ++ (e ∷ [])) ≡ n + 1 = rw length-append (omega arith) in
+    rw (a, ← h, take_more places n 0 l) (same_snoc xs (take n places) e (get_or places n 0) (rw (length-take-le n places (omega arith)) (sym h)))
+
+-- The images of rows that are alike are alike.
+pub alike_images : {kind : ℕ} {columns : ℕ → ℕ} {rows : List Row} (pairs : List Pair) → Alike kind columns rows
+    → Alike kind columns (each (image_row pairs) rows)
+unfolding image_row
+alike_images {kind} {columns} {rows} pairs a = record {
+  same = λ r m. let q = mem_each (image_row pairs) rows m in let b = a.same q.0 q.1 in
+      rw q.2 (b.0, length_each (image_in pairs) q.0.elements ∙ b.1);
+}
+
+-- Whether the next row is new, by the search for it.
+module _ {rows rest : List Row} {r : Row} (i : ℕ) (e : drop i rows ≡ r ∷ rest) {l : Line} (of : LineOf l r) {images : Images} {b : Bool} where
+  pub new_at : ((columns : ℕ → ℕ) (q : Row) (qs : List Row) → LineOf l q → Held images qs → Alike q.kind columns qs → length q.elements ≡ columns q.symbol
+      → b ≡ any (same_row q) qs) → {kind : ℕ} {columns : ℕ → ℕ} {pairs : List Pair} {sources : List Row} → Holds kind columns pairs sources images
+      → Alike kind columns rows → get_or (each (is_new pairs sources) rows) i false ≡ not b
+  unfolding is_new
+  new_at found {kind} {columns} {pairs} {sources} h a =
+      let p = apart rows i e in
+      let q = a.same r (drop_mem i rows e) in
+      let d = found columns r (each (image_row pairs) sources) of h.held (rw q.0 (alike_images pairs h.alike)) q.1 in
+      let on : drop i rows ≡ get_or rows i no_row ∷ drop (i + 1) rows = rw (add-one, drop-cons rows i no_row p.inside) in
+      let here : get_or rows i no_row ≡ r = cc in
+      get_d_each (is_new pairs sources) rows i no_row false p.inside ∙ rw (here, ← any_each (same_row r) (image_row pairs) sources, ← d)
+
+-- Rows of a structure are few and short.
+module _ {x : StructureBy} (w : Sound x) where
+  pub preds_short : Short x.structure.pred_rows
+  preds_short = record { few = w.preds_few; short = pred_short w }
+
+  pub funcs_short : Short x.structure.func_rows
+  funcs_short = record { few = w.funcs_few; short = func_short w }
+
+-- When all were mapped: the table has few, and it holds the images of rows that are alike.
+module _ {u : Unit {0}} {pairs : List Pair} {rows : List Row} {images : Images} (w : Imaged (Ok u) pairs rows images) where
+  pub images_few : length rows ≤ field_limit → images.count ≤ field_limit
+  images_few h = rw (w.is.1.count, length_each) h
+
+  pub holds_of : {kind : ℕ} {columns : ℕ → ℕ} → Alike kind columns rows → Holds kind columns pairs rows images
+  holds_of a = record { held = w.is.1; alike = a }

@@ -1,24 +1,21 @@
 -- The arguments of R and A rows.
-use Rattle.std.specs.Prelude.{ℕ, ◌<◌, Bool, false, List, ◌≡◌, eqb, length, get_or}
-use Rattle.definition.specs.Base.{pick, has}
-use Rattle.definition.specs.Letters.{predicate}
-use Rattle.definition.specs.Signature.{Signature, pred_of, func_of}
-use Rattle.rows.specs.declared.arguments.RowSymbol.{RowSymbol}
-use Rattle.rows.specs.declared.arguments.RowSymbol.TheVariants.{Pred, Func}
+use Rattle.std.specs.Prelude.{ℕ, ◌≤◌, ◌<◌, ◌⊎◌, Bool, false, List, ◌≡◌, eqb, length, get_or}
+use Rattle.definition.specs.Base.{pick, has, ◌∈◌}
+use Rattle.definition.specs.Letters.{predicate, function}
+use Rattle.definition.specs.Rule.{Row}
+use Rattle.definition.specs.Signature.{Signature, Symbol, pred_of, func_of}
 
--- How many symbols rows of a kind may name.
-abbrev pub symbols_of : Signature → ℕ → ℕ
-symbols_of sig kind = pick (eqb kind predicate) (length sig.preds) (length sig.funcs)
+-- What an R or A row names is there, and the row has at least its parents.
+abbrev pub symbol_in : Signature → Row → Symbol
+symbol_in sig r = pick (eqb r.kind predicate) (pred_of sig r.symbol) (func_of sig r.symbol)
 
--- The parents of a row's symbol.
-abbrev pub parents_of : Signature → RowSymbol → List ℕ
-parents_of sig (Pred p) = (pred_of sig p.0).parents
-parents_of sig (Func f) = (func_of sig f.0).parents
+pub record Listed (sig : Signature) (r : Row) : Type 0 where
+  pub kind : (r.kind ≡ predicate) ⊎ (r.kind ≡ function)
+  pub named : r.symbol < pick (eqb r.kind predicate) (length sig.preds) (length sig.funcs)
+  pub parents : length (symbol_in sig r).parents ≤ length r.elements
 
--- The signature has it.
-abbrev pub Declared : Signature → RowSymbol → Type 0
-Declared sig (Pred p) = p.0 < length sig.preds
-Declared sig (Func f) = f.0 < length sig.funcs
+pub record AllListed (sig : Signature) (rows : List Row) : Type 0 where
+  pub each_listed : (r : Row) → r ∈ rows → Listed sig r
 
 -- A flag for each element: whether it is one of those seen.
 pub record Marks (flags : List Bool) (els seen : List ℕ) : Type 0 where

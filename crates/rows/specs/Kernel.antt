@@ -7,24 +7,23 @@ use Rattle.definition.specs.Names.{numbers_of, fiber}
 use Rattle.definition.specs.Rule.{Structure, Pair}
 use Rattle.flags.specs.Flags.{FlagsOf}
 use Rattle.flags.specs.declared.Mask.{Mask}
-use Rattle.rule.specs.MapFields.{pair_at}
-use Rattle.rule.specs.declared.maps.Map.{Map}
+use Rattle.rule.specs.Pairs.{no_pair}
 
 -- The variables of a map's keys, in the keys' order.
 pub record KeyVars (source : Side) (pairs : List Pair) (vars : List ℕ) : Type 0 where
   pub same : take (length pairs) vars ≡ each (λ (p : Pair). variable_in source p.key) pairs
 
 -- Each of them has a place in the table of types.
-pub record Typed (m : Map) (vars : List ℕ) (size : ℕ) : Type 0 where
-  pub below : (p : ℕ) → p < m.pairs → get_or vars p 0 < size
+pub record Typed (pairs : List Pair) (vars : List ℕ) (size : ℕ) : Type 0 where
+  pub below : (p : ℕ) → p < length pairs → get_or vars p 0 < size
 
 -- The table of types: that of each variable given out, and 0 behind them.
 pub record TypesOf (table : List Variable) (types : List ℕ) : Type 0 where
   pub same : (v : ℕ) → v < length types → get_or types v 0 ≡ type_in table v
 
 -- A type for each key, as the table has it.
-pub record KeyTypes (s : List ℕ) (m : Map) (vars types : List ℕ) (type : Pair → ℕ) : Type 0 where
-  pub same : (i : ℕ) → i < m.pairs → get_or types (get_or vars i 0) 0 ≡ type (pair_at s m i)
+pub record KeyTypes (pairs : List Pair) (vars types : List ℕ) (type : Pair → ℕ) : Type 0 where
+  pub same : (i : ℕ) → i < length pairs → get_or types (get_or vars i 0) 0 ≡ type (get_or pairs i no_pair)
 
 -- A structure with its elements' variables, as a row of them has it: the elements' numbers, and a variable at the place of each.
 pub record SideAt (els row : List ℕ) (side : Side) : Type 0 where

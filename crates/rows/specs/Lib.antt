@@ -2,5 +2,5 @@
 pub mod Table
 pub mod Kernel
 pub mod Morphisms
-pub mod Members
 pub mod Arguments
+pub mod Members

@@ -1,15 +1,20 @@
 -- Member rows.
-use Rattle.std.specs.Prelude.{ℕ, ◌<◌, Bool, ◌&&◌, List}
+use Rattle.std.specs.Prelude.{ℕ, ◌+◌, ◌<◌, Bool, ◌&&◌, List, length, get_or}
 use Rattle.definition.specs.Base.{◌∈◌}
-use Rattle.definition.specs.Rule.{Element, Row, Pair}
+use Rattle.definition.specs.Rule.{Element, Row, Pair, Structure}
 use Rattle.definition.specs.Rows.{member_row}
+use Rattle.definition.specs.Signature.{Signature, type_parents}
 use Rattle.rows.specs.Table.{is_new}
-use Rattle.rule.specs.ElementFields.{element_in}
 use Rattle.rule.specs.Rows.{has_parents}
+use Rattle.rule.specs.Views.{no_element}
+
+-- The columns of the member rows of a type: its parents and the element.
+abbrev pub member_columns : Signature → ℕ → ℕ
+member_columns sig t = length (type_parents sig t) + 1
 
 -- The member row of the element at a place.
-unfoldable pub member_in : List ℕ → List ℕ → ℕ → ℕ → Row
-member_in s index k i = member_row (element_in s index k i)
+unfoldable pub member_in : Structure → ℕ → Row
+member_in st i = member_row (get_or st.elements i no_element)
 
 -- Whether an element has a member row that is no image of a row of the source.
 unfoldable pub new_member : List Pair → List Row → Element → Bool

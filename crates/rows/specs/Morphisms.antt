@@ -1,27 +1,26 @@
--- A map between two structures.
-use Rattle.std.specs.Prelude.{ℕ, List}
+-- A map between two structures, as contracts see it.
+use Rattle.std.specs.Prelude.{List}
+use Rattle.definition.specs.Names.{numbers_of}
 use Rattle.definition.specs.Rule.{Structure, Pair}
 use Rattle.definition.specs.Signature.{Signature}
-use Rattle.rule.specs.MapFields.{pairs_in, MapIn, Joins}
-use Rattle.rule.specs.Structures.{structure_in, SoundAt}
+use Rattle.flags.specs.declared.Mask.{Mask}
+use Rattle.rule.specs.MapFields.{KeysIn, ImagesIn}
+use Rattle.rule.specs.Views.{StructureBy}
 use Rattle.rows.specs.Kernel.{Merged}
-use Rattle.rows.specs.declared.morphism.Morphism.{Morphism}
 
--- The two structures, and the pairs.
-abbrev pub source_in : List ℕ → Morphism → Structure
-source_in s m = structure_in s m.source
-
-abbrev pub target_in : List ℕ → Morphism → Structure
-target_in s m = structure_in s m.target
-
-abbrev pub pairs_by : List ℕ → Morphism → List Pair
-pairs_by s m = pairs_in s m.map
-
--- It is one of an accepted rule, and the images of several keys are flagged.
-pub record Between (s index : List ℕ) (m : Morphism) : Type 0 where
+-- The two structures and the pairs, with the signature of the rule and the flags of the elements that are images of several keys.
+pub record MorphismBy : Type 0 where
   pub sig : Signature
-  pub source_at : SoundAt sig s index m.source
-  pub target_at : SoundAt sig s index m.target
-  pub map_in : MapIn s m.map
-  pub joins : Joins s m.source m.target m.map
-  pub merged : Merged m.merged (target_in s m) (pairs_by s m)
+  pub source : Structure
+  pub target : Structure
+  pub pairs : List Pair
+  pub merged : Mask
+
+abbrev pub morphism_by : StructureBy → StructureBy → List Pair → Mask → MorphismBy
+morphism_by source target pairs merged = record { sig = target.sig; source = source.structure; target = target.structure; pairs = pairs; merged = merged }
+
+-- The keys are elements of the source, the images elements of the target, and the images of several keys are flagged.
+pub record Between (m : MorphismBy) : Type 0 where
+  pub keys : KeysIn (numbers_of m.source) m.pairs
+  pub images : ImagesIn m.target m.pairs
+  pub merged : Merged m.merged m.target m.pairs

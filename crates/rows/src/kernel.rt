@@ -1,57 +1,45 @@
 // Keys and their variables; kernel pairs: two keys of one image. Refusal 25.
-ghost use Rattle.std.specs.Prelude.{List, ◌≡◌, ℕ, ◌+◌, ◌<◌, length, drop};
+ghost use Rattle.std.specs.Prelude.{List, ◌≡◌, ℕ, ◌+◌, ◌<◌, length, get_or, drop};
 ghost use Rattle.definition.specs.Base.{any};
 ghost use Rattle.definition.specs.Group.{Variable};
 ghost use Rattle.definition.specs.Kinds.{Side, kernel_clashes};
-ghost use Rattle.definition.specs.Limits.{structure_limit};
 ghost use Rattle.definition.specs.Names.{numbers_of};
-ghost use Rattle.definition.specs.Rule.{Structure, Pair};
-ghost use Rattle.definition.specs.Signature.{Signature};
-ghost use Rattle.rule.specs.Elements.{element_numbers, Elements};
-ghost use Rattle.rule.specs.MapFields.{pair_at, pairs_in, MapIn, KeysIn, ImagesIn};
+ghost use Rattle.definition.specs.Rule.{Pair};
+ghost use Rattle.rule.specs.MapFields.{KeysIn, ImagesIn};
+ghost use Rattle.rule.specs.Pairs.{no_pair};
 ghost use Rattle.rows.specs.Kernel.{clash, images_ascend, KeyVars, KeyTypes, TypesOf, SideAt, Typed, Merged};
 
 use flags::{Mask, NO_FLAGS, PLACES, packed_less};
-use rule::elements::{element_count, find_element};
-use rule::ids::{FIELDS, RULE_INDEX};
-use rule::maps::{Map, pair_image, pair_key};
+use rule::ids::FIELDS;
+use rule::map::Map;
+use rule::views::Structure;
 
 // The variables of a map's keys, in the keys' order; `row` has those of the source's elements, by their places.
-pub fn key_vars(
-    s: &[u8],
-    index: &[u16; RULE_INDEX],
-    k: usize,
-    row: &[u16; FIELDS],
-    m: Map,
-) -> [u16; FIELDS]
-    requires map_in { MapIn s.now m }
-    requires k_lt_structure_limit { k < structure_limit }
-    requires elements { Elements s.now index.now k }
-    requires keys_in { KeysIn (element_numbers s.now index.now k) (pairs_in s.now m) }
-    ensures { (source : Side) → SideAt (element_numbers s.now index.now k) row.now source
-        → KeyVars source (pairs_in s.now m) result }
+pub fn key_vars(source: &Structure<'_>, row: &[u16; FIELDS], m: &Map<'_>) -> [u16; FIELDS]
+    requires { KeysIn (numbers_of source.now.structure) m.now }
+    ensures { (side : Side) → SideAt (numbers_of source.now.structure) row.now side → KeyVars side m.now result }
 {
+    let given = &row[..source.element_count()];
     let mut vars = [0u16; FIELDS];
-    for p in 0..m.pairs {
-        let Some(i) = find_element(s, index, k, pair_key(s, m, p)) else {
+    for p in 0..m.count() {
+        let Some(i) = source.find_element(m.key(p)) else {
             return vars;
         };
-        vars[p] = row[i];
+        vars[p] = given[i];
     }
     vars
 }
 
 // Does each image stand above the one before it? Then no two keys have one image.
-fn images_ascend(s: &[u8], m: Map) -> bool
-    requires { MapIn s.now m }
-    ensures { result ≡ images_ascend (pairs_in s.now m) }
+fn images_ascend(m: &Map<'_>) -> bool
+    ensures { result ≡ images_ascend m.now }
 {
-    if m.pairs == 0 {
+    if m.count() == 0 {
         return true;
     }
-    let mut last = pair_image(s, m, 0);
-    for p in 1..m.pairs {
-        let e = pair_image(s, m, p);
+    let mut last = m.image(0);
+    for p in 1..m.count() {
+        let e = m.image(p);
         if e <= last {
             return false;
         }
@@ -62,41 +50,37 @@ fn images_ascend(s: &[u8], m: Map) -> bool
 
 // The elements of the target that are images of several keys, a flag for each place. In most maps images ascend, and there are none;
 // else this is one pass over the pairs.
-pub fn merged_els(s: &[u8], index: &[u16; RULE_INDEX], target: usize, m: Map) -> Mask
-    requires map_in { MapIn s.now m }
-    requires target_lt_structure_limit { target < structure_limit }
-    requires elements { Elements s.now index.now target }
-    ensures { (structure : Structure) → numbers_of structure ≡ element_numbers s.now index.now target
-        → ImagesIn structure (pairs_in s.now m)
-        → Merged result structure (pairs_in s.now m) }
+pub fn merged_els(target: &Structure<'_>, m: &Map<'_>) -> Mask
+    ensures { ImagesIn target.now.structure m.now → Merged result target.now.structure m.now }
 {
-    if images_ascend(s, m) {
+    if images_ascend(m) {
         return NO_FLAGS;
     }
+    let count = target.element_count();
     let mut seen = [false; PLACES];
     let mut merged = [false; PLACES];
-    for p in 0..m.pairs {
-        let Some(j) = find_element(s, index, target, pair_image(s, m, p)) else {
+    for p in 0..m.count() {
+        let Some(j) = target.find_element(m.image(p)) else {
             return NO_FLAGS;
         };
         merged[j] = seen[j];
         seen[j] = true;
     }
-    packed_less(merged, [false; PLACES], element_count(index, target))
+    packed_less(merged, [false; PLACES], count)
 }
 
 // Does the variable of a key differ in type from that of a later key of the same image?
-fn clashes_later(s: &[u8], m: Map, vars: &[u16; FIELDS], types: &[u8], p: usize) -> bool
-    requires map_in { MapIn s.now m }
-    requires p_lt_pairs { p < m.pairs }
-    requires typed { Typed m vars.now (length types.now) }
-    ensures { (type : Pair → ℕ) → KeyTypes s.now m vars.now types.now type
-        → result ≡ any (clash type (pair_at s.now m p)) (drop (p + 1) (pairs_in s.now m)) }
+fn clashes_later(m: &Map<'_>, vars: &[u16; FIELDS], types: &[u8], p: usize) -> bool
+    requires p_lt_pairs { p < length m.now }
+    requires typed { Typed m.now vars.now (length types.now) }
+    ensures { (type : Pair → ℕ) → KeyTypes m.now vars.now types.now type
+        → result ≡ any (clash type (get_or m.now p no_pair)) (drop (p + 1) m.now) }
 {
-    let image = pair_image(s, m, p);
+    let count = m.count();
+    let image = m.image(p);
     let ty = types[usize::from(vars[p])];
-    for q in p + 1..m.pairs {
-        if pair_image(s, m, q) == image && types[usize::from(vars[q])] != ty {
+    for q in p + 1..count {
+        if m.image(q) == image && types[usize::from(vars[q])] != ty {
             return true;
         }
     }
@@ -104,15 +88,13 @@ fn clashes_later(s: &[u8], m: Map, vars: &[u16; FIELDS], types: &[u8], p: usize)
 }
 
 // 25: do two variables of a kernel pair differ in type?
-pub fn kernel_clash(s: &[u8], m: Map, vars: &[u16; FIELDS], types: &[u8]) -> bool
-    requires map_in { MapIn s.now m }
-    requires typed { Typed m vars.now (length types.now) }
-    ensures { (sig : Signature) (table : List Variable) (source target : Side) → KeyVars source (pairs_in s.now m) vars.now
-        → TypesOf table types.now → ImagesIn target.structure (pairs_in s.now m)
-        → result ≡ kernel_clashes table source target (pairs_in s.now m) }
+pub fn kernel_clash(m: &Map<'_>, vars: &[u16; FIELDS], types: &[u8]) -> bool
+    requires { Typed m.now vars.now (length types.now) }
+    ensures { (table : List Variable) (source target : Side) → KeyVars source m.now vars.now → TypesOf table types.now
+        → ImagesIn target.structure m.now → result ≡ kernel_clashes table source target m.now }
 {
-    for p in 0..m.pairs {
-        if clashes_later(s, m, vars, types, p) {
+    for p in 0..m.count() {
+        if clashes_later(m, vars, types, p) {
             return true;
         }
     }

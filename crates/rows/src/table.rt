@@ -1,140 +1,165 @@
-// The images of a structure's R or A rows in a table: a symbol for each row, and eight places for its elements.
-ghost use Rattle.std.specs.Prelude.{List, ◌≡◌, ℕ, ◌+◌, ◌≤◌, length};
+// The images of rows in a table: a symbol for each row, and places for its elements.
+ghost use Rattle.std.specs.Prelude.{List, ◌≡◌, ℕ, ◌+◌, ◌≤◌, ◌<◌, length, take};
 ghost use Rattle.definition.specs.Base.{any, each, same_list};
 ghost use Rattle.definition.specs.Limits.{field_limit, column_limit};
-ghost use Rattle.definition.specs.Records as definition;
-ghost use Rattle.definition.specs.Rule as definition_rule;
-ghost use Rattle.definition.specs.Rule.{Pair, row_of};
+ghost use Rattle.definition.specs.Rule as definition;
+ghost use Rattle.definition.specs.Rule.{Pair};
 ghost use Rattle.definition.specs.Rows.{same_row};
-ghost use Rattle.records.specs.Places.{stretch, Run};
 ghost use Rattle.flags.specs.Flags.{Packed};
-ghost use Rattle.rule.specs.MapFields.{pairs_in, MapIn};
-ghost use Rattle.rule.specs.Lists.{els_in, ElsInside};
-ghost use Rattle.rule.specs.Rows.{row_from, RowsFrom, Alike};
-ghost use Rattle.rows.specs.Table.{table_size, Maps, Imaged, Held, is_new, Holds};
+ghost use Rattle.signature.specs.Relations.{number_of};
+ghost use Rattle.rule.specs.Els.{els_in};
+ghost use Rattle.rule.specs.Row.{row_from, rows_left};
+ghost use Rattle.rule.specs.Rows.{Alike};
+ghost use Rattle.rows.specs.Table.{Maps, Adds, Imaged, Held, Holds, Short, LineOf, is_new, line_els};
 
 use flags::{Mask, NO_FLAGS, with_flag};
 use records::refusal::Refusal;
-use rule::ids::FIELDS;
-use rule::lists::{Els, el_at};
-use rule::maps::{Map, image_of};
-use rule::rows::{Row, read_row};
-use signature::ids::COLUMNS;
+use rule::els::Els;
+use rule::ids::{ElId, FIELDS};
+use rule::map::Map;
+use rule::row::{Row, Rows};
+use signature::ids::{COLUMNS, Relation};
 
-// Rows of a letter in a structure, and the table's places for their elements.
+// Rows of a kind in a structure.
 pub const ROWS: usize = FIELDS;
 
-pub const TABLE: usize = ROWS * COLUMNS;
+// The images of the first rows: their symbols, and their elements from the first place on.
+#[derive(Clone, Copy)]
+pub struct Images {
+    pub symbols: [u16; ROWS],
+    pub els: [[u16; COLUMNS]; ROWS],
+    pub count: usize,
+}
 
-// The images of the elements of a list, into the table from a place on; 26 where one has none.
-pub fn map_elements(
-    s: &[u8],
-    l: Els,
-    m: Map,
-    els: &mut [u16; TABLE],
-    at: usize,
-) -> Result<(), Refusal>
-    requires map_in { MapIn s.now m }
-    requires els_inside { ElsInside s.now l }
-    requires count_bound { (at + l.count ≤ table_size) × (length els.old ≡ table_size) }
-    ensures { Maps result (pairs_in s.now m) (els_in s.now l) els.old els.new at }
+// A table with no images.
+pub fn no_images() -> Images {
+    Images {
+        symbols: [0; ROWS],
+        els: [[0; COLUMNS]; ROWS],
+        count: 0,
+    }
+}
+
+// A row that is mapped or compared: its symbol and its elements; that of a member has its element behind its parents.
+#[derive(Clone, Copy)]
+pub(crate) struct Line<'a> {
+    pub(crate) symbol: u16,
+    pub(crate) els: Els<'a>,
+    pub(crate) own: Option<ElId>,
+}
+
+// An R or A row.
+fn row_line(row: Row<'_>) -> Line<'_>
+    ensures { LineOf result (row_from row.entry) }
 {
-    for j in 0..l.count {
-        let e = image_of(s, m, el_at(s, l, j)).ok_or(Refusal::UnmappedElement)?;
-        els[at + j] = e.0;
+    Line {
+        symbol: row.relation.number(),
+        els: row.els,
+        own: None,
+    }
+}
+
+// The images of the elements of a list; 26 where one has none.
+fn map_elements(l: Els<'_>, m: &Map<'_>, places: &mut [u16; COLUMNS]) -> Result<(), Refusal>
+    requires { length (els_in l) ≤ column_limit }
+    ensures { Maps result m.now (els_in l.entry) places.new }
+{
+    for j in 0..l.count() {
+        let e = m.image_of(l.at(j)).ok_or(Refusal::UnmappedElement)?;
+        places[j] = e.0;
     }
     Ok(())
 }
 
-// The images of the rows of a section: how many there are, or 26 where an element has none.
-pub fn mapped_rel_apps(
-    s: &[u8],
-    from: usize,
-    end: usize,
-    m: Map,
-    symbols: &mut [u16; ROWS],
-    els: &mut [u16; TABLE],
-) -> Result<usize, Refusal>
-    requires map_in { MapIn s.now m }
-    requires rows_from { RowsFrom s.now from end }
-    requires symbols_len { (length symbols.old ≡ field_limit) × (length els.old ≡ table_size) }
-    ensures by_index { (kind : ℕ) (fs : List definition.Field) → Run s.now from end fs
-        → Imaged result (pairs_in s.now m) (each (row_of kind) fs) symbols.new els.new }
-    ensures symbols_len_2 { (length symbols.new ≡ field_limit) × (length els.new ≡ table_size) }
+// Those of the elements of a row.
+fn map_line(line: Line<'_>, m: &Map<'_>, places: &mut [u16; COLUMNS]) -> Result<(), Refusal>
+    requires { length (line_els line) ≤ column_limit }
+    ensures { Maps result m.now (line_els line.entry) places.new }
 {
-    let mut at = from;
-    let mut i: usize = 0;
-    while at < end {
-        let row = read_row(s, at);
-        symbols[i] = row.symbol;
-        map_elements(s, row.els, m, els, COLUMNS * i)?;
-        i += 1;
-        at = row.next;
-    }
-    Ok(i)
+    map_elements(line.els, m, places)?;
+    let Some(own) = line.own else {
+        return Ok(());
+    };
+    let e = m.image_of(own).ok_or(Refusal::UnmappedElement)?;
+    places[line.els.count()] = e.0;
+    Ok(())
 }
 
-// Are the elements of a list those of the table from a place on?
-pub fn same_elements(s: &[u8], l: Els, els: &[u16; TABLE], at: usize) -> bool
-    requires els_inside { ElsInside s.now l }
-    requires count_bound { (at + l.count ≤ table_size) × (length els.now ≡ table_size) }
-    ensures { result ≡ same_list (els_in s.now l) (stretch els.now at l.count) }
+// The image of a row goes into the table, behind those that are there; 26 where an element has none.
+pub(crate) fn add_image(line: Line<'_>, m: &Map<'_>, images: &mut Images) -> Result<(), Refusal>
+    requires { (images.old.count < field_limit) × (length (line_els line) ≤ column_limit) }
+    ensures { Adds result m.now line.entry images.old images.new }
 {
-    for j in 0..l.count {
-        if el_at(s, l, j).0 != els[at + j] {
+    let i = images.count;
+    map_line(line, m, &mut images.els[i])?;
+    images.symbols[i] = line.symbol;
+    images.count = i + 1;
+    Ok(())
+}
+
+// The images of R or A rows; 26 where an element has none.
+pub fn mapped_rel_apps(rows: Rows<'_>, m: &Map<'_>, images: &mut Images) -> Result<(), Refusal>
+    requires { Short (rows_left rows) }
+    ensures { Imaged result m.now (rows_left rows.entry) images.new }
+{
+    images.count = 0;
+    for row in rows {
+        add_image(row_line(row), m, images)?;
+    }
+    Ok(())
+}
+
+// Are the elements of a list those in the first places?
+fn same_elements(l: Els<'_>, places: &[u16; COLUMNS]) -> bool
+    requires { length (els_in l) ≤ column_limit }
+    ensures { result ≡ same_list (els_in l.entry) (take (length (els_in l.entry)) places.now) }
+{
+    for j in 0..l.count() {
+        if l.at(j).0 != places[j] {
             return false;
         }
     }
     true
 }
 
-// Is a row one of those in the table? Rows of one symbol are of one length, so only those of its symbol are compared with it.
-pub fn is_image(
-    s: &[u8],
-    row: Row,
-    symbols: &[u16; ROWS],
-    els: &[u16; TABLE],
-    images: usize,
-) -> bool
-    requires els_inside { ElsInside s.now row.els }
-    requires count_le_column_limit { (row.els.count ≤ column_limit) × (images ≤ field_limit) × (length els.now ≡ table_size) }
-    ensures { (kind : ℕ) (columns : ℕ → ℕ) (qs : List definition_rule.Row) → Held symbols.now els.now 0 qs → images ≡ length qs
-        → Alike kind columns qs → row.els.count ≡ columns row.symbol → result ≡ any (same_row (row_from s.now kind row)) qs }
+// Are those of a row?
+fn same_line(line: Line<'_>, places: &[u16; COLUMNS]) -> bool
+    requires { length (line_els line) ≤ column_limit }
+    ensures { result ≡ same_list (line_els line.entry) (take (length (line_els line.entry)) places.now) }
 {
-    for i in 0..images {
-        if symbols[i] == row.symbol && same_elements(s, row.els, els, COLUMNS * i) {
+    let own = match line.own {
+        Some(e) => places[line.els.count()] == e.0,
+        None => true,
+    };
+    own && same_elements(line.els, places)
+}
+
+// Is a row one of those in the table? Rows of one symbol are of one length, so only those of its symbol are compared with it.
+pub(crate) fn is_image(line: Line<'_>, images: &Images) -> bool
+    requires { (images.now.count ≤ field_limit) × (length (line_els line) ≤ column_limit) }
+    ensures { (columns : ℕ → ℕ) (r : definition.Row) (qs : List definition.Row) → LineOf line.entry r → Held images.now qs
+        → Alike r.kind columns qs → length r.elements ≡ columns r.symbol → result ≡ any (same_row r) qs }
+{
+    for i in 0..images.count {
+        if images.symbols[i] == line.symbol && same_line(line, &images.els[i]) {
             return true;
         }
     }
     false
 }
 
-// Which rows of a section are no image of a row of the source: a flag for each.
-pub fn new_rows(
-    s: &[u8],
-    from: usize,
-    end: usize,
-    symbols: &[u16; ROWS],
-    els: &[u16; TABLE],
-    images: usize,
-) -> Mask
-    requires rows_from { RowsFrom s.now from end }
-    requires images_le_field_limit { (images ≤ field_limit) × (length els.now ≡ table_size) }
-    ensures { (kind : ℕ) (columns : ℕ → ℕ) (pairs : List Pair) (sources : List definition_rule.Row) (fs : List definition.Field)
-        → Holds kind columns pairs sources symbols.now els.now images → Run s.now from end fs
-        → Alike kind columns (each (row_of kind) fs)
-        → Packed result (each (is_new pairs sources) (each (row_of kind) fs)) (length fs) }
+// Which R or A rows are no image of a row of the source: a flag for each.
+pub fn new_rows(rows: Rows<'_>, images: &Images) -> Mask
+    requires { (images.now.count ≤ field_limit) × Short (rows_left rows) }
+    ensures { (kind : ℕ) (columns : ℕ → ℕ) (pairs : List Pair) (sources : List definition.Row)
+        → Holds kind columns pairs sources images.now → Alike kind columns (rows_left rows.entry)
+        → Packed result (each (is_new pairs sources) (rows_left rows.entry)) (length (rows_left rows.entry)) }
 {
     let mut mask = NO_FLAGS;
-    let mut at = from;
-    let mut i: usize = 0;
-    while at < end {
-        let row = read_row(s, at);
-        if !is_image(s, row, symbols, els, images) {
+    for (i, row) in rows.enumerate() {
+        if !is_image(row_line(row), images) {
             mask = with_flag(mask, i);
         }
-        i += 1;
-        at = row.next;
     }
     mask
 }

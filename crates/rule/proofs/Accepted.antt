@@ -1,25 +1,24 @@
 -- What an accepted signature and an accepted rule give the functions of this crate.
-use Prim.Native.Nat.{ℕ, ◌+◌, ◌-◌, ◌*◌, ◌/◌, ◌%◌, ◌≤◌, ◌<◌}
+use Prim.Native.Nat.{ℕ, ◌+◌, ◌*◌, ◌%◌, ◌≤◌, ◌<◌}
 use native.Mathlib.Omega.{arith}
 use mathlib.Core.Bool.{false}
 use mathlib.Core.List.{List, [], ◌∷◌}
 use mathlib.Core.Option.{Option, none}
 use mathlib.Core.Path.{◌≡◌, refl, sym, ◌∙◌, ap}
-use lib.Dec.{ltb, leb}
-use lib.ListN.{length, get_or, drop, length-take, length-drop, length-append}
+use lib.ListN.{length, get_or, drop, length-drop, length-append}
 use borrow.Author.Tests.{ltb-true, ltb-false, leb-false, eqb-true, eqb-false, not-false}
-use Rattle.definition.specs.Base.{accepted, or_else, keep, each, ◌∈◌}
-use Rattle.definition.specs.Letters.{letter_t, letter_p, letter_f, letter_s, letter_e, letter_r, letter_a, start, predicate, function, member}
-use Rattle.definition.specs.Limits.{signature_bytes, symbol_limit, field_limit, column_limit, parent_limit}
+use Rattle.definition.specs.Base.{keep, each, ◌∈◌}
+use Rattle.definition.specs.Letters.{letter_s, letter_e, letter_r, letter_a, start, predicate, function, member}
+use Rattle.definition.specs.Limits.{field_limit, column_limit}
 use Rattle.definition.specs.Records.{Field, numbers, number_at, odd, not_numbers, with_letter, fault_among, blocks}
 use Rattle.definition.specs.Rule.{element_of, row_of, structure_of, element_fault, row_fault, body_fault, named_elements, rule_part}
 use Rattle.definition.specs.Rows.{member_row}
-use Rattle.definition.specs.Signature.{Signature, Symbol, no_symbol, symbol_of, columns_of, parent_count, column_count, pred_of, func_of, type_parents}
-use Rattle.definition.specs.Signature.{type_fault, symbol_fault, signature_fault, signature_of, signature_part, read_signature}
-use Rattle.laws.proofs.Lists.{or_left, or_right, or_else_none, lowest_none, mem_keep, mem_each, length_each, get_d_each, mem_at}
-use Rattle.laws.proofs.Sound.{read_part_lem, read_within, among_mem, among_few}
+use Rattle.definition.specs.Signature.{Signature, column_count, pred_of, func_of, type_parents}
+use Rattle.laws.proofs.Lists.{or_left, or_right, lowest_none, mem_keep, mem_each, mem_at}
+use Rattle.laws.proofs.Sound.{among_mem, among_few}
 use Rattle.laws.proofs.SoundRule.{body_parts, structure_bodies, rule_parts}
 use Rattle.records.specs.Places.{Run}
+use Rattle.signature.specs.Index.{SmallArities}
 use Rattle.records.specs.Held.{field_in}
 use Rattle.records.proofs.Index.{length_held, held_get}
 use Rattle.records.proofs.Numbers.{length_stretch}
@@ -28,56 +27,7 @@ use Rattle.rule.specs.Layout.{letter_at, block_at, no_block, elements_from, plac
 use Rattle.rule.specs.Elements.{count_at, position_at, element_fields}
 use Rattle.rule.specs.Answers.{Indexed}
 use Rattle.rule.specs.ElementFields.{element_in, elements_in, size_at, ElementsAt}
-use Rattle.rule.specs.declared.maps.Map.{Map}
 use Rattle.rule.specs.Rows.{RowSized, Alike, row_symbol, RowsKnown, has_parents, member_rows}
-
--- The arities of an accepted signature are small.
-pub record SmallArities (sig : Signature) : Type 0 where
-  pub types : (t : ℕ) → t < length sig.types → length (type_parents sig t) ≤ parent_limit
-  pub preds : (p : ℕ) → p < length sig.preds → column_count (pred_of sig p) ≤ column_limit
-  pub funcs : (f : ℕ) → f < length sig.funcs → column_count (func_of sig f) ≤ column_limit
-
-abbrev no_field : Field
-no_field = record { letter = start; content = [] }
-
--- What holds of each field of a letter holds of the value at each place.
-each_field : {A : Type 0} (f : Field → A) (P : A → Type 0) (fs : List Field) (d : A) → ((g : Field) → g ∈ fs → P (f g)) → (i : ℕ) → i < length (each f fs)
-    → P (get_or (each f fs) i d)
-each_field f P fs d h i l =
-    let k : i < length fs = rw length_each at l in
-    rw (get_d_each f fs i no_field d k) (h (get_or fs i no_field) (mem_at fs i no_field k))
-
-type_small : (types m : ℕ) (l : Option Field) (f : Field) → type_fault types m l f ≡ none → length (numbers f.content) ≤ parent_limit
-unfolding type_fault
-type_small types m l f e = ltb-false _ _ (or_right (leb symbol_limit m) _ (lowest_none 4 _ _ (lowest_none 3 _ _ e).1).0)
-
-symbol_small : (results types m : ℕ) (l : Option Field) (f : Field) → symbol_fault results types m l f ≡ none → column_count (symbol_of f) ≤ column_limit
-unfolding symbol_fault symbol_of
-symbol_small results types m l f e =
-    let h : length (columns_of f.content) ≤ column_limit = ltb-false _ _ (or_right (leb symbol_limit m) _ (lowest_none 4 _ _ (lowest_none 3 _ _ e).1).0) in
-    let a = length-take (parent_count f.content) (columns_of f.content) in
-    let b = length-drop (parent_count f.content) (columns_of f.content) in omega arith
-
-fields_small : (fs : List Field) → signature_fault fs ≡ none → SmallArities (signature_of fs)
-unfolding signature_fault signature_of
-fields_small fs e =
-    let count : ℕ = length (with_letter letter_t fs) in
-    let t = or_else_none (fault_among letter_t (type_fault count) fs)
-    (or_else (fault_among letter_p (symbol_fault 0 count) fs) (fault_among letter_f (symbol_fault 1 count) fs)) e in
-    let p = or_else_none (fault_among letter_p (symbol_fault 0 count) fs) (fault_among letter_f (symbol_fault 1 count) fs) t.1 in
-    record {
-      types = each_field (λ (f : Field). numbers f.content) (λ (ns : List ℕ). length ns ≤ parent_limit) (with_letter letter_t fs) []
-          (λ g m. let r = among_mem letter_t (type_fault count) fs t.0 m in type_small count r.0 r.1 g r.2);
-      preds = each_field symbol_of (λ (s : Symbol). column_count s ≤ column_limit) (with_letter letter_p fs) no_symbol
-          (λ g m. let r = among_mem letter_p (symbol_fault 0 count) fs p.0 m in symbol_small 0 count r.0 r.1 g r.2);
-      funcs = each_field symbol_of (λ (s : Symbol). column_count s ≤ column_limit) (with_letter letter_f fs) no_symbol
-          (λ g m. let r = among_mem letter_f (symbol_fault 1 count) fs p.1 m in symbol_small 1 count r.0 r.1 g r.2);
-    }
-
-pub small_arities : (bytes : List ℕ) {sig : Signature} → read_signature bytes ≡ accepted sig → SmallArities sig
-unfolding read_signature
-small_arities bytes e = let r = read_part_lem (signature_part bytes) _ _ (read_within (ltb signature_bytes (length bytes)) _ e).1 in
-    rw (← r.2) (fields_small (signature_part bytes).fields r.0)
 
 -- Rows of a letter without a fault.
 even_length : (least : ℕ) (content : List ℕ) → not_numbers least content ≡ false → (length content % 2 ≡ 0) × (2 * least ≤ length content)
@@ -139,6 +89,9 @@ module _ (results symbols : ℕ) (columns : ℕ → ℕ) (els : List ℕ) where
       pub section_alike : (kind : ℕ) → Alike kind columns (each (row_of kind) (with_letter letter body))
       unfolding row_of
       section_alike kind = record { same = λ r m. let q = mem_each (row_of kind) (with_letter letter body) m in rw q.2 (refl, (passed q.0 q.1).many) }
+
+abbrev no_field : Field
+no_field = record { letter = start; content = [] }
 
 -- Structure k of an accepted rule.
 module _ {sig : Signature} {s index : List ℕ} {n : ℕ} (w : Indexed sig s index n) (small : SmallArities sig) (k : ℕ) (h : k < n) where
@@ -230,7 +183,3 @@ module _ {sig : Signature} {s index : List ℕ} {n : ℕ} (w : Indexed sig s ind
   pub structure_funcs : (structure_of (block_at (rule_part s).fields k)).func_rows ≡ each (row_of function) (with_letter letter_a body)
   unfolding structure_of
   structure_funcs = refl
-
--- A map, by its M field's content.
-abbrev pub map_at : ℕ → ℕ → Map
-map_at at size = record { at = at + 4; pairs = (size - 4) / 4 }

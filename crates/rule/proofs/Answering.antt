@@ -4,31 +4,31 @@ use Prim.Native.Nat.{ℕ, ◌≤◌}
 use mathlib.Core.Bool.{Bool, true, false}
 use mathlib.Core.List.{List}
 use mathlib.Core.Path.{◌≡◌}
-use lib.ListN.{length}
+use lib.ListN.{length, get_or}
 use Rattle.definition.specs.Base.{refused, accepted}
 use Rattle.definition.specs.Letters.{letter_n, letter_s}
 use Rattle.definition.specs.Limits.{rule_bytes}
-use Rattle.definition.specs.Records.{Field, Block, blocks, fault_among}
+use Rattle.definition.specs.Records.{Field, Block, with_letter, blocks, fault_among}
 use Rattle.definition.specs.Signature.{Signature}
 use Rattle.definition.specs.Rule.{head_fault, structures_fault, named_in, rule_part, rule_of, read_rule}
+use Rattle.records.specs.Places.{Run}
 use Rattle.std.proofs.Common.{Ok}
 use Rattle.rule.specs.Elements.{numbers_in}
 use Rattle.rule.specs.Faults.{tail_fault}
 use Rattle.rule.specs.Answers.{Structured, Tailed, Passes, AllStored, AllHold, Indexed}
-use Rattle.rule.proofs.Checking.{SectionTold}
 use mathlib.Core.Option.{Option, none, some}
-use Rattle.rule.proofs.Whole.{of_n, read_head, read_structures, read_tail, read_part_lem, read_sound, no_fault, read_indexed}
+use Rattle.rule.proofs.Whole.{read_head, read_structures, read_tail, read_part_lem, read_sound, no_fault, read_indexed}
 use Rattle.rule.proofs.Whole.{structured, head_run, ended_same, ended_tail, ended_named}
 
 module _ (sig : Signature) {s index : List ℕ} {whole : Bool} {n : ℕ} (short : length s ≤ rule_bytes) (p : Passes s index whole n) where
   abbrev Head : Option ℕ → Type 0
-  Head f = SectionTold f sig s index 0 letter_n 0
+  Head f = (fs : List Field) → Run s (get_or index 0 0) (get_or index 1 0) (with_letter letter_n fs) → f ≡ fault_among letter_n head_fault fs
 
   abbrev Structures : Option ℕ → Type 0
   Structures f = (bs : List Block) → Structured s index n bs → f ≡ structures_fault sig 0 bs
 
   head_fault_lem : {f : Option ℕ} → Head f → f ≡ fault_among letter_n head_fault (rule_part s).fields
-  head_fault_lem head = of_n sig _ _ (head _ (head_run p))
+  head_fault_lem head = head _ (head_run p)
 
   pub answer_head : {k : ℕ} → Head (some k) → refused k ≡ read_rule sig s
   answer_head head = read_head sig s short (head_fault_lem head)

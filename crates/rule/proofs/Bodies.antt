@@ -13,8 +13,8 @@ use Rattle.definition.specs.Base.{keep, each}
 use Rattle.definition.specs.Letters.{letter_e, letter_r, letter_a, letter_v, letter_i, start}
 use Rattle.definition.specs.Limits.{structure_limit, field_limit}
 use Rattle.definition.specs.Records.{Field, number_at, with_letter, fault_from, fault_among}
-use Rattle.definition.specs.Signature.{Signature}
-use Rattle.definition.specs.Rule.{named_elements, element_fault, row_fault, name_fault, body_fault}
+use Rattle.definition.specs.Signature.{Signature, symbol_count, arity}
+use Rattle.definition.specs.Rule.{named_elements, element_fault, body_fault, elements_at}
 use Rattle.records.specs.Places.{two_at, stretch, Run}
 use Rattle.records.specs.Held.{field_in}
 use Rattle.records.proofs.Numbers.{length_stretch}
@@ -22,11 +22,15 @@ use Rattle.records.proofs.Runs.{run_le, run_end}
 use Rattle.records.proofs.Index.{length_held, held_get, held_same}
 use Rattle.rule.specs.Layout.{letter_at, place_n, place_e, place_r, place_a, place_v, place_i, letters}
 use Rattle.rule.specs.Layout.{elements_from, section_from, section_to, number_of, within}
-use Rattle.rule.specs.Elements.{count_at, position_at, element_fields, element_numbers, numbers_in, Elements, Known}
-use Rattle.rule.specs.Faults.{name_key, row_symbols, row_columns, check_of, rest_fault}
+use Rattle.rule.specs.Elements.{count_at, position_at, element_fields, element_numbers, numbers_in, named_by, Elements, Known}
+use Rattle.rule.specs.Faults.{row_check, name_check, check_of, rest_fault}
+use Rattle.rule.specs.declared.faults.SectionKind.{SectionKind}
+use Rattle.rule.specs.declared.faults.SectionKind.TheVariants.{Row, Name}
+use Rattle.rule.specs.declared.name.NameKind.TheVariants.{Variable, Identifier}
+use Rattle.rule.specs.declared.row.RowKind.TheVariants.{Predicate, Function}
 use Rattle.rule.specs.Answers.{Bodied, Kept}
 use Rattle.rule.proofs.Drawn.{last_named_lem}
-use Rattle.rule.proofs.Checking.{SectionTold}
+use Rattle.rule.proofs.Checking.{SectionTold, told_among}
 
 -- Entries that were kept tell the same of the elements of earlier structures.
 module _ {index₀ index : List ℕ} {k j : ℕ} (kept : Kept index₀ index k) (h : j < k) where
@@ -135,65 +139,61 @@ bodied_kept {k = k} h kept b = record {
 -- R, A, V and I, in that order, from what the checks of their sections told.
 module _ (sig : Signature) {s index : List ℕ} {k : ℕ} {body : List Field} (b : Bodied s index k body)
     (e : element_numbers s index k ≡ named_elements body) where
-  abbrev Told : Option ℕ → ℕ → ℕ → Type 0
-  Told f letter q = SectionTold f sig s index (k + 1) letter (letters * k + (q - place_n))
+  abbrev Told : Option ℕ → SectionKind → ℕ → Type 0
+  Told f kind q = SectionTold f (check_of sig (numbers_in s index (k + 1)) kind) s index (letters * k + (q - place_n))
 
-  last_is : get_or (numbers_in s index (k + 1)) (length (numbers_in s index (k + 1)) - 1) [] ≡ named_elements body
+  last_is : elements_at (numbers_in s index (k + 1)) (length (numbers_in s index (k + 1)) - 1) ≡ named_elements body
   last_is = let z : k + 1 - 1 ≡ k = omega arith in last_named_lem s index (k + 1) (omega arith) ∙ rw z e
 
   module _ {f : Option ℕ} where
-    of_r : Told f letter_r place_r → f ≡ fault_among letter_r (row_fault 0 (row_symbols sig 0) (row_columns sig 0) (named_elements body)) body
-    unfolding check_of
-    of_r h = rw (← last_is) (h body (run_r b))
+    of_r : Told f (Row Predicate) place_r → f ≡ fault_among letter_r (row_check sig Predicate (named_elements body)) body
+    of_r h = rw (← last_is) (told_among h _ body (run_r b))
 
-    of_a : Told f letter_a place_a → f ≡ fault_among letter_a (row_fault 1 (row_symbols sig 1) (row_columns sig 1) (named_elements body)) body
-    unfolding check_of
-    of_a h = rw (← last_is) (h body (run_a b))
+    of_a : Told f (Row Function) place_a → f ≡ fault_among letter_a (row_check sig Function (named_elements body)) body
+    of_a h = rw (← last_is) (told_among h _ body (run_a b))
 
-    of_v : Told f letter_v place_v → f ≡ fault_among letter_v (name_fault 1 (name_key 1) (named_elements body)) body
-    unfolding check_of
-    of_v h = rw (← last_is) (h body (run_v b))
+    of_v : Told f (Name Variable) place_v → f ≡ fault_among letter_v (name_check Variable (named_elements body)) body
+    of_v h = rw (← last_is) (told_among h _ body (run_v b))
 
-    of_i : Told f letter_i place_i → f ≡ fault_among letter_i (name_fault 2 (name_key 2) (named_elements body)) body
-    unfolding check_of
-    of_i h = rw (← last_is) (h body (run_i b))
+    of_i : Told f (Name Identifier) place_i → f ≡ fault_among letter_i (name_check Identifier (named_elements body)) body
+    of_i h = rw (← last_is) (told_among h _ body (run_i b))
 
   abbrev Answer : Option ℕ → Type 0
   Answer f = f ≡ rest_fault sig (named_elements body) body
 
-  pub rest_r : {n : ℕ} → Told (some n) letter_r place_r → Answer (some n)
+  pub rest_r : {n : ℕ} → Told (some n) (Row Predicate) place_r → Answer (some n)
   unfolding rest_fault
   rest_r h = sym (rw (← (of_r h)))
 
-  module _ (hr : Told none letter_r place_r) where
+  module _ (hr : Told none (Row Predicate) place_r) where
     pub rest_none : get_or index (letters * k + (place_a - place_n)) 0 ≡ get_or index (letters * k + (place_i - place_n + 1)) 0 → Answer none
     unfolding rest_fault fault_among fault_from
     rest_none same = let n = none_behind b same in sym (rw (← (of_r hr), n.0, n.1, n.2))
 
-    pub rest_a : {n : ℕ} → Told (some n) letter_a place_a → Answer (some n)
+    pub rest_a : {n : ℕ} → Told (some n) (Row Function) place_a → Answer (some n)
     unfolding rest_fault
     rest_a h = sym (rw (← (of_r hr), ← (of_a h)))
 
-    module _ (ha : Told none letter_a place_a) where
-      pub rest_v : {n : ℕ} → Told (some n) letter_v place_v → Answer (some n)
+    module _ (ha : Told none (Row Function) place_a) where
+      pub rest_v : {n : ℕ} → Told (some n) (Name Variable) place_v → Answer (some n)
       unfolding rest_fault
       rest_v h = sym (rw (← (of_r hr), ← (of_a ha), ← (of_v h)))
 
-      pub rest_i : Told none letter_v place_v → {f : Option ℕ} → Told f letter_i place_i → Answer f
+      pub rest_i : Told none (Name Variable) place_v → {f : Option ℕ} → Told f (Name Identifier) place_i → Answer f
       unfolding rest_fault
       rest_i hv h = sym (rw (← (of_r hr), ← (of_a ha), ← (of_v hv), ← (of_i h)))
 
 -- E before them.
 module _ (sig : Signature) (body : List Field) where
   abbrev OfE : Option ℕ → Type 0
-  OfE f = f ≡ fault_among letter_e (element_fault sig (named_elements body)) body
+  OfE f = f ≡ fault_from (element_fault sig (named_by (with_letter letter_e body))) 0 none (with_letter letter_e body)
 
   pub body_e : {n : ℕ} → OfE (some n) → some n ≡ body_fault sig (named_elements body) body
-  unfolding body_fault
+  unfolding body_fault fault_among named_elements named_by
   body_e h = sym (rw (← h))
 
   pub body_rest : {f : Option ℕ} → OfE none → f ≡ rest_fault sig (named_elements body) body → f ≡ body_fault sig (named_elements body) body
-  unfolding body_fault rest_fault row_columns name_key
+  unfolding body_fault rest_fault fault_among named_elements named_by symbol_count arity
   body_rest h k = k ∙ sym (rw (← h))
 
 pub known_here : {s index : List ℕ} {k n : ℕ} → Known s index k → n ≤ k → k ≤ n → Known s index n

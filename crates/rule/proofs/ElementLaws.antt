@@ -1,15 +1,13 @@
 -- The elements of a structure: what their fields say, and going along them.
 use Prim.Native.Nat.{ℕ, ◌+◌, ◌-◌, ◌*◌, ◌/◌, ◌%◌, ◌≤◌, ◌<◌}
 use native.Mathlib.Omega.{arith}
-use native.Mathlib.Numerals.{add-one}
-use mathlib.Core.List.{List, [], ◌∷◌, ◌++◌}
+use mathlib.Core.List.{List, []}
 use mathlib.Core.Path.{◌≡◌, ◌∙◌, ap}
-use lib.ListN.{length, get_or, take, drop}
-use lib.Seq.{drop-cons, take-suc}
+use lib.ListN.{length, get_or}
 use Rattle.definition.specs.Limits.{field_limit, parent_limit}
 use Rattle.definition.specs.Letters.{start}
 use Rattle.definition.specs.Records.{Field, numbers, number_at}
-use Rattle.definition.specs.Rule.{Element, element_of}
+use Rattle.definition.specs.Rule.{element_of}
 use Rattle.laws.proofs.Lists.{length_each, get_d_each}
 use Rattle.records.specs.Places.{two_at, stretch}
 use Rattle.records.specs.Held.{field_in, held_at}
@@ -17,11 +15,9 @@ use Rattle.records.proofs.Index.{length_held, held_get}
 use Rattle.records.proofs.Numbers.{drop_stretch, number_in}
 use Rattle.laws.proofs.Numbers.{drop_numbers}
 use Rattle.rule.specs.Layout.{elements_from}
-use Rattle.rule.specs.Elements.{count_at, position_at, element_at, element_fields, element_numbers, Elements, Finds}
-use Rattle.std.proofs.Common.{Some}
-use Rattle.rule.proofs.Finding.{numbers_length}
-use Rattle.rule.specs.ElementFields.{element_in, elements_in, element_from, Within, size_at, ElementsAt}
-use Rattle.rule.specs.declared.elements.Element as read
+use Rattle.rule.specs.Elements.{count_at, position_at, element_at, element_fields}
+use Rattle.rule.specs.Views.{no_element}
+use Rattle.rule.specs.ElementFields.{element_in, elements_in, size_at, ElementsAt}
 use Rattle.records.proofs.Parts.{count_in}
 
 -- One element's field.
@@ -64,16 +60,9 @@ module _ {s index : List ℕ} {k : ℕ} (h : ElementsAt s index k) (i : ℕ) (l 
       ≡ element_in s index k i
   element_is = rw (← number_is, ← type_is, ← parents_are)
 
--- An element that was read has as many parents as it says.
-pub parents_many : {s : List ℕ} {e : read.Element} → Within s e → length (element_from s e).parents ≡ e.parents
-parents_many {s} {e} w = count_in s e.start e.parents w.inside
-
 -- The list of them.
 abbrev no_field : Field
 no_field = record { letter = start; content = [] }
-
-abbrev pub no_element : Element
-no_element = record { number = 0; type = 0; parents = [] }
 
 module _ (s index : List ℕ) (k : ℕ) where
   fields_many : length (element_fields s index k) ≡ count_at index k
@@ -90,14 +79,3 @@ module _ (s index : List ℕ) (k : ℕ) where
       let n : length (held_at s index (elements_from + field_limit * k) (count_at index k)) ≡ count_at index k = fields_many in
       get_d_each element_of (held_at s index (elements_from + field_limit * k) (count_at index k)) i no_field no_element (omega arith)
       ∙ ap element_of (held_get s index (elements_from + field_limit * k) (count_at index k) i no_field l)
-
-  module _ (i : ℕ) (l : i < count_at index k) where
-    pub elements_more : take (i + 1) (elements_in s index k) ≡ take i (elements_in s index k) ++ (element_in s index k i ∷ [])
-    elements_more = let n = elements_many in rw (add-one, take-suc (elements_in s index k) i no_element (omega arith), elements_get i l)
-
-    pub elements_on : drop i (elements_in s index k) ≡ element_in s index k i ∷ drop (i + 1) (elements_in s index k)
-    elements_on = let n = elements_many in rw (add-one, drop-cons (elements_in s index k) i no_element (omega arith), elements_get i l)
-
--- An element that is found is one of few: a structure's row has its place, and so has a mask.
-pub found_few : {s index : List ℕ} {k i e : ℕ} → Elements s index k → Finds (Some i) e (element_numbers s index k) → i < field_limit
-found_few {s} {index} {k} w f = let n = numbers_length s index k in let l = w.few in let h = f.is.1 in omega arith

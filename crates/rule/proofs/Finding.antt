@@ -1,28 +1,24 @@
--- Elements: their numbers as a list, a search among ascending numbers, and a scan of E fields.
-use Prim.Native.Nat.{ℕ, zero, suc, ◌+◌, ◌*◌, ◌≤◌, ◌<◌}
+-- Elements: their numbers as a list, and a search among ascending numbers.
+use Prim.Native.Nat.{ℕ, zero, suc, ◌+◌, ◌*◌, ◌<◌}
 use native.Mathlib.Omega.{arith}
 use native.Mathlib.Nat.{add-zero}
 use mathlib.Core.Bool.{Bool, true, false, ◌||◌}
 use mathlib.Core.List.{List, [], ◌∷◌}
 use mathlib.Core.Path.{◌≡◌, refl, sym, ◌∙◌}
-use lib.Dec.{eqb, leb}
+use lib.Dec.{eqb}
 use lib.ListN.{length, get_or}
-use borrow.Author.Tests.{eq-eqb, ne_eqb, le-leb, lt-leb}
-use Rattle.definition.specs.Base.{keep, each, any, has, place_from}
-use Rattle.definition.specs.Letters.{letter_e, start}
+use borrow.Author.Tests.{eq-eqb, ne_eqb}
+use Rattle.definition.specs.Base.{any, has, place_from}
+use Rattle.definition.specs.Letters.{start}
 use Rattle.definition.specs.Limits.{field_limit}
-use Rattle.definition.specs.Records.{Field, number_at, with_letter}
-use Rattle.definition.specs.Rule.{named_elements}
+use Rattle.definition.specs.Records.{Field, number_at}
 use Rattle.laws.proofs.Lists.{length_each, get_d_each}
-use Rattle.records.specs.Places.{two_at, stretch, field_at, field_of, Run, got}
+use Rattle.records.specs.Places.{two_at}
 use Rattle.records.specs.Held.{field_in}
 use Rattle.std.proofs.Common.{Option, Some, None}
 use Rattle.rule.specs.Search.{Places}
-use Rattle.records.proofs.Link.{got_is}
-use Rattle.records.proofs.Numbers.{length_stretch, number_in, length_numbers_in, numbers_in_lem}
-use Rattle.records.proofs.Along.{all_start, all_no, all_on, all_end}
+use Rattle.records.proofs.Numbers.{number_in}
 use Rattle.records.proofs.Index.{length_held, held_get}
-use Rattle.records.proofs.Runs.{run_got, run_end}
 use Rattle.rule.specs.Layout.{elements_from}
 use Rattle.rule.specs.Elements.{count_at, position_at, element_at, element_fields, element_numbers, Elements, Finds}
 
@@ -86,64 +82,6 @@ module _ {s index : List ℕ} {k : ℕ} (w : Elements s index k) (e : ℕ) where
     is = has_none (element_numbers s index k) e (λ i l q.
         let h : i < count_at index k = rw (numbers_length s index k) at l in p.is i h (sym (numbers_get w i h) ∙ q));
   }
-
--- A scan of E fields for those that can be named.
-unfoldable pub names_of : List Field → List ℕ
-names_of fs = each (λ (f : Field). number_at 0 f.content) (keep (λ (f : Field). leb 2 (length f.content)) fs)
-
-pub record Scanning (s : List ℕ) (to e : ℕ) (body : List Field) (at : ℕ) : Type 0 where
-  pub rest : List Field
-  pub run : Run s at to rest
-  pub left : has e (named_elements body) ≡ has e (names_of rest)
-
-pub scan_start : {s : List ℕ} {from to e : ℕ} (body : List Field) → Run s from to (with_letter letter_e body) → Scanning s to e body from
-unfolding named_elements names_of
-scan_start body r = record { rest = with_letter letter_e body; run = r; left = refl }
-
-module _ {s : List ℕ} {to e at : ℕ} {body : List Field} (w : Scanning s to e body at) where
-  pub scan_end : to ≤ at → has e (named_elements body) ≡ false
-  unfolding names_of keep each has any
-  scan_end h = w.left ∙ rw (run_end w.run h)
-
-  module _ (lt : at < to) where
-    module _ {letter start len next : ℕ} (g : field_at s at ≡ got letter start len next) where
-      size : length (stretch s start len) ≡ len
-      size = let x = got_is s at g in length_stretch s start len (omega arith)
-
-      names_long : (rest : List Field) → 2 ≤ len → names_of (field_of s letter start len ∷ rest) ≡ two_at s start ∷ names_of rest
-      unfolding names_of keep each
-      names_long rest h =
-          let x = got_is s at g in
-          let n : number_at 0 (stretch s start len) ≡ two_at s start = number_in s start len (omega arith) 0 (omega arith) ∙ rw (add-zero start) in
-          rw (size, le-leb 2 len h, n)
-
-      names_short : (rest : List Field) → len < 2 → names_of (field_of s letter start len ∷ rest) ≡ names_of rest
-      unfolding names_of keep each
-      names_short rest h = rw (size, lt-leb 2 len h)
-
-      pub scan_hit : 2 ≤ len → eqb (two_at s start) e ≡ true → has e (named_elements body) ≡ true
-      unfolding has any
-      scan_hit h q = let b = run_got w.run lt g in w.left ∙ rw (b.same, names_long b.rest h, q)
-
-      missed : (rest : List Field) → w.rest ≡ field_of s letter start len ∷ rest → 2 ≤ len → eqb (two_at s start) e ≡ false
-          → has e (names_of w.rest) ≡ has e (names_of rest)
-      unfolding has any
-      missed rest r h q = rw (r, names_long rest h, q)
-
-      pub scan_miss : 2 ≤ len → eqb (two_at s start) e ≡ false → Scanning s to e body next
-      scan_miss h q = let b = run_got w.run lt g in
-          record { rest = b.rest; run = b.run; left = w.left ∙ missed b.rest b.same h q }
-
-      skipped : (rest : List Field) → w.rest ≡ field_of s letter start len ∷ rest → len < 2 → has e (names_of w.rest) ≡ has e (names_of rest)
-      skipped rest r h = rw (r, names_short rest h)
-
-      pub scan_skip : len < 2 → Scanning s to e body next
-      scan_skip h = let b = run_got w.run lt g in record { rest = b.rest; run = b.run; left = w.left ∙ skipped b.rest b.same h }
-
--- What the scan asks, and a loop along numbers.
-pub ruleset scan = (scan_start, scan_hit, scan_miss, scan_skip, scan_end)
-
-pub ruleset number_loop = (all_start, all_no, all_on, all_end, length_numbers_in, numbers_in_lem)
 
 -- Elements stand in ascending order.
 abbrev pub Ascending : List ℕ → Type 0

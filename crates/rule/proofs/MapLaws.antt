@@ -1,11 +1,11 @@
 -- The pairs of a map by their places, and the search among keys that ascend.
-use Prim.Native.Nat.{ℕ, zero, suc, ◌+◌, ◌*◌, ◌≤◌, ◌<◌}
+use Prim.Native.Nat.{ℕ, zero, suc, ◌≤◌, ◌<◌}
 use native.Mathlib.Omega.{arith}
 use mathlib.Core.Bool.{true}
 use mathlib.Core.List.{List, [], ◌∷◌}
 use mathlib.Core.Option.{none, some}
 use mathlib.Core.Logic.{⊎_elim}
-use mathlib.Core.Path.{◌≡◌, refl, sym}
+use mathlib.Core.Path.{◌≡◌, refl}
 use lib.ListN.{length, get_or}
 use borrow.Author.Tests.{eq-eqb, ne_eqb, ltb-true}
 use Rattle.definition.specs.Base.{first_of, place_from, ◌∈◌}
@@ -13,13 +13,7 @@ use Rattle.definition.specs.Rule.{Pair, keys_ascend}
 use Rattle.definition.specs.Rows.{image_of}
 use Rattle.laws.proofs.Lists.{and_left, trichotomy, mem_at}
 use Rattle.laws.proofs.Numbering.{place_in, ascend_rest}
-use Rattle.records.specs.Places.{two_at}
-use Rattle.rule.proofs.PairLaws.{pairs_in_length, pair_in}
-use Rattle.rule.specs.MapFields.{pairs_in, pair_at, MapIn}
-use Rattle.rule.specs.declared.maps.Map.{Map}
-use Rattle.rule.specs.Lookup.{no_pair}
-use Rattle.rule.specs.Search.{KeysAre, Places}
-use Rattle.std.proofs.Common.{Some, None}
+use Rattle.rule.specs.Pairs.{no_pair}
 
 -- Keys that ascend, by their places.
 abbrev key_of : List Pair → ℕ → ℕ
@@ -56,44 +50,6 @@ image_some (p ∷ ps) h e zero l q = rw (eq-eqb p.key e q)
 image_some (p ∷ ps) h e (suc i) l q =
     let a : p.key < key_of ps i = ascend_first p ps h i (omega arith) in
     rw (ne_eqb p.key e (λ z. omega arith)) (image_some ps (ascend_rest p ps h) e i (omega arith) q)
-
--- A map's pairs in its bytes.
-pub pairs_counted : (s : List ℕ) (m : Map) → m.at + 4 * m.pairs ≤ length s → length (pairs_in s m) ≡ m.pairs
-unfolding pairs_in
-pairs_counted s m h = pairs_in_length s m.at m.pairs h
-
-module _ {s : List ℕ} {m : Map} (h : MapIn s m) where
-  pub pairs_many : length (pairs_in s m) ≡ m.pairs
-  pairs_many = pairs_counted s m h.inside
-
-  pair_is : (p : ℕ) → p < m.pairs → pair_at s m p ≡ record { key = two_at s (m.at + 4 * p); image = two_at s (m.at + 4 * p + 2) }
-  unfolding pair_at pairs_in
-  pair_is p l = pair_in s m.at m.pairs h.inside p l
-
-  module _ (p : ℕ) (l : p < m.pairs) where
-    pub key_is : two_at s (m.at + 4 * p) ≡ (pair_at s m p).key
-    key_is = rw (pair_is p l)
-
-    pub image_is : two_at s (m.at + 4 * p + 2) ≡ (pair_at s m p).image
-    image_is = rw (pair_is p l)
-
-  -- The keys, by what is told of each place.
-  abbrev key_at : ℕ → ℕ
-  key_at p = (pair_at s m p).key
-
-  pub keys_are : {told : ℕ → ℕ → Type 0} → ((p x : ℕ) → p < m.pairs → told p x → x ≡ key_at p) → KeysAre told m.pairs key_at
-  unfolding pair_at
-  keys_are tell = record { tell = tell; ascend = λ i j l k. let n = pairs_many in ascend_at (pairs_in s m) h.ascend i j l (omega arith) }
-
-  -- The image of a key at a place, and of a number that is no key.
-  module _ {e : ℕ} where
-    pub found : {p : ℕ} → Places (Some p) m.pairs e key_at → some (pair_at s m p).image ≡ image_of (pairs_in s m) e
-    unfolding pair_at
-    found {p} w = let n = pairs_many in let l = w.is.0 in sym (image_some (pairs_in s m) h.ascend e p (omega arith) w.is.1)
-
-    pub not_found : Places None m.pairs e key_at → none ≡ image_of (pairs_in s m) e
-    unfolding pair_at
-    not_found w = let n = pairs_many in sym (image_none (pairs_in s m) e (λ i l q. w.is i (omega arith) q))
 
 -- Keys that ascend and stand in an ascending list are at most as many as it has.
 pub few_keys : (ps : List Pair) (els : List ℕ) → keys_ascend ps ≡ true → ((i j : ℕ) → i < j → j < length els → get_or els i 0 < get_or els j 0)

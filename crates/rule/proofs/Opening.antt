@@ -15,7 +15,7 @@ use Rattle.definition.specs.Limits.{structure_limit, rule_bytes, name_bytes}
 use Rattle.definition.specs.Letters.{start, letter_n, letter_s, letter_e, letter_v, letter_i}
 use Rattle.definition.specs.Records.{Field, Fields, end, bad, ◌▸◌, Block, follows, in_front, placed, number_at, with_letter, blocks, fields_of, fault_among}
 use Rattle.definition.specs.Signature.{Signature}
-use Rattle.definition.specs.Rule.{rule_grammar, Rule, Structure, Name, Map, name_of, named_elements, head_fault, name_fault, body_fault, structure_of}
+use Rattle.definition.specs.Rule.{rule_grammar, Rule, Structure, Name, name_of, named_elements, head_fault, name_fault, body_fault, structure_of}
 use Rattle.definition.specs.Rule.{head_field, rule_of, rule_part, rule_fault, read_rule}
 use Rattle.definition.specs.Walk.{no_structure}
 use Rattle.records.specs.Places.{two_at, stretch, field_at, field_of, Run, got}
@@ -28,13 +28,10 @@ use Rattle.laws.proofs.Lists.{get_d_each, lowest_none, mem_at}
 use Rattle.laws.proofs.NameLaws.{fine}
 use Rattle.laws.proofs.Sound.{read_part_lem, read_within, among_mem}
 use Rattle.laws.proofs.SoundRule.{Begins, begins, body_parts, rule_parts, structure_bodies}
-use Rattle.laws.specs.Sound.{SoundMap}
 use Rattle.rule.specs.Layout.{letter_at, no_block, block_at, place_e, place_v, place_i, name_place, section_from, section_to}
 use Rattle.rule.specs.Elements.{element_fields}
 use Rattle.rule.specs.Answers.{Indexed}
 use Rattle.rule.specs.ElementFields.{elements_in, ElementsAt}
-use Rattle.rule.specs.MapFields.{pairs_in, Joins}
-use Rattle.rule.specs.declared.maps.Map as read
 use Rattle.rule.specs.Lookup.{rule_at}
 use Rattle.rule.specs.Structures.{structure_in, names_of, NamesAt, Laid, Headed}
 
@@ -179,8 +176,3 @@ module _ (sig : Signature) (s : List ℕ) {rule : Rule} (ok : read_rule sig s �
         index = ap (number_at 0) c ∙ number_in s 3 (two_at s 1) w 0 (omega arith);
         name = ap (drop 2) c ∙ drop_stretch s 3 (two_at s 1) 2;
       }
-
--- A map of the rule joins its source and its target.
-pub joins : {s : List ℕ} {x : Map} {m : read.Map} → SoundMap (rule_at s) x → x.pairs ≡ pairs_in s m → Joins s x.source x.target m
-unfolding structure_in
-joins w e = record { keys = record { named = λ p i. w.keys_in p (rw e i) }; images = record { named = λ p i. w.images_in p (rw e i) } }

@@ -1,19 +1,19 @@
--- Pairs of key and image: those of a stretch, and loops along them.
-use Prim.Native.Nat.{ℕ, zero, suc, ◌+◌, ◌-◌, ◌*◌, ◌/◌, ◌≤◌, ◌<◌}
+-- Pairs of key and image: those of a stretch, and those of a content, four bytes each.
+use Prim.Native.Nat.{ℕ, zero, suc, ◌+◌, ◌*◌, ◌/◌, ◌≤◌, ◌<◌}
 use native.Mathlib.Omega.{arith}
-use native.Mathlib.Numerals.{add-one}
-use mathlib.Core.Bool.{Bool, true, false}
+use mathlib.Core.Bool.{Bool, true, false, ◌&&◌}
 use mathlib.Core.List.{List, [], ◌∷◌}
-use mathlib.Core.Path.{◌≡◌, refl, sym, ◌∙◌}
-use lib.ListN.{length, get_or, drop, length-drop, drop_of_length-le}
-use lib.Seq.{drop-cons}
-use borrow.Author.Tests.{lt-ltb, le-ltb}
-use Rattle.definition.specs.Base.{all}
+use mathlib.Core.Path.{◌≡◌, refl, ◌∙◌}
+use lib.Dec.{ltb}
+use lib.ListN.{length, get_or}
+use Rattle.definition.specs.Base.{all, each}
 use Rattle.definition.specs.Records.{numbers}
 use Rattle.definition.specs.Rule.{Pair, pairs_of, keys_ascend}
 use Rattle.records.specs.Places.{two_at, stretch}
-use Rattle.rule.specs.Lookup.{no_pair}
+use Rattle.rule.specs.Pairs.{pairs_in_bytes, no_pair}
 use Rattle.records.proofs.Numbers.{length_numbers_in, numbers_in_lem}
+use Rattle.std.specs.List.{list_all, IsAllAdjacentAnswer}
+use Rattle.std.specs.Simd.{first_chunks}
 
 pub pairs_length : (ns : List ℕ) → length (pairs_of ns) ≡ length ns / 2
 unfolding pairs_of
@@ -32,24 +32,10 @@ pairs_get (k ∷ m ∷ ns) (suc i) h =
     let f : suc (suc (2 * i)) + 1 ≡ suc (suc (2 * i + 1)) = omega arith in
     rw (e, f) (pairs_get ns i (omega arith))
 
+-- The pairs of a stretch.
 module _ (s : List ℕ) (start count : ℕ) where
   abbrev pub pairs_in : List Pair
   pairs_in = pairs_of (numbers (stretch s start (4 * count)))
-
-  -- A test of each pair from an index on, and the order of the keys.
-  unfoldable pub all_pairs : (Pair → Bool) → ℕ → Bool
-  all_pairs p i = all p (drop i pairs_in)
-
-  unfoldable pub keys_from : ℕ → Bool
-  keys_from i = keys_ascend (drop i pairs_in)
-
-  pub pairs_start : (p : Pair → Bool) → all p pairs_in ≡ all_pairs p 0
-  unfolding all_pairs
-  pairs_start p = refl
-
-  pub keys_start : keys_ascend pairs_in ≡ keys_from 0
-  unfolding keys_from
-  keys_start = refl
 
 module _ (s : List ℕ) (start count : ℕ) (h : start + 4 * count ≤ length s) where
   abbrev pairs_all : List Pair
@@ -66,65 +52,46 @@ module _ (s : List ℕ) (start count : ℕ) (h : start + 4 * count ≤ length s)
       pairs_get (numbers (stretch s start (4 * count))) i (omega arith)
       ∙ rw (numbers_in_lem s start (4 * count) h (2 * i) (omega arith), numbers_in_lem s start (4 * count) h (2 * i + 1) (omega arith), p, q)
 
-  -- What is left at an index.
-  pair_on : (i : ℕ) → i < count → drop i pairs_all ≡ record { key = two_at s (start + 4 * i); image = two_at s (start + 4 * i + 2) } ∷ drop (i + 1) pairs_all
-  pair_on i l =
-      let n = pairs_in_length in let m : i < length pairs_all = omega arith in
-      let o : drop i pairs_all ≡ get_or pairs_all i no_pair ∷ drop (i + 1) pairs_all = rw (add-one, drop-cons pairs_all i no_pair) in
-      o ∙ rw (pair_in i l)
+-- A content's pairs are its bytes four by four.
+abbrev pub pair_in_bytes : List ℕ → Pair
+pair_in_bytes bytes = record { key = two_at bytes 0; image = two_at bytes 2 }
 
-  pair_end : (i : ℕ) → count ≤ i → drop i pairs_all ≡ []
-  pair_end i l = let n = pairs_in_length in let m : length pairs_all ≤ i = omega arith in drop_of_length-le pairs_all m
+pub pairs_are : (s : List ℕ) → each pair_in_bytes (first_chunks 4 (length s / 4) s) ≡ pairs_in_bytes s
+unfolding pairs_in_bytes pairs_of numbers each
+pairs_are [] = refl
+pairs_are (a ∷ []) = refl
+pairs_are (a ∷ b ∷ []) = refl
+pairs_are (a ∷ b ∷ c ∷ []) = refl
+pairs_are (a ∷ b ∷ c ∷ d ∷ s) = let e : suc (suc (suc (suc (length s)))) / 4 ≡ suc (length s / 4) = omega arith in rw (e, pairs_are s)
 
-  module _ (i : ℕ) where
-    module _ (p : Pair → Bool) where
-      pub pairs_no : i < count → p (record { key = two_at s (start + 4 * i); image = two_at s (start + 4 * i + 2) }) ≡ false
-          → all_pairs s start count p i ≡ false
-      unfolding all_pairs all
-      pairs_no l e = rw (pair_on i l, e)
+-- A test of each, and whether keys ascend.
+pub all_each : {A B : Type 0} (p : B → Bool) (of : A → B) (xs : List A) → list_all (λ x. p (of x)) xs ≡ all p (each of xs)
+unfolding all each
+all_each p of [] = refl
+all_each p of (x ∷ xs) = rw (all_each p of xs)
 
-      pub pairs_on : i < count → p (record { key = two_at s (start + 4 * i); image = two_at s (start + 4 * i + 2) }) ≡ true
-          → all_pairs s start count p i ≡ all_pairs s start count p (i + 1)
-      unfolding all_pairs all
-      pairs_on l e = rw (pair_on i l, e)
+abbrev Answer : List (List ℕ) → Bool → Type 0
+Answer cs r = IsAllAdjacentAnswer (λ (x y : List ℕ) (b : Bool). b ≡ ltb (two_at x 0) (two_at y 0)) cs r
 
-      pub pairs_end : count ≤ i → all_pairs s start count p i ≡ true
-      unfolding all_pairs all
-      pairs_end l = rw (pair_end i l)
+pub keys_sorted : (cs : List (List ℕ)) (r : Bool) → Answer cs r → r ≡ keys_ascend (each pair_in_bytes cs)
+unfolding each keys_ascend
+keys_sorted [] true h = refl
+keys_sorted [] false h = absurd (omega (arith, h.1))
+keys_sorted (x ∷ []) true h = refl
+keys_sorted (x ∷ []) false h = absurd (omega (arith, h.1))
+keys_sorted (x ∷ y ∷ cs) true h = rw (← h 0 [] (omega arith)) (keys_sorted (y ∷ cs) true
+    (λ k d l. let e : suc k + 1 ≡ suc (k + 1) = omega arith in rw e at (h (suc k) d (omega arith))))
+keys_sorted (x ∷ y ∷ cs) false h = go h.0 h.1 h.2 (λ k l e. keys_sorted (y ∷ cs) false (k, l, e))
+  where
+    Falls : List (List ℕ) → ℕ → Type 0
+    Falls cs k = (d : List ℕ) → false ≡ ltb (two_at (get_or cs k d) 0) (two_at (get_or cs (k + 1) d) 0)
 
-  -- Two keys, at an index and before it.
-  module _ (i : ℕ) (one : 1 ≤ i) where
-    two_on : i < count → drop (i - 1) pairs_all
-        ≡ record { key = two_at s (start + 4 * i - 4); image = two_at s (start + 4 * i - 4 + 2) }
-        ∷ record { key = two_at s (start + 4 * i); image = two_at s (start + 4 * i + 2) } ∷ drop (i + 1) pairs_all
-    two_on l =
-        let e : start + 4 * (i - 1) ≡ start + 4 * i - 4 = omega arith in
-        let n : i - 1 + 1 ≡ i = omega arith in
-        pair_on (i - 1) (omega arith) ∙ rw (n, pair_on i l, e)
+    both : (t : Bool) → false ≡ t && false
+    both true = refl
+    both false = refl
 
-    pub keys_no : i < count → two_at s (start + 4 * i) ≤ two_at s (start + 4 * i - 4) → keys_from s start count (i - 1) ≡ false
-    unfolding keys_from keys_ascend
-    keys_no l h = rw (two_on l, le-ltb (two_at s (start + 4 * i - 4)) (two_at s (start + 4 * i)) h)
-
-    pub keys_on : i < count → two_at s (start + 4 * i - 4) < two_at s (start + 4 * i) → keys_from s start count (i - 1) ≡ keys_from s start count (i + 1 - 1)
-    unfolding keys_from keys_ascend
-    keys_on l h =
-        let n : i + 1 - 1 ≡ i = omega arith in
-        rw (n, two_on l, lt-ltb (two_at s (start + 4 * i - 4)) (two_at s (start + 4 * i)) h) (sym (rw (pair_on i l)))
-
-    pub keys_end : count ≤ i → keys_from s start count (i - 1) ≡ true
-    unfolding keys_from keys_ascend
-    keys_end l = go (drop (i - 1) pairs_all) short
-      where
-        short : length (drop (i - 1) pairs_all) ≤ 1
-        short = let n = pairs_in_length in rw length-drop (omega arith)
-
-        go : (ps : List Pair) → length ps ≤ 1 → keys_ascend ps ≡ true
-        go [] h = refl
-        go (p ∷ []) h = refl
-        go (p ∷ q ∷ ps) h = absurd (omega arith)
-
--- What the loops along pairs and along keys ask.
-pub ruleset pair_loop = (pairs_start, pairs_no, pairs_on, pairs_end)
-
-pub ruleset key_loop = (keys_start, keys_no, keys_on, keys_end)
+    go : (k : ℕ) → k + 1 < length (x ∷ y ∷ cs) → Falls (x ∷ y ∷ cs) k
+        → ((j : ℕ) → j + 1 < length (y ∷ cs) → Falls (y ∷ cs) j → false ≡ keys_ascend (each pair_in_bytes (y ∷ cs)))
+        → false ≡ ltb (two_at x 0) (two_at y 0) && keys_ascend (each pair_in_bytes (y ∷ cs))
+    go zero l e i = rw (← e [])
+    go (suc k) l e i = rw (← (i k (omega arith) (λ d. let q : suc k + 1 ≡ suc (k + 1) = omega arith in rw q at (e d)))) (both (ltb (two_at x 0) (two_at y 0)))

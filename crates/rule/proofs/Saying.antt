@@ -1,5 +1,5 @@
 -- What the fields of an accepted rule say, by their positions.
-use Prim.Native.Nat.{ℕ, zero, suc, ◌+◌, ◌-◌, ◌*◌, ◌/◌, ◌≤◌, ◌<◌}
+use Prim.Native.Nat.{ℕ, ◌+◌, ◌-◌, ◌*◌, ◌/◌, ◌≤◌, ◌<◌}
 use native.Mathlib.Omega.{arith}
 use native.Mathlib.Nat.{add-zero}
 use mathlib.Core.List.{List, [], ◌∷◌}
@@ -8,13 +8,12 @@ use lib.ListN.{length, get_or, drop, length-drop}
 use Rattle.definition.specs.Base.{each}
 use Rattle.definition.specs.Letters.{letter_s}
 use Rattle.definition.specs.Records.{Field, numbers, number_at, with_letter, blocks}
-use Rattle.definition.specs.Rule.{Element, MorphismKind, If, SurjThen, NonSurjThen, Noop}
-use Rattle.definition.specs.Rule.{kind_of, rule_part, rule_of, structure_of, element_of, map_of, auxiliary_of}
+use Rattle.definition.specs.Rule.{Element, rule_part, rule_of, structure_of, element_of, map_of}
 use Rattle.definition.specs.Names.{numbers_of}
 use Rattle.definition.specs.Walk.{structure_at, no_structure}
 use Rattle.laws.proofs.Lists.{length_each, get_d_each}
 use Rattle.records.specs.Places.{two_at, stretch, field_of, Run}
-use Rattle.records.proofs.Numbers.{stretch_at, drop_stretch, length_numbers_in, number_in}
+use Rattle.records.proofs.Numbers.{length_numbers_in, number_in}
 use Rattle.rule.specs.Layout.{letter_at, no_block, block_at, place_m, place_x, behind_from, behind_to, number_of, back}
 use Rattle.rule.specs.Elements.{element_fields, element_numbers, Elements}
 use Rattle.rule.specs.Lookup.{Ready, rule_at}
@@ -40,38 +39,11 @@ module _ (s : List ℕ) (start len : ℕ) (h : start + len ≤ length s) where
     unfolding map_of
     target_is l = sym (number 1 l)
 
-    pub kind_source_is : 4 ≤ len → two_at s start ≡ (kind_of (field_of s letter start len)).source
-    unfolding kind_of
-    kind_source_is l = sym (first_number (omega arith))
-
-    pub kind_target_is : 4 ≤ len → two_at s (start + 2) ≡ (kind_of (field_of s letter start len)).target
-    unfolding kind_of
-    kind_target_is l = sym (number 1 l)
-
     pub pairs_are : (len - 4) / 4 ≡ length (map_of (field_of s letter start len)).pairs
     unfolding map_of
     pairs_are = let n = later_count 2 in let m = pairs_length (drop 2 (numbers (stretch s start len))) in omega arith
 
-    pub structure_number_is : 3 ≤ len → two_at s (start + 1) ≡ (auxiliary_of (field_of s letter start len)).structure
-    unfolding auxiliary_of
-    structure_number_is l = sym (rw (drop_stretch s start len 1) (number_in s (start + 1) (len - 1) (omega arith) 0 (omega arith) ∙ rw (add-zero (start + 1))))
-
--- A kind byte above 3, or 0, stands for If.
-abbrev kinds : List MorphismKind
-kinds = If ∷ SurjThen ∷ NonSurjThen ∷ Noop ∷ []
-
-pub kind_is : (s : List ℕ) (start len letter : ℕ) → 5 ≤ len → (kind_of (field_of s letter start len)).kind ≡ get_or kinds (get_or s (start + 4) 0) If
-unfolding kind_of
-kind_is s start len letter l = rw (stretch_at s start len 4 (omega arith))
-
-pub kind_other : (b : ℕ) → (b ≡ 1 → ⊥) → (b ≡ 2 → ⊥) → (b ≡ 3 → ⊥) → get_or kinds b If ≡ If
-kind_other zero a c d = refl
-kind_other (suc zero) a c d = absurd (a refl)
-kind_other (suc (suc zero)) a c d = absurd (c refl)
-kind_other (suc (suc (suc zero))) a c d = absurd (d refl)
-kind_other (suc (suc (suc (suc b)))) a c d = refl
-
-numbers_each : (fs : List Field) → each (λ (f : Field). number_at 0 f.content) fs ≡ each (λ (e : Element). e.number) (each element_of fs)
+pub numbers_each : (fs : List Field) → each (λ (f : Field). number_at 0 f.content) fs ≡ each (λ (e : Element). e.number) (each element_of fs)
 unfolding each element_of
 numbers_each [] = refl
 numbers_each (f ∷ fs) = rw (numbers_each fs)

@@ -12,7 +12,8 @@ use Rattle.definition.specs.Signature.{Signature}
 use Rattle.rule.specs.Answers.{Indexed}
 use Rattle.rule.specs.Layout.{block_at}
 use Rattle.laws.proofs.SoundRule.{structure_sound}
-use Rattle.rule.proofs.Accepted.{SmallArities, body, body_passed, preds_run, funcs_run, preds_known, funcs_known, preds_alike, funcs_alike}
+use Rattle.signature.specs.Index.{SmallArities}
+use Rattle.rule.proofs.Accepted.{body, body_passed, preds_run, funcs_run, preds_known, funcs_known, preds_alike, funcs_alike}
 use Rattle.rule.proofs.Accepted.{members_alike, elements_at, structure_preds, structure_funcs}
 use Rattle.rule.specs.Structures.{structure_in, SoundAt}
 use Rattle.rule.proofs.Opening.{structure_is, structure_laid}
@@ -27,6 +28,7 @@ sound_at {sig} {s} {index} {n} w small k h =
     ap (λ (st : Structure). st.func_rows) e ∙ structure_funcs w small k h in
     let l = structure_laid w k h (elements_at w small k h) in
     record {
+      small = small;
       laid = l;
       sound = rw e (structure_sound sig (block_at (rule_part s).fields k) (body_passed w small k h));
       pred_fields = with_letter letter_r (body w small k h);

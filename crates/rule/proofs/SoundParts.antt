@@ -2,18 +2,18 @@
 use Prim.Native.Nat.{ℕ, ◌≤◌, ◌<◌}
 use native.Mathlib.Omega.{arith}
 use mathlib.Core.List.{List}
-use mathlib.Core.Option.{Option, none, some}
-use mathlib.Core.Path.{◌≡◌, refl}
+use mathlib.Core.Option.{some}
+use mathlib.Core.Path.{◌≡◌}
 use mathlib.Core.Bool.{◌&&◌}
 use lib.Dec.{eqb}
 use lib.ListN.{length}
 use borrow.Author.Tests.{eqb-true}
-use Rattle.definition.specs.Base.{or_default, ◌∈◌}
+use Rattle.definition.specs.Base.{◌∈◌}
 use Rattle.definition.specs.Letters.{letter_m, letter_k, letter_x}
 use Rattle.definition.specs.Limits.{structure_limit}
 use Rattle.definition.specs.Records.{Field}
 use Rattle.definition.specs.Rule.{Map, Pair, Kind, Auxiliary, map_of, kind_of, auxiliary_of, named_in, rule_part, rule_of}
-use Rattle.definition.specs.Walk.{source_into, incoming_source, map_of_pair, pairs_between}
+use Rattle.definition.specs.Walk.{map_of_pair, pairs_between}
 use Rattle.laws.proofs.KindTable.{ascending_once}
 use Rattle.laws.proofs.Lists.{and_left, and_right, mem_each, first_mem, picked}
 use Rattle.laws.proofs.Sound.{among_mem}
@@ -81,21 +81,6 @@ module _ {s index : List ℕ} (w : Ready s index) where
 
   pub structures_few : length (rule_at s).structures ≤ structure_limit
   structures_few = let e = structures_are w in omega (arith, w.indexed.known.few)
-
-  -- The lowest source of a structure is one of the structures; where there is none, 0 is.
-  pub lowest_in : (target : ℕ) → or_default (incoming_source (rule_at s).maps target) 0 < length (rule_at s).structures
-  unfolding incoming_source
-  lowest_in target = go (incoming_source (rule_at s).maps target) refl
-    where
-      go : (o : Option ℕ) → incoming_source (rule_at s).maps target ≡ o → or_default o 0 < length (rule_at s).structures
-      go none e = let c = structures_are w in omega (arith, w.indexed.some)
-      go (some source) e =
-          let r = first_mem (source_into target) (rule_at s).maps e in
-          let p = picked (eqb r.0.target target) r.0.source r.2 in
-          rw (← p.1) (sound_map r.0 r.1).source_in
-
-  pub lowest_below : (target : ℕ) {source : ℕ} → source ≡ or_default (incoming_source (rule_at s).maps target) 0 → source < structure_limit
-  lowest_below target e = let l = lowest_in target in let f = structures_few in omega arith
 
   -- A pair stands once among the kinds.
   pub kinds_once : Once (rule_at s).kinds

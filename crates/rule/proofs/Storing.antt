@@ -1,47 +1,62 @@
 -- The E fields of a structure: what the index holds while their positions are stored.
-use Prim.Native.Nat.{ℕ, ◌+◌, ◌*◌, ◌≤◌, ◌<◌}
+use Prim.Native.Nat.{ℕ, ◌+◌, ◌-◌, ◌*◌, ◌/◌, ◌≤◌, ◌<◌}
 use native.Mathlib.Omega.{arith}
 use native.Mathlib.Decide.{ℕ_discrete}
-use mathlib.Core.List.{List, ◌∷◌, ◌++◌, append_assoc, append-nil}
-use mathlib.Core.Option.{Option, none, some}
-use mathlib.Core.Path.{◌≡◌, refl, sym, ◌∙◌}
-use lib.ListN.{length, get_or, set, length-set}
+use native.Mathlib.Nat.{add-zero}
+use mathlib.Core.List.{List, [], ◌∷◌, ◌++◌, append_assoc, append-nil}
+use mathlib.Core.Path.{◌≡◌, refl, sym, ◌∙◌, ap}
+use lib.ListN.{length, get_or, set, length-set, take, length-take}
 use lib.Seq.{get_or-set_same, get_or-set_other}
-use Rattle.definition.specs.Letters.{letter_e}
 use Rattle.definition.specs.Limits.{structure_limit, field_limit}
-use Rattle.definition.specs.Records.{Field, with_letter}
-use Rattle.records.specs.Places.{two_at, field_at, field_of, Run, got}
+use Rattle.definition.specs.Records.{Field, number_at}
+use Rattle.records.specs.Iter.{Stands, field_from}
+use Rattle.records.specs.Places.{two_at, stretch}
 use Rattle.records.specs.Held.{held_at}
-use Rattle.records.proofs.Link.{got_is}
-use Rattle.records.proofs.Runs.{run_end}
+use Rattle.records.specs.declared.iter.Field as read
+use Rattle.records.proofs.FieldsIn.{FoundAt, end_turn, end_found}
+use Rattle.records.proofs.Link.{GotAt, got_is}
+use Rattle.records.proofs.Numbers.{number_in, numbers_at}
 use Rattle.records.proofs.Index.{got_field, held_store, held_same}
-use Rattle.std.proofs.Common.{Some, None, Ok, Err}
+use Rattle.std.proofs.Common as std
+use Rattle.std.proofs.Common.{Some, None, Ok, Bor}
 use Rattle.rule.specs.Layout.{elements_from, counts_from, rule_index}
-use Rattle.rule.specs.Elements.{count_at, position_at, element_at, element_fields}
+use Rattle.rule.specs.Elements.{Lies, count_at, position_at, element_at, element_fields}
 use Rattle.rule.specs.Faults.{AboveLast, Fits}
 use Rattle.rule.specs.Answers.{Kept, Stored, Holds}
-use Rattle.std.proofs.Common as std
-use Rattle.records.specs.declared.fields.Field as read
-use Rattle.rule.proofs.Checking.{Checking, first, check_start, check_next}
+use Rattle.rule.proofs.SectionParts.{front_found}
+
+-- A part of a record from which fields are taken: it goes on to end where it did.
+module _ {s left : List ℕ} {to : ℕ} (w : Lies s to left) {f : Field} {rest : List ℕ} (h : Stands left f rest) where
+  inside : to ≤ length s
+  inside = w.within (omega (arith, h.long))
+
+  pub lies_turn : Lies s to rest
+  lies_turn = record { end = end_turn w.end h; within = λ l. inside }
+
+  -- Its first field stands in the record.
+  pub lies_found : FoundAt s (to - length left) f (to - length rest)
+  lies_found =
+      let size : length (take to s) ≡ to = length-take to s ∙ (let k = inside in omega arith) in
+      front_found s to inside (rw size at (end_found w.end h))
 
 -- No number is above that of the last field.
-abbrev AtMost : std.Option read.Field → List ℕ → ℕ → Type 0
-AtMost None s x = ⊥
-AtMost (Some f) s x = (2 ≤ f.len) × (x ≤ two_at s f.start)
+abbrev AtMost : std.Option (Bor (List ℕ)) → ℕ → Type 0
+AtMost None x = ⊥
+AtMost (Some content) x = (2 ≤ length content.now) × (x ≤ two_at content.now 0)
 
-above_all : (last : std.Option read.Field) (s : List ℕ) (x e : ℕ) → AtMost last s x → AboveLast last s e → x < e
-above_all None s x e a b = absurd a
-above_all (Some f) s x e a b = let c = b a.0 in omega (arith, a.1)
+above_all : (last : std.Option (Bor (List ℕ))) (x e : ℕ) → AtMost last x → AboveLast last e → x < e
+above_all None x e a b = absurd a
+above_all (Some content) x e a b = let c = b a.0 in omega (arith, a.1)
 
 -- So many positions are stored.
-pub record Storing (s index₀ index : List ℕ) (k count : ℕ) (last : std.Option read.Field) : Type 0 where
+pub record Storing (s index₀ index : List ℕ) (k count : ℕ) (last : std.Option (Bor (List ℕ))) : Type 0 where
   pub long : length index ≡ rule_index
   pub kept : Kept index₀ index k
   pub few : count ≤ field_limit
   pub sized : (i : ℕ) → i < count → 4 ≤ two_at s (position_at index k i + 1)
   pub inside : (i : ℕ) → i < count → position_at index k i + 3 + two_at s (position_at index k i + 1) ≤ length s
   pub ascend : (i j : ℕ) → i < j → j < count → element_at s index k i < element_at s index k j
-  pub newest : (i : ℕ) → i < count → AtMost last s (element_at s index k i)
+  pub newest : (i : ℕ) → i < count → AtMost last (element_at s index k i)
 
 pub store_start : (s index : List ℕ) (k : ℕ) → length index ≡ rule_index → Storing s index index k 0 None
 store_start s index k l = record {
@@ -54,13 +69,27 @@ store_start s index k l = record {
   newest = λ i h. absurd (omega arith);
 }
 
-module _ {s index₀ index : List ℕ} {k count : ℕ} {last : std.Option read.Field} (w : Storing s index₀ index k count last) (hk : k < structure_limit) where
+module _ {s index₀ index : List ℕ} {k count : ℕ} {last : std.Option (Bor (List ℕ))} (w : Storing s index₀ index k count last) (hk : k < structure_limit) where
   abbrev from : ℕ
   from = elements_from + field_limit * k
 
   -- One more.
-  module _ (at : ℕ) {letter start len next : ℕ} (e : field_at s at ≡ got letter start len next) {u : Unit}
-      (fits : Fits (Ok u) s start len count last) where
+  module _ {at next : ℕ} {f : read.Field} (found : FoundAt s at (field_from f) next) {u : Unit}
+      (fits : Fits (Ok u) (record { content = f.content; before = count; last = last })) where
+    abbrev content : List ℕ
+    content = f.content.now
+
+    got : GotAt s at f.letter (at + 3) (length content) next
+    got = got_is s at found.is
+
+    number_is : two_at s (at + 3) ≡ two_at content 0
+    unfolding number_at
+    number_is =
+        let g = got in
+        let l : 1 ≤ length content / 2 = omega (arith, fits.is.0) in
+        let same : stretch s (at + 3) (length content) ≡ content = ap (λ (x : Field). x.content) found.same in
+        sym (number_in s (at + 3) (length content) (omega arith) 0 l ∙ rw (add-zero (at + 3))) ∙ ap (number_at 0) same ∙ numbers_at content 0 l
+
     abbrev index' : List ℕ
     index' = set index (from + count) at
 
@@ -73,32 +102,37 @@ module _ {s index₀ index : List ℕ} {k count : ℕ} {last : std.Option read.F
     other : (i : ℕ) → (i ≡ count → ⊥) → position_at index' k i ≡ position_at index k i
     other i q = get_or-set_other index (from + count) (from + i) at 0 (λ r. q (omega arith))
 
-    number_here : (i : ℕ) → i ≡ count → element_at s index' k i ≡ two_at s start
-    number_here i q = let g = got_is s at e in rw (here i q, g.start_is)
+    pub held_next : {fs : List Field} (rest : List Field) → fs ≡ held_at s index from count ++ (field_from f ∷ rest)
+        → fs ≡ held_at s index' from (count + 1) ++ rest
+    held_next rest q =
+        q ∙ rw (held_store s index from count at room, got_field s at found.is, found.same, append_assoc)
+
+    number_here : (i : ℕ) → i ≡ count → element_at s index' k i ≡ two_at content 0
+    number_here i q = rw (here i q) number_is
 
     number_other : (i : ℕ) → (i ≡ count → ⊥) → element_at s index' k i ≡ element_at s index k i
     number_other i q = rw (other i q)
 
-    below_new : (i : ℕ) → i < count → element_at s index k i < two_at s start
-    below_new i h = above_all last s (element_at s index k i) (two_at s start) (w.newest i h) fits.is.2
+    below_new : (i : ℕ) → i < count → element_at s index k i < two_at content 0
+    below_new i h = above_all last (element_at s index k i) (two_at content 0) (w.newest i h) fits.is.2
 
     sized_all : (i : ℕ) → i < count + 1 → Dec (i ≡ count) → 4 ≤ two_at s (position_at index' k i + 1)
-    sized_all i h (yes q) = let g = got_is s at e in rw (here i q, g.len_is) fits.is.0
+    sized_all i h (yes q) = let g = got in rw (here i q, g.len_is) fits.is.0
     sized_all i h (no q) = rw (other i q) (w.sized i (omega arith))
 
     inside_all : (i : ℕ) → i < count + 1 → Dec (i ≡ count) → position_at index' k i + 3 + two_at s (position_at index' k i + 1) ≤ length s
-    inside_all i h (yes q) = let g = got_is s at e in rw (here i q) (omega arith)
+    inside_all i h (yes q) = let g = got in rw (here i q) (omega arith)
     inside_all i h (no q) = rw (other i q) (w.inside i (omega arith))
 
     ascend_all : (i j : ℕ) → i < j → j < count + 1 → Dec (j ≡ count) → element_at s index' k i < element_at s index' k j
     ascend_all i j h g (yes q) = rw (number_other i (λ r. omega arith), number_here j q) (below_new i (omega arith))
     ascend_all i j h g (no q) = rw (number_other i (λ r. omega arith), number_other j q) (w.ascend i j h (omega arith))
 
-    newest_all : (i : ℕ) → i < count + 1 → Dec (i ≡ count) → (2 ≤ len) × (element_at s index' k i ≤ two_at s start)
+    newest_all : (i : ℕ) → i < count + 1 → Dec (i ≡ count) → (2 ≤ length content) × (element_at s index' k i ≤ two_at content 0)
     newest_all i h (yes q) = (omega (arith, fits.is.0), rw (number_here i q) (omega arith))
     newest_all i h (no q) = (omega (arith, fits.is.0), rw (number_other i q) (omega (arith, below_new i (omega arith))))
 
-    pub store_next : Storing s index₀ index' k (count + 1) (got letter start len next)
+    pub store_next : Storing s index₀ index' k (count + 1) (Some f.content)
     store_next = record {
       long = length-set index (from + count) at ∙ w.long;
       kept = record {
@@ -143,36 +177,8 @@ module _ {s index₀ index : List ℕ} {k count : ℕ} {last : std.Option read.F
   }
 
   -- The fields that the stored positions hold.
-  pub held_end : (body : List Field) → with_letter letter_e body ≡ held_at s index from count → {u : Unit} → Holds (Ok u) s index'' k body
+  pub held_end : (fs : List Field) → fs ≡ held_at s index from count ++ [] → {u : Unit} → Holds (Ok u) s index'' k fs
   unfolding element_fields
-  held_end body q = record { is = rw count_is (held_same s index'' index from count (λ i a b. same_entry i (omega (arith, w.few))) ∙ sym q) }
-
--- The check of the E fields, with what is stored.
-pub record Listing (s index : List ℕ) (check : ℕ → Option Field → Field → Option ℕ) (to k : ℕ) (body : List Field) (at count : ℕ)
-    (last : Option Field) : Type 0 where
-  pub checking : Checking s letter_e check to body at count last
-  pub held : with_letter letter_e body ≡ held_at s index (elements_from + field_limit * k) count ++ checking.rest
-
-pub list_start : {s index : List ℕ} {check : ℕ → Option Field → Field → Option ℕ} {from to k : ℕ} (body : List Field)
-    → Run s from to (with_letter letter_e body) → Listing s index check to k body from 0 none
-unfolding held_at check_start
-list_start body r = record { checking = check_start body r; held = refl }
-
-module _ {s index : List ℕ} {check : ℕ → Option Field → Field → Option ℕ} {to k : ℕ} {body : List Field} {at count : ℕ} {last : Option Field}
-    (w : Listing s index check to k body at count last) where
-  pub list_end : to ≤ at → with_letter letter_e body ≡ held_at s index (elements_from + field_limit * k) count
-  list_end h = w.held ∙ rw (run_end w.checking.run h, append-nil)
-
-  module _ (lt : at < to) {l start len next : ℕ} (e : field_at s at ≡ got l start len next) where
-    stored : (rest : List Field) → l ≡ letter_e → w.checking.rest ≡ field_of s letter_e start len ∷ rest
-        → elements_from + field_limit * k + count < length index
-        → held_at s index (elements_from + field_limit * k) count ++ w.checking.rest
-        ≡ held_at s (set index (elements_from + field_limit * k + count) at) (elements_from + field_limit * k) (count + 1) ++ rest
-    stored rest q r h = rw (r, held_store s index (elements_from + field_limit * k) count at h, got_field s at e, q, append_assoc)
-
-    pub list_next : none ≡ check count last (field_of s letter_e start len)
-        → elements_from + field_limit * k + count < length index
-        → Listing s (set index (elements_from + field_limit * k + count) at) check to k body next (count + 1) (some (field_of s letter_e start len))
-    unfolding check_next
-    list_next c h = let f = first w.checking lt e in
-        record { checking = check_next w.checking lt e c; held = w.held ∙ stored f.rest f.is f.same h }
+  held_end fs q = record {
+    is = rw count_is (held_same s index'' index from count (λ i a b. same_entry i (omega (arith, w.few))) ∙ sym (q ∙ append-nil (held_at s index from count)));
+  }

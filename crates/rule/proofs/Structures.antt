@@ -72,7 +72,8 @@ module _ {s index₀ : List ℕ} {n : ℕ} {bs : List Block} (w : Structured s i
         onward body = rw (block_on lt, ← (head _ (head_here lt known.few)), ← (body _ here))
 
         -- The next structure.
-        pub go_next : {index' : List ℕ} {u : Unit} → Body none → Kept index index' k → ((fs : List Field) → Bodied s index k fs → Holds (Ok u) s index' k fs)
+        pub go_next : {index' : List ℕ} {u : Unit} → Body none → Kept index index' k
+            → ((fs : List Field) → Bodied s index k fs → Holds (Ok u) s index' k (with_letter letter_e fs))
             → Going sig s index' bs (k + 1)
         go_next {index'} body kk holds = record { left = g.left ∙ onward body; held = λ j l. go j l (ℕ_discrete j k) }
           where

@@ -24,11 +24,13 @@ use Rattle.rule.specs.Layout.{behind_to, number_of}
 use Rattle.rule.specs.Layout.{place_s, place_e, place_i, place_m, place_k, place_x}
 use Rattle.rule.specs.Elements.{element_fields, element_numbers, numbers_in, Known}
 use Rattle.rule.specs.Faults.{check_of, tail_fault}
+use Rattle.rule.specs.declared.faults.SectionKind.{SectionKind}
+use Rattle.rule.specs.declared.faults.SectionKind.TheVariants as section
 use Rattle.rule.specs.Answers.{HeadAt, Bodied, Structured, Tailed, Ended, Over, Passes, Kept, AllHold, Indexed}
 use Rattle.rule.proofs.Blocks.{blocks_append, head_letter}
 use Rattle.rule.proofs.Letters.{letter_test, place_is}
 use Rattle.rule.proofs.Bodies.{named_is, bodied_kept}
-use Rattle.rule.proofs.Checking.{SectionTold}
+use Rattle.rule.proofs.Checking.{SectionTold, told_among}
 use Rattle.laws.proofs.Numbers.{with_append}
 
 -- The letters of a structure's fields are not S.
@@ -177,40 +179,31 @@ letter_x_lem = refl
 
 -- M, K and X, from what the checks of their sections told.
 module _ (sig : Signature) {s index : List ℕ} (n : ℕ) {fs : List Field} (b : Tailed s index fs) (e : numbers_in s index n ≡ named_in fs) where
-  abbrev Told : Option ℕ → ℕ → ℕ → Type 0
-  Told f letter q = SectionTold f sig s index n letter (number_of (back q))
+  abbrev Told : Option ℕ → SectionKind → ℕ → Type 0
+  Told f kind q = SectionTold f (check_of sig (numbers_in s index n) kind) s index (number_of (back q))
 
   module _ {f : Option ℕ} where
-    of_m : Told f letter_m place_m → f ≡ fault_among letter_m (map_fault (named_in fs)) fs
-    unfolding check_of
-    of_m h = rw (← e) (h fs (tail_run b place_m letter_m (omega arith) (omega arith) letter_m_lem))
+    of_m : Told f section.Map place_m → f ≡ fault_among letter_m (map_fault (named_in fs)) fs
+    of_m h = rw (← e) (told_among h _ fs (tail_run b place_m letter_m (omega arith) (omega arith) letter_m_lem))
 
-    of_k : Told f letter_k place_k → f ≡ fault_among letter_k (kind_fault (named_in fs)) fs
-    unfolding check_of
-    of_k h = rw (← e) (h fs (tail_run b place_k letter_k (omega arith) (omega arith) letter_k_lem))
+    of_k : Told f section.Kind place_k → f ≡ fault_among letter_k (kind_fault (named_in fs)) fs
+    of_k h = rw (← e) (told_among h _ fs (tail_run b place_k letter_k (omega arith) (omega arith) letter_k_lem))
 
-    of_x : Told f letter_x place_x → f ≡ fault_among letter_x (auxiliary_fault (named_in fs)) fs
-    unfolding check_of
-    of_x h = rw (← e) (h fs (tail_run b place_x letter_x (omega arith) (omega arith) letter_x_lem))
+    of_x : Told f section.Auxiliary place_x → f ≡ fault_among letter_x (auxiliary_fault (named_in fs)) fs
+    of_x h = rw (← e) (told_among h _ fs (tail_run b place_x letter_x (omega arith) (omega arith) letter_x_lem))
 
-  pub tail_m : {x : ℕ} → Told (some x) letter_m place_m → some x ≡ tail_fault fs
+  pub tail_m : {x : ℕ} → Told (some x) section.Map place_m → some x ≡ tail_fault fs
   unfolding tail_fault
   tail_m h = sym (rw (← (of_m h)))
 
-  module _ (hm : Told none letter_m place_m) where
-    pub tail_k : {x : ℕ} → Told (some x) letter_k place_k → some x ≡ tail_fault fs
+  module _ (hm : Told none section.Map place_m) where
+    pub tail_k : {x : ℕ} → Told (some x) section.Kind place_k → some x ≡ tail_fault fs
     unfolding tail_fault
     tail_k h = sym (rw (← (of_m hm), ← (of_k h)))
 
-    pub tail_x : Told none letter_k place_k → {f : Option ℕ} → Told f letter_x place_x → f ≡ tail_fault fs
+    pub tail_x : Told none section.Kind place_k → {f : Option ℕ} → Told f section.Auxiliary place_x → f ≡ tail_fault fs
     unfolding tail_fault
     tail_x hk h = sym (rw (← (of_m hm), ← (of_k hk), ← (of_x h)))
-
--- N.
-pub of_n : {f : Option ℕ} (sig : Signature) (named : List (List ℕ)) (fs : List Field) → f ≡ fault_among letter_n (check_of sig named letter_n) fs
-    → f ≡ fault_among letter_n head_fault fs
-unfolding check_of
-of_n sig named fs h = h
 
 -- The answer, by the first fault.
 pub read_long : (sig : Signature) (s : List ℕ) → rule_bytes < length s → refused 1 ≡ read_rule sig s

@@ -1,23 +1,18 @@
 -- The reader's answers as the definition's, and what the index holds.
-use Rattle.std.specs.Prelude.{Result, Ok, Err, Bool, true, List, [], ◌∷◌, ◌++◌, ◌⊎◌, ◌≡◌, ℕ, ◌+◌, ◌*◌, ◌≤◌, ◌<◌, length, get_or}
+use Rattle.std.specs.Prelude.{Ok, Err, Bool, true, List, [], ◌∷◌, ◌++◌, ◌⊎◌, ◌≡◌, ℕ, ◌+◌, ◌*◌, ◌≤◌, ◌<◌, length, get_or}
 use Rattle.std.proofs.Math.Option.{none}
-use Rattle.definition.specs.Base.{Outcome}
+use Rattle.definition.specs.Base.{accepted}
 use Rattle.definition.specs.Letters.{letter_n, letter_s, letter_e}
 use Rattle.definition.specs.Limits.{structure_limit, field_limit}
-use Rattle.definition.specs.Records.{Field, Block, with_letter, blocks, fault_among}
+use Rattle.definition.specs.Records.{Field, Block, with_letter, blocks}
 use Rattle.definition.specs.Signature.{Signature}
-use Rattle.definition.specs.Rule.{Rule, rule_of, rule_part, rule_fault, element_fault, named_elements}
+use Rattle.definition.specs.Rule.{rule_of, rule_part, rule_fault, read_rule}
 use Rattle.records.specs.Places.{field_at, field_of, Run, got}
-use Rattle.records.specs.Refusals.{fault_of, outcome_by}
-use Rattle.records.specs.declared.refusal.Refusal.{Refusal}
 use Rattle.rule.specs.Layout.{place_s, place_e, place_i, place_m, place_x, letter_at, no_block, block_at, section_from, section_to, behind_from, behind_to}
 use Rattle.rule.specs.Layout.{Sectioned, elements_from}
-use Rattle.rule.specs.Elements.{count_at, element_fields, numbers_in, Elements, Known}
-use Rattle.rule.specs.Faults.{Checked, check_of}
-
--- A rule read: refused, or accepted with what its fields say. `Usable` ties the count to them.
-abbrev pub rule_reading : List ℕ → Result ℕ Refusal → Outcome Rule
-rule_reading s = outcome_by (λ (n : ℕ). rule_of (rule_part s).fields)
+use Rattle.rule.specs.Elements.{count_at, element_fields, Elements, Known}
+use Rattle.rule.specs.Faults.{Checked}
+use Rattle.signature.specs.Index.{SmallArities}
 
 -- An S field that stands at a position.
 pub record HeadAt (s : List ℕ) (at : ℕ) (f : Field) : Type 0 where
@@ -76,28 +71,15 @@ StoredAs (Ok u) s index k = Elements s index k
 StoredAs (Err r) s index k = Unit
 
 abbrev HoldsAs : Checked → List ℕ → List ℕ → ℕ → List Field → Type 0
-HoldsAs (Ok u) s index k body = element_fields s index k ≡ with_letter letter_e body
-HoldsAs (Err r) s index k body = Unit
+HoldsAs (Ok u) s index k fs = element_fields s index k ≡ fs
+HoldsAs (Err r) s index k fs = Unit
 
 pub record Stored (r : Checked) (s index₀ index : List ℕ) (k : ℕ) : Type 0 where
   pub kept : Kept index₀ index k
   pub known : StoredAs r s index k
 
-pub record Holds (r : Checked) (s index : List ℕ) (k : ℕ) (body : List Field) : Type 0 where
-  pub is : HoldsAs r s index k body
-
--- The fields of a letter in a section: their first fault, where the elements of n structures can be named.
-abbrev pub SectionChecked : Checked → Signature → List ℕ → List ℕ → ℕ → ℕ → ℕ → Type 0
-SectionChecked r sig s index n letter section = (fs : List Field) → Run s (get_or index section 0) (get_or index (section + 1) 0) (with_letter letter fs)
-    → fault_of r ≡ fault_among letter (check_of sig (numbers_in s index n) letter) fs
-
--- The E fields of a structure, which stand from one position to another: their first fault, and that the index holds them.
-abbrev pub ElementsChecked : Checked → Signature → List ℕ → ℕ → ℕ → Type 0
-ElementsChecked r sig s from to = (body : List Field) → Run s from to (with_letter letter_e body)
-    → fault_of r ≡ fault_among letter_e (element_fault sig (named_elements body)) body
-
-abbrev pub ElementsHeld : Checked → List ℕ → List ℕ → ℕ → ℕ → ℕ → Type 0
-ElementsHeld r s index k from to = (body : List Field) → Run s from to (with_letter letter_e body) → Holds r s index k body
+pub record Holds (r : Checked) (s index : List ℕ) (k : ℕ) (fs : List Field) : Type 0 where
+  pub is : HoldsAs r s index k fs
 
 -- The same for n structures.
 abbrev AllStoredAs : Checked → List ℕ → List ℕ → ℕ → Type 0
@@ -126,7 +108,8 @@ pub record Indexed (sig : Signature) (s index : List ℕ) (n : ℕ) : Type 0 whe
   pub tail : Tailed s index (rule_part s).fields
   pub holds : (k : ℕ) → k < n → element_fields s index k ≡ with_letter letter_e (block_at (rule_part s).fields k).body
 
--- What is accepted can be looked up.
-abbrev pub Usable : Signature → List ℕ → List ℕ → Result ℕ Refusal → Type 0
-Usable sig s index (Err r) = Unit
-Usable sig s index (Ok n) = Indexed sig s index n
+-- A rule that was accepted, with its index, by an accepted signature.
+pub record Accepted (sig : Signature) (s index : List ℕ) (n : ℕ) : Type 0 where
+  pub read : read_rule sig s ≡ accepted (rule_of (rule_part s).fields)
+  pub indexed : Indexed sig s index n
+  pub small : SmallArities sig

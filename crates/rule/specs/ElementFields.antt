@@ -1,27 +1,17 @@
 -- The elements of a structure, as the index has them.
-use Rattle.std.specs.Prelude.{ℕ, ◌+◌, ◌*◌, ◌%◌, ◌≤◌, ◌<◌, List, ◌≡◌, length}
+use Rattle.std.specs.Prelude.{ℕ, ◌+◌, ◌%◌, ◌≤◌, ◌<◌, List, ◌≡◌, length}
 use Rattle.definition.specs.Base.{each}
 use Rattle.definition.specs.Limits.{parent_limit}
 use Rattle.definition.specs.Rule.{Element, element_of}
-use Rattle.definition.specs.Records.{numbers}
-use Rattle.records.specs.Places.{two_at, stretch}
+use Rattle.records.specs.Places.{two_at}
 use Rattle.records.specs.Held.{field_in}
 use Rattle.rule.specs.Elements.{count_at, position_at, element_fields, Elements}
-use Rattle.rule.specs.declared.elements.Element as read
 
 unfoldable pub element_in : List ℕ → List ℕ → ℕ → ℕ → Element
 element_in s index k i = element_of (field_in s (position_at index k i))
 
 unfoldable pub elements_in : List ℕ → List ℕ → ℕ → List Element
 elements_in s index k = each element_of (element_fields s index k)
-
--- An element that was read, as the definition's, and that its parents lie in the record.
-abbrev pub element_from : List ℕ → read.Element → Element
-element_from s e = record { number = e.number.0; type = e.ty.0; parents = numbers (stretch s e.start (2 * e.parents)) }
-
-pub record Within (s : List ℕ) (e : read.Element) : Type 0 where
-  pub inside : e.start + 2 * e.parents ≤ length s
-  pub few : e.parents ≤ parent_limit
 
 -- The length of an element's E field.
 abbrev pub size_at : List ℕ → List ℕ → ℕ → ℕ → ℕ

@@ -1,10 +1,11 @@
 -- The elements that the index has, and how one is found.
-use Rattle.std.specs.Prelude.{Option, Some, None, true, false, List, ◌≡◌, ℕ, ◌+◌, ◌*◌, ◌≤◌, ◌<◌, length, get_or}
-use Rattle.definition.specs.Base.{each, has, span, place_from}
+use Rattle.std.specs.Prelude.{Option, Some, None, true, false, List, ◌≡◌, ℕ, ◌+◌, ◌*◌, ◌≤◌, ◌<◌, leb, length, get_or, take}
+use Rattle.definition.specs.Base.{each, keep, has, span, place_from}
 use Rattle.definition.specs.Limits.{structure_limit, field_limit}
 use Rattle.definition.specs.Records.{Field, number_at}
 use Rattle.records.specs.Places.{two_at}
 use Rattle.records.specs.Held.{held_at}
+use Rattle.records.specs.Iter.{EndOf}
 use Rattle.rule.specs.Layout.{elements_from, counts_from}
 
 -- How many elements a structure has, where the field of one stands, and its number.
@@ -26,6 +27,15 @@ element_numbers s index k = each (λ (f : Field). number_at 0 f.content) (elemen
 
 unfoldable pub numbers_in : List ℕ → List ℕ → ℕ → List (List ℕ)
 numbers_in s index n = each (element_numbers s index) (span n 0)
+
+-- A part ends at a position of the record; it lies in the record where it isn't empty.
+pub record Lies (s : List ℕ) (to : ℕ) (part : List ℕ) : Type 0 where
+  pub end : EndOf (take to s) part
+  pub within : 0 < length part → to ≤ length s
+
+-- The elements that E fields declare: one of at least two bytes can be named.
+unfoldable pub named_by : List Field → List ℕ
+named_by fs = each (λ (f : Field). number_at 0 f.content) (keep (λ (f : Field). leb 2 (length f.content)) fs)
 
 -- The elements of a structure: they are few, their fields lie in the record, and their numbers ascend.
 pub record Elements (s index : List ℕ) (k : ℕ) : Type 0 where

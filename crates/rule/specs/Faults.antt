@@ -1,53 +1,53 @@
 -- The faults of a field as the definition's.
 use Rattle.std.specs.Prelude as std
-use Rattle.std.specs.Prelude.{Some, None, Result, Ok, Err, Bool, ◌&&◌, List, [], ℕ, ◌+◌, ◌-◌, ◌≤◌, ◌<◌, eqb, length, get_or, take, drop}
+use Rattle.std.specs.Prelude.{Some, None, Result, Ok, Err, Bool, ◌&&◌, List, ℕ, ◌-◌, ◌≤◌, ◌<◌, length, take, drop}
 use Rattle.std.proofs.Math.Option.{Option, none, some}
-use Rattle.definition.specs.Base.{pick, or_else, has}
-use Rattle.definition.specs.Letters.{letter_n, letter_r, letter_a, letter_v, letter_i, letter_m, letter_k, letter_x}
+use Rattle.std.proofs.Common.{Bor}
+use Rattle.definition.specs.Base.{or_else, has}
+use Rattle.definition.specs.Letters.{letter_r, letter_a, letter_v, letter_i, letter_m, letter_k, letter_x}
 use Rattle.definition.specs.Limits.{structure_limit, field_limit}
 use Rattle.definition.specs.Records.{Field, numbers, fault_among}
-use Rattle.definition.specs.Signature.{Signature, pred_of, func_of, column_count}
-use Rattle.definition.specs.Rule.{Pair, head_fault, row_fault, name_fault, map_fault, kind_fault, auxiliary_fault, named_in}
-use Rattle.records.specs.Places.{two_at, field_of}
-use Rattle.records.specs.declared.fields.Field as read
+use Rattle.definition.specs.Signature.{Signature, symbol_count, arity}
+use Rattle.definition.specs.Rule.{Pair, head_fault, row_fault, name_fault, map_fault, kind_fault, auxiliary_fault, elements_at, named_in}
+use Rattle.records.specs.Places.{two_at}
 use Rattle.records.specs.declared.refusal.Refusal.{Refusal}
+use Rattle.rule.specs.Name.{numbers_before}
+use Rattle.rule.specs.Row.{row_kind}
+use Rattle.rule.specs.declared.name.NameKind.{NameKind}
+use Rattle.rule.specs.declared.name.NameKind.TheVariants.{Variable, Identifier}
 use Rattle.rule.specs.declared.order.Spot.{Spot}
+use Rattle.rule.specs.declared.row.RowKind.{RowKind}
+use Rattle.rule.specs.declared.row.RowKind.TheVariants.{Predicate, Function}
+use Rattle.rule.specs.declared.faults.SectionKind.{SectionKind}
+use Rattle.rule.specs.declared.faults.SectionKind.TheVariants as section
 
 -- What a check answers.
 abbrev pub Checked : Type 0
 Checked = Result Unit Refusal
 
--- The last field of a letter.
-abbrev pub last_field : List ℕ → ℕ → std.Option read.Field → Option Field
-last_field s letter None = none
-last_field s letter (Some f) = some (field_of s letter f.start f.len)
+-- A field by its letter and its content, and the last field of a letter.
+abbrev pub field_with : ℕ → List ℕ → Field
+field_with letter content = record { letter = letter; content = content }
 
-abbrev LastAt : std.Option read.Field → ℕ → Type 0
-LastAt None size = Unit
-LastAt (Some f) size = f.start + f.len ≤ size
+abbrev pub last_field : ℕ → std.Option (Bor (List ℕ)) → Option Field
+last_field letter None = none
+last_field letter (Some content) = some (field_with letter content.now)
 
-pub record LastIn (last : std.Option read.Field) (size : ℕ) : Type 0 where
-  pub is : LastAt last size
-
--- What a check draws of a field, which has the letter.
-abbrev pub fault_at : (ℕ → Option Field → Field → Option ℕ) → List ℕ → ℕ → Spot → Option ℕ
-fault_at check s letter f = check f.before (last_field s letter f.last) (field_of s letter f.start f.len)
-
--- Its content lies in the record, and so does that of the last one.
-abbrev pub Lies : List ℕ → Spot → Type 0
-Lies s f = (f.start + f.len ≤ length s) × LastIn f.last (length s)
+-- What a check draws of a field, by its letter and that of the last one.
+abbrev pub fault_at : (ℕ → Option Field → Field → Option ℕ) → ℕ → ℕ → Spot → Option ℕ
+fault_at check letter before f = check f.before (last_field before f.last) (field_with letter f.content.now)
 
 -- An E field without a fault: it is long enough, below the limit, and its number is above the last one.
-abbrev pub AboveLast : std.Option read.Field → List ℕ → ℕ → Type 0
-AboveLast None s e = Unit
-AboveLast (Some f) s e = 2 ≤ f.len → two_at s f.start < e
+abbrev pub AboveLast : std.Option (Bor (List ℕ)) → ℕ → Type 0
+AboveLast None e = Unit
+AboveLast (Some content) e = 2 ≤ length content.now → two_at content.now 0 < e
 
-abbrev FitsAs : Checked → List ℕ → ℕ → ℕ → ℕ → std.Option read.Field → Type 0
-FitsAs (Ok u) s start len before last = (4 ≤ len) × (before < field_limit) × AboveLast last s (two_at s start)
-FitsAs (Err r) s start len before last = Unit
+abbrev FitsAs : Checked → Spot → Type 0
+FitsAs (Ok u) f = (4 ≤ length f.content.now) × (f.before < field_limit) × AboveLast f.last (two_at f.content.now 0)
+FitsAs (Err r) f = Unit
 
-pub record Fits (r : Checked) (s : List ℕ) (start len before : ℕ) (last : std.Option read.Field) : Type 0 where
-  pub is : FitsAs r s start len before last
+pub record Fits (r : Checked) (f : Spot) : Type 0 where
+  pub is : FitsAs r f
 
 -- An S field without a fault is below the limit.
 abbrev BelowAs : Checked → ℕ → Type 0
@@ -57,46 +57,52 @@ BelowAs (Err r) k = Unit
 pub record Below (r : Checked) (k : ℕ) : Type 0 where
   pub is : BelowAs r k
 
--- By what a V (one number) or an I (two) is ordered.
-unfoldable pub name_key : ℕ → Field → List ℕ
-name_key count f = pick (eqb count 1) (drop 2 f.content) (take 1 (numbers f.content))
+-- By what V or I fields are ordered.
+abbrev pub name_key : NameKind → Field → List ℕ
+name_key Variable f = drop 2 f.content
+name_key Identifier f = take 1 (numbers f.content)
 
 -- Whether a pair's key and its image can be named.
 unfoldable pub pair_named : List ℕ → List ℕ → Pair → Bool
 pair_named keys images p = has p.key keys && has p.image images
 
--- The symbols and columns of R (no results) and of A (one).
-abbrev pub row_symbols : Signature → ℕ → ℕ
-row_symbols sig results = pick (eqb results 0) (length sig.preds) (length sig.funcs)
+-- How many results a row has.
+abbrev pub results_of : RowKind → ℕ
+results_of Predicate = 0
+results_of Function = 1
 
-unfoldable pub row_columns : Signature → ℕ → ℕ → ℕ
-row_columns sig results symbol = pick (eqb results 0) (column_count (pred_of sig symbol)) (column_count (func_of sig symbol))
+abbrev pub row_check : Signature → RowKind → List ℕ → ℕ → Option Field → Field → Option ℕ
+row_check sig kind els = row_fault (results_of kind) (symbol_count sig (row_kind kind)) (arity sig (row_kind kind)) els
 
-abbrev pub row_check : Signature → ℕ → List ℕ → ℕ → Option Field → Field → Option ℕ
-row_check sig results els = row_fault results (row_symbols sig results) (row_columns sig results) els
+abbrev pub name_check : NameKind → List ℕ → ℕ → Option Field → Field → Option ℕ
+name_check kind els = name_fault (numbers_before kind) (name_key kind) els
 
--- The faults of a field by its letter, where elements of structures can be named; R, A, V and I stand in the last structure.
+-- The faults of a field by its section, where elements of structures can be named; R, A, V and I stand in the last structure.
 module _ (sig : Signature) (named : List (List ℕ)) where
   abbrev pub last_named : List ℕ
-  last_named = get_or named (length named - 1) []
+  last_named = elements_at named (length named - 1)
 
-  unfoldable pub check_of : ℕ → ℕ → Option Field → Field → Option ℕ
-  check_of letter = pick (eqb letter letter_n) head_fault
-      (pick (eqb letter letter_m) (map_fault named)
-      (pick (eqb letter letter_k) (kind_fault named)
-      (pick (eqb letter letter_r) (row_check sig 0 last_named)
-      (pick (eqb letter letter_a) (row_check sig 1 last_named)
-      (pick (eqb letter letter_v) (name_fault 1 (name_key 1) last_named)
-      (pick (eqb letter letter_i) (name_fault 2 (name_key 2) last_named)
-      (auxiliary_fault named)))))))
+  abbrev pub check_of : SectionKind → ℕ → Option Field → Field → Option ℕ
+  check_of section.Head = head_fault
+  check_of (section.Row kind) = row_check sig kind last_named
+  check_of (section.Name kind) = name_check kind last_named
+  check_of section.Map = map_fault named
+  check_of section.Kind = kind_fault named
+  check_of section.Auxiliary = auxiliary_fault named
+
+-- A section of a structure is checked when its elements are known.
+abbrev pub InStructure : SectionKind → ℕ → Type 0
+InStructure (section.Row kind) known = 1 ≤ known
+InStructure (section.Name kind) known = 1 ≤ known
+InStructure _ known = Unit
 
 -- The first fault of a structure's R, A, V and I fields.
 unfoldable pub rest_fault : Signature → List ℕ → List Field → Option ℕ
 rest_fault sig els body =
-    or_else (fault_among letter_r (row_check sig 0 els) body)
-    (or_else (fault_among letter_a (row_check sig 1 els) body)
-    (or_else (fault_among letter_v (name_fault 1 (name_key 1) els) body)
-    (fault_among letter_i (name_fault 2 (name_key 2) els) body)))
+    or_else (fault_among letter_r (row_check sig Predicate els) body)
+    (or_else (fault_among letter_a (row_check sig Function els) body)
+    (or_else (fault_among letter_v (name_check Variable els) body)
+    (fault_among letter_i (name_check Identifier els) body)))
 
 -- The first fault of the M, K and X fields.
 unfoldable pub tail_fault : List Field → Option ℕ

@@ -1,5 +1,5 @@
 -- The letters in their order, the sections of a rule, and the layout of its index.
-use Rattle.std.specs.Prelude.{Bool, false, List, [], ◌∷◌, ℕ, ◌+◌, ◌-◌, ◌*◌, ◌≤◌, ◌<◌, eqb, ltb, leb, get_or}
+use Rattle.std.specs.Prelude.{Option, Some, None, Bool, true, false, List, [], ◌∷◌, ◌≡◌, ℕ, ◌+◌, ◌-◌, ◌*◌, ◌≤◌, ◌<◌, eqb, ltb, leb, get_or}
 use Rattle.definition.specs.Base.{pick, place_from}
 use Rattle.definition.specs.Letters.{start, letter_n, letter_s, letter_e, letter_r, letter_a, letter_v, letter_i, letter_m, letter_k, letter_x}
 use Rattle.definition.specs.Limits.{structure_limit, field_limit}
@@ -59,6 +59,21 @@ name_place count = place_v + count - 1
 unfoldable pub may_follow : ℕ → ℕ → Bool
 may_follow behind q = pick (eqb q place_n) (eqb behind 0)
     (pick (ltb behind place_n) false (pick (eqb q place_s) (leb behind place_i) (pick (ltb behind place_s) false (pick (ltb place_x q) false (leb behind q)))))
+
+-- The place of a letter that was found, and that of one that may follow.
+abbrev PlaceAs : Option ℕ → ℕ → Type 0
+PlaceAs (Some q) letter = (q ≡ place_of letter) × (q ≤ place_x)
+PlaceAs None letter = place_x < place_of letter
+
+pub record PlaceOf (r : Option ℕ) (letter : ℕ) : Type 0 where
+  pub is : PlaceAs r letter
+
+abbrev NextAs : Option ℕ → ℕ → ℕ → Type 0
+NextAs (Some q) behind letter = (q ≡ place_of letter) × (may_follow behind q ≡ true)
+NextAs None behind letter = may_follow behind (place_of letter) ≡ false
+
+pub record NextPlace (r : Option ℕ) (behind letter : ℕ) : Type 0 where
+  pub is : NextAs r behind letter
 
 -- The structures, with the one that a letter begins.
 abbrev pub with_one : ℕ → ℕ → ℕ

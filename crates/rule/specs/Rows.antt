@@ -1,45 +1,19 @@
 -- The R and A fields of a structure: rows of a symbol and elements.
-use Rattle.std.specs.Prelude.{ℕ, ◌+◌, ◌*◌, ◌%◌, ◌≤◌, ◌<◌, Bool, not, List, [], ◌∷◌, ◌≡◌, eqb, length}
+use Rattle.std.specs.Prelude.{ℕ, ◌+◌, ◌*◌, ◌%◌, ◌≤◌, ◌<◌, Bool, not, List, ◌≡◌, eqb, length}
 use Rattle.definition.specs.Base.{pick, keep, each, empty, ◌∈◌}
 use Rattle.definition.specs.Letters.{predicate}
 use Rattle.definition.specs.Limits.{field_limit, column_limit}
-use Rattle.definition.specs.Records.{Field, numbers}
+use Rattle.definition.specs.Records.{Field}
 use Rattle.definition.specs.Rule.{Element, Row, row_of}
 use Rattle.definition.specs.Rows.{member_row}
 use Rattle.definition.specs.Signature.{Signature, Symbol, pred_of, func_of}
-use Rattle.records.specs.Places.{stretch, Run}
-use Rattle.rule.specs.Lists.{els_in, ElsInside}
-use Rattle.rule.specs.declared.rows.Row as read
-
--- The row of a symbol and the elements in a stretch.
-abbrev pub row_in : List ℕ → ℕ → ℕ → ℕ → ℕ → Row
-row_in s kind symbol start count = record { kind = kind; symbol = symbol; elements = numbers (stretch s start (2 * count)) }
+use Rattle.records.specs.Places.{Run}
 
 -- A row's field: a symbol and at most 8 elements.
 pub record RowSized (f : Field) : Type 0 where
   pub least : 2 ≤ length f.content
   pub most : length f.content ≤ 2 + 2 * column_limit
   pub even : length f.content % 2 ≡ 0
-
--- An R or A field stands at a position.
-pub record RowStands (s : List ℕ) (at : ℕ) : Type 0 where
-  pub field : Field
-  pub next : ℕ
-  pub run : Run s at next (field ∷ [])
-  pub sized : RowSized field
-
--- A row that was read, as the definition's.
-abbrev pub row_from : List ℕ → ℕ → read.Row → Row
-row_from s kind r = record { kind = kind; symbol = r.symbol; elements = els_in s r.els }
-
--- It is what the field at the position says, and the next field stands behind that; its elements are at most 8 and lie in the record.
-pub record RowRead (s : List ℕ) (at : ℕ) (r : read.Row) : Type 0 where
-  pub field : Field
-  pub run : Run s at r.next (field ∷ [])
-  pub says : (kind : ℕ) → row_of kind field ≡ row_from s kind r
-  pub inside : ElsInside s r.els
-  pub few : r.els.count ≤ column_limit
-  pub ahead : at < r.next
 
 -- A section of rows: at most 64 such fields, which stand from one position to another.
 pub record RowsFrom (s : List ℕ) (from end : ℕ) : Type 0 where

@@ -1,21 +1,16 @@
 // Elements: their numbers, and where they stand in a structure.
-ghost use Rattle.std.specs.Prelude.{List, ◌≡◌, ℕ, ◌+◌, ◌≤◌, ◌<◌, length};
+ghost use Rattle.std.specs.Prelude.{List, ◌≡◌, ℕ, ◌+◌, ◌<◌};
 ghost use Rattle.definition.specs.Base.{has, all};
-ghost use Rattle.definition.specs.Letters.{letter_e};
 ghost use Rattle.definition.specs.Limits.{structure_limit, field_limit};
-ghost use Rattle.definition.specs.Records as definition;
-ghost use Rattle.definition.specs.Records.{numbers, with_letter};
-ghost use Rattle.definition.specs.Rule.{named_elements};
-ghost use Rattle.records.specs.Places.{stretch, Run};
-ghost use Rattle.rule.specs.ElementFields.{element_in, element_from, ElementsAt, Within};
-ghost use Rattle.rule.specs.Elements.{count_at, position_at, element_at, element_numbers, Elements, Finds};
-ghost use Rattle.rule.specs.Lists.{els_in, ElsInside};
+ghost use Rattle.definition.specs.Records.{numbers};
+ghost use Rattle.records.specs.Iter.{fields_in};
+ghost use Rattle.rule.specs.Elements.{count_at, position_at, element_at, element_numbers, named_by, Elements, Finds};
 
 use crate::ids::{COUNTS_FROM, ELEMENTS_FROM, ElId, FIELDS, RULE_INDEX};
-use crate::lists::Els;
 use crate::search::search;
-use records::fields::{num, read_field, two};
-use signature::ids::TypeId;
+use records::contents::number;
+use records::fields::num;
+use records::iter::Fields;
 
 // How many elements a structure has.
 pub fn element_count(index: &[u16; RULE_INDEX], k: usize) -> usize
@@ -53,106 +48,25 @@ pub fn find_element(s: &[u8], index: &[u16; RULE_INDEX], k: usize, e: ElId) -> O
     })
 }
 
-// Is there such an element in a structure?
-pub fn has_element(s: &[u8], index: &[u16; RULE_INDEX], k: usize, e: ElId) -> bool
-    requires k_lt_structure_limit { k < structure_limit }
-    requires elements { Elements s.now index.now k }
-    ensures { result ≡ has e.0 (element_numbers s.now index.now k) }
-{
-    find_element(s, index, k, e).is_some()
-}
-
-// Is there an element in each number of a stretch?
-pub fn elements_named(
-    s: &[u8],
-    index: &[u16; RULE_INDEX],
-    k: usize,
-    start: usize,
-    len: usize,
-) -> bool
-    requires k_lt_structure_limit { k < structure_limit }
-    requires elements { Elements s.now index.now k }
-    requires len_in_bounds { start + len ≤ length s.now }
-    ensures { result ≡ all (λ (e : ℕ). has e (element_numbers s.now index.now k))
-        (numbers (stretch s.now start len)) }
-{
-    for i in 0..len >> 1 {
-        if !has_element(s, index, k, ElId(num(s, start + 2 * i))) {
-            return false;
-        }
-    }
-    true
-}
-
-// Can an element be named in the structure whose E fields stand from one position to another?
+// Can an element be named in the structure whose E fields a section holds?
 // Each of at least two bytes can be, also a later one or one with a fault, so this goes along the fields.
-#[tactic(auto, using(crate::proofs::Finding::scan))]
-fn can_be_named(s: &[u8], from: usize, to: usize, e: ElId) -> bool
-    ensures { (body : List definition.Field)
-        → Run s.now from to (with_letter letter_e body) → result ≡ has e.0 (named_elements body) }
+#[tactic(auto, unfolding(crate::specs::Elements::named_by, definition::specs::Base::keep, definition::specs::Base::each, definition::specs::Base::has, definition::specs::Base::any))]
+fn can_be_named(section: &[u8], e: ElId) -> bool
+    ensures { result ≡ has e.0 (named_by (fields_in section.now)) }
 {
-    let mut at = from;
-    while at < to {
-        let Some(f) = read_field(s, at) else {
-            return false;
-        };
-        if 2 <= f.len && ElId(num(s, f.start)) == e {
+    for f in Fields::new(section) {
+        if 2 <= f.content.len() && number(f.content, 0) == e.0 {
             return true;
         }
-        at = f.next;
     }
     false
 }
 
-// Can each number of a stretch be named there?
-#[tactic(auto, using(crate::proofs::Finding::number_loop))]
-pub fn parents_named(s: &[u8], from: usize, to: usize, start: usize, len: usize) -> bool
-    requires { start + len ≤ length s.now }
-    ensures { (body : List definition.Field) → Run s.now from to (with_letter letter_e body)
-        → result ≡ all (λ (e : ℕ). has e (named_elements body)) (numbers (stretch s.now start len)) }
+// Can each of some elements be named there?
+pub fn parents_named(section: &[u8], els: &[u8]) -> bool
+    ensures { result ≡ all (λ (e : ℕ). has e (named_by (fields_in section.now))) (numbers els.now) }
 {
-    for i in 0..len >> 1 {
-        if !can_be_named(s, from, to, ElId(num(s, start + 2 * i))) {
-            return false;
-        }
-    }
-    true
-}
-
-// An element, and where its parents stand and how many there are.
-#[derive(Clone, Copy)]
-pub struct Element {
-    pub number: ElId,
-    pub ty: TypeId,
-    pub start: usize,
-    pub parents: usize,
-}
-
-// The element at a place of a structure.
-#[tactic(auto, using(crate::proofs::ElementLaws::element_is, crate::proofs::ElementLaws::element_within))]
-pub fn read_element(s: &[u8], index: &[u16; RULE_INDEX], k: usize, i: usize) -> Element
-    requires k_lt_structure_limit { (k < structure_limit) × (i < count_at index.now k) }
-    requires elements_at { ElementsAt s.now index.now k }
-    ensures result_value { element_from s.now result ≡ element_in s.now index.now k i }
-    ensures within { Within s.now result }
-{
-    let at = element_field(index, k, i);
-    Element {
-        number: ElId(num(s, at + 3)),
-        ty: TypeId(num(s, at + 5)),
-        start: at + 7,
-        parents: (two(s, at + 1) >> 1) - 2,
-    }
-}
-
-// The parents of an element.
-pub fn parents_of(e: Element) -> Els
-    ensures count_value { result.count ≡ e.parents }
-    ensures by_index { (s : List ℕ) → els_in s result ≡ (element_from s e).parents }
-    ensures by_index_2 { (s : List ℕ) → Within s e → ElsInside s result }
-{
-    Els {
-        start: e.start,
-        count: e.parents,
-    }
+    let (els, _) = els.as_chunks::<2>();
+    els.iter()
+        .all(|e| can_be_named(section, ElId(u16::from_be_bytes(*e))))
 }

@@ -1,75 +1,79 @@
-// The faults of a field, by its letter, the lowest number first.
-ghost use Rattle.std.specs.Prelude.{◌||◌, List, ◌⊎◌, ◌≡◌, ℕ, ◌+◌, ◌-◌, ◌*◌, ◌≤◌, ◌<◌, eqb, ltb, length};
+// The faults of a field, by its section, the lowest number first.
+ghost use Rattle.std.specs.Prelude.{◌||◌, ◌≡◌, ℕ, ◌*◌, ◌≤◌, ◌<◌, ltb, length, take};
 ghost use Rattle.std.proofs.Math.Option.{Option};
-ghost use Rattle.definition.specs.Base.{pick, has, all};
-ghost use Rattle.definition.specs.Letters.{letter_e, letter_r, letter_a, letter_v, letter_i, predicate, function};
-ghost use Rattle.definition.specs.Limits.{structure_limit};
 ghost use Rattle.definition.specs.Records as definition;
-ghost use Rattle.definition.specs.Records.{numbers, odd, not_above, with_letter};
+ghost use Rattle.definition.specs.Base.{all};
+ghost use Rattle.definition.specs.Records.{numbers, odd, not_above};
 ghost use Rattle.definition.specs.Rule.{
-  pairs_of,
   keys_ascend,
-  named_elements,
+  elements_at,
   class_falls,
   head_fault,
   structure_fault,
   element_fault,
-  name_fault,
   map_fault,
   kind_fault,
   auxiliary_fault,
 };
-ghost use Rattle.records.specs.Places.{stretch, field_of, Run};
+ghost use Rattle.records.specs.Iter.{fields_in};
 ghost use Rattle.records.specs.Refusals.{fault_of};
-ghost use Rattle.signature.specs.Index.{signature_at, Indexed};
-ghost use Rattle.signature.specs.Relations.{kind_of, number_of};
-ghost use Rattle.rule.specs.Elements.{element_numbers, numbers_in, Elements, Known};
-ghost use Rattle.rule.specs.Faults.{last_field, LastIn, fault_at, Lies, Fits, Below, name_key, pair_named, row_check, check_of};
+ghost use Rattle.rule.specs.Elements.{named_by};
+ghost use Rattle.rule.specs.Faults.{field_with, last_field, fault_at, Fits, Below, InStructure, name_key, row_check, name_check, check_of};
+ghost use Rattle.rule.specs.Pairs.{pairs_in_bytes};
 
-use crate::elements::{elements_named, has_element, parents_named};
-use crate::ids::{
-    ElId, FIELDS, LETTER_A, LETTER_I, LETTER_K, LETTER_M, LETTER_N, LETTER_R, LETTER_V, MAPS,
-    NAME_BYTES, RULE_INDEX, STRUCTURES,
-};
-use crate::order::{Spot, first_not_above, name_not_above, row_not_above};
-use records::fields::{Field, num, two};
-use records::names::bad_name;
-use records::order::named;
+use crate::elements::parents_named;
+use crate::ids::{ElId, FIELDS, MAPS, NAME_BYTES, STRUCTURES};
+use crate::known::Known;
+use crate::name::{NameKind, numbers_before};
+use crate::order::{Spot, first_not_above, name_not_above, results, row_not_above};
+use crate::row::{RowKind, row_relation};
+use records::contents::{bad_name, named, number};
+use records::fields::num;
 use records::refusal::Refusal;
-use signature::ids::{FuncId, PredId, Relation, TypeId};
+use signature::ids::TypeId;
 use signature::lookup::Signature;
 
+// The sections whose fields are checked alike; S and E fields are checked where structures and elements are counted.
+#[derive(Clone, Copy)]
+pub enum SectionKind {
+    Head,
+    Row(RowKind),
+    Name(NameKind),
+    Map,
+    Kind,
+    Auxiliary,
+}
+
 // Is a content no row of numbers, or one of fewer than the least?
-fn not_numbers(len: usize, least: usize) -> bool
+fn not_numbers(content: &[u8], least: usize) -> bool
     requires { least ≤ 2 }
-    ensures { result ≡ (odd len || ltb len (2 * least)) }
+    ensures { result ≡ (odd (length content.now) || ltb (length content.now) (2 * least)) }
 {
-    (len & 1) == 1 || len < 2 * least
+    (content.len() & 1) == 1 || content.len() < 2 * least
 }
 
 // An N field: the unnamed index, and the name.
-#[tactic(auto, using(crate::proofs::Drawn::head_tests))]
-pub fn head_fault(s: &[u8], start: usize, len: usize) -> Result<(), Refusal>
-    requires { start + len ≤ length s.now }
-    ensures { (letter before : ℕ) (last : Option definition.Field)
-        → fault_of result ≡ head_fault before last (field_of s.now letter start len) }
+#[tactic(auto, unfolding(definition::specs::Rule::head_fault, definition::specs::Base::lowest))]
+fn head_fault(content: &[u8]) -> Result<(), Refusal>
+    ensures { (letter before : ℕ) (last : Option definition.Field) → fault_of result ≡ head_fault before last (field_with letter content.now) }
 {
-    if len < 2 {
+    if content.len() < 2 {
         return Err(Refusal::BadLength);
     }
-    if bad_name(s, start + 2, len - 2, 0, NAME_BYTES) {
+    let (_, name) = content.split_at(2);
+    if bad_name(name, 0, NAME_BYTES) {
         return Err(Refusal::BadName);
     }
     Ok(())
 }
 
 // An S field.
-#[tactic(auto, using(crate::proofs::Drawn::structure_tests))]
-pub fn structure_fault(len: usize, before: usize) -> Result<(), Refusal>
-    ensures result_value { (f : definition.Field) → length f.content ≡ len → fault_of result ≡ structure_fault before f }
+#[tactic(auto, unfolding(definition::specs::Rule::structure_fault, definition::specs::Base::lowest))]
+pub fn structure_fault(content: &[u8], before: usize) -> Result<(), Refusal>
+    ensures result_value { (letter : ℕ) → fault_of result ≡ structure_fault before (field_with letter content.now) }
     ensures below { Below result before }
 {
-    if len != 0 {
+    if !content.is_empty() {
         return Err(Refusal::BadLength);
     }
     if STRUCTURES <= before {
@@ -78,335 +82,240 @@ pub fn structure_fault(len: usize, before: usize) -> Result<(), Refusal>
     Ok(())
 }
 
-// An E field of the structure whose E fields stand from one position to another: its number, type and parents.
-#[tactic(auto, using(crate::proofs::Drawn::element_tests))]
-pub fn element_fault(
-    sig: &Signature<'_>,
-    s: &[u8],
-    from: usize,
-    to: usize,
-    f: Spot,
-) -> Result<(), Refusal>
-    requires lies { Lies s.now f }
-    ensures result_value { (body : List definition.Field) (letter : ℕ) → Run s.now from to (with_letter letter_e body)
-        → fault_of result ≡ fault_at (element_fault sig.now (named_elements body))
-        s.now letter f }
-    ensures fits { Fits result s.now f.start f.len f.before f.last }
+// An E field of the structure whose E fields a section holds: its number, type and parents.
+#[tactic(auto, unfolding(definition::specs::Rule::element_fault, definition::specs::Rule::element_of, definition::specs::Base::lowest), using(crate::proofs::Drawn::behind_two, laws::proofs::Numbers::length_numbers))]
+pub fn element_fault(sig: &Signature<'_>, section: &[u8], f: Spot<'_>) -> Result<(), Refusal>
+    ensures result_value { (letter before : ℕ)
+        → fault_of result ≡ fault_at (element_fault sig.now (named_by (fields_in section.now))) letter before f.entry }
+    ensures fits { Fits result f.entry }
 {
-    if not_numbers(f.len, 2) {
+    let content = f.content;
+    if not_numbers(content, 2) {
         return Err(Refusal::BadLength);
     }
     if FIELDS <= f.before {
         return Err(Refusal::TooMany);
     }
-    let t = num(s, f.start + 2);
-    if sig.types() <= usize::from(t) {
+    let t = TypeId(number(content, 1));
+    if sig.types() <= usize::from(t.0) {
         return Err(Refusal::Undeclared);
     }
-    if !parents_named(s, from, to, f.start + 4, f.len - 4) {
+    let (_, parents) = content.split_at(4);
+    if !parents_named(section, parents) {
         return Err(Refusal::Undeclared);
     }
-    if first_not_above(s, f.last, 1, f.start, f.len) {
+    if first_not_above(f, 1) {
         return Err(Refusal::NotAscending);
     }
-    if (f.len >> 1) - 2 != sig.type_parents(TypeId(t)) {
+    if parents.len() >> 1 != sig.type_parents(t) {
         return Err(Refusal::BadArity);
     }
     Ok(())
 }
 
-// What a row is about: a predicate, or, where it has a result, a function.
-fn row_relation(results: usize, number: u16) -> Relation
-    ensures { (kind_of result ≡ pick (eqb results 0) predicate function) × (number_of result ≡ number) }
-{
-    if results == 0 {
-        return Relation::Predicate(PredId(number));
-    }
-    Relation::Function(FuncId(number))
-}
-
-// An R field (no results) or an A field (one): its symbol and its elements, in structure k.
-#[tactic(auto, using(crate::proofs::Drawn::row_tests, crate::proofs::Drawn::row_count, crate::proofs::Drawn::row_arity))]
-pub fn row_fault(
+// An R or A field: its symbol and its elements, in a structure.
+#[tactic(auto, unfolding(definition::specs::Rule::row_fault, definition::specs::Rule::row_of, definition::specs::Base::lowest), using(crate::proofs::Drawn::behind_one, laws::proofs::Numbers::length_numbers))]
+fn row_fault(
     sig: &Signature<'_>,
-    s: &[u8],
-    index: &[u16; RULE_INDEX],
-    k: usize,
-    results: usize,
-    f: Spot,
+    known: &Known<'_>,
+    structure: usize,
+    kind: RowKind,
+    f: Spot<'_>,
 ) -> Result<(), Refusal>
-    requires k_lt_structure_limit { (k < structure_limit) × (results ≤ 1) }
-    requires elements { Elements s.now index.now k }
-    requires lies { Lies s.now f }
-    ensures { (letter : ℕ) → fault_of result
-        ≡ fault_at (row_check sig.now results
-        (element_numbers s.now index.now k)) s.now letter f }
+    requires { structure < length known.now }
+    ensures { (letter before : ℕ) → fault_of result ≡ fault_at (row_check sig.now kind (elements_at known.now structure)) letter before f.entry }
 {
-    if not_numbers(f.len, 1 + results) {
+    let content = f.content;
+    if not_numbers(content, 1 + results(kind)) {
         return Err(Refusal::BadLength);
     }
     if FIELDS <= f.before {
         return Err(Refusal::TooMany);
     }
-    let rel = row_relation(results, num(s, f.start));
+    let rel = row_relation(kind, number(content, 0));
     if !sig.declares(rel) {
         return Err(Refusal::Undeclared);
     }
-    if !elements_named(s, index, k, f.start + 2, f.len - 2) {
+    let (_, els) = content.split_at(2);
+    if !known.has_elements(structure, els) {
         return Err(Refusal::Undeclared);
     }
-    if row_not_above(s, f.last, results, f.start, f.len) {
+    if row_not_above(f, kind) {
         return Err(Refusal::NotAscending);
     }
-    if (f.len >> 1) - 1 != sig.arity(rel) {
+    if els.len() >> 1 != sig.arity(rel) {
         return Err(Refusal::BadArity);
     }
     Ok(())
 }
 
-// Is a V (one number) not above the last by its name, or an I (two) by its term number?
-#[tactic(auto, using(crate::proofs::Drawn::key_name, crate::proofs::Drawn::key_term))]
-fn not_above(s: &[u8], last: Option<Field>, count: usize, start: usize, len: usize) -> bool
-    requires len_in_bounds { start + len ≤ length s.now }
-    requires le_count { (1 ≤ count) × (count ≤ 2) }
-    requires last_in { LastIn last (length s.now) }
-    ensures { (letter : ℕ)
-        → result ≡ not_above (name_key count) (last_field s.now letter last) (field_of s.now letter start len) }
+// Is a V not above the last by its name, or an I by its term number?
+fn not_above(f: Spot<'_>, kind: NameKind) -> bool
+    ensures { (letter before : ℕ) → result ≡ not_above (name_key kind) (last_field before f.entry.last) (field_with letter f.entry.content.now) }
 {
-    if count == 1 {
-        return name_not_above(s, last, start, len);
+    match kind {
+        NameKind::Variable => name_not_above(f),
+        NameKind::Identifier => first_not_above(f, 1),
     }
-    first_not_above(s, last, 1, start, len)
 }
 
-// A V field (one number, the element) or an I field (two, the second the element), and a name.
-#[tactic(auto, using(crate::proofs::Drawn::name_tests))]
-pub fn name_fault(
-    s: &[u8],
-    index: &[u16; RULE_INDEX],
-    k: usize,
-    count: usize,
-    f: Spot,
+// A V or I field: its element, in a structure, and a name.
+#[tactic(auto, unfolding(definition::specs::Rule::name_fault, definition::specs::Rule::name_of, definition::specs::Base::lowest))]
+fn name_fault(
+    known: &Known<'_>,
+    structure: usize,
+    kind: NameKind,
+    f: Spot<'_>,
 ) -> Result<(), Refusal>
-    requires k_lt_structure_limit { k < structure_limit }
-    requires elements { Elements s.now index.now k }
-    requires le_count { (1 ≤ count) × (count ≤ 2) }
-    requires lies { Lies s.now f }
-    ensures { (letter : ℕ) → fault_of result ≡ fault_at
-        (name_fault count (name_key count) (element_numbers s.now index.now k)) s.now letter f }
+    requires { structure < length known.now }
+    ensures { (letter before : ℕ) → fault_of result ≡ fault_at (name_check kind (elements_at known.now structure)) letter before f.entry }
 {
-    if f.len < 2 * count {
+    let content = f.content;
+    let numbers = numbers_before(kind);
+    if content.len() < 2 * numbers {
         return Err(Refusal::BadLength);
     }
     if FIELDS <= f.before {
         return Err(Refusal::TooMany);
     }
-    if !has_element(s, index, k, ElId(num(s, f.start + 2 * (count - 1)))) {
+    if !known.has_element(structure, ElId(number(content, numbers - 1))) {
         return Err(Refusal::Undeclared);
     }
-    if not_above(s, f.last, count, f.start, f.len) {
+    if not_above(f, kind) {
         return Err(Refusal::NotAscending);
     }
-    if bad_name(s, f.start + 2 * count, f.len - 2 * count, 1, NAME_BYTES) {
+    let (_, name) = content.split_at(2 * numbers);
+    if bad_name(name, 1, NAME_BYTES) {
         return Err(Refusal::BadName);
     }
     Ok(())
 }
 
-// Is each key an element of the source and each image one of the target?
-#[tactic(auto, unfolding(crate::specs::Faults::pair_named), using(crate::proofs::PairLaws::pair_loop))]
-fn pairs_named(
-    s: &[u8],
-    index: &[u16; RULE_INDEX],
-    source: usize,
-    target: usize,
-    start: usize,
-    count: usize,
-) -> bool
-    requires elements { Elements s.now index.now source }
-    requires elements_2 { Elements s.now index.now target }
-    requires source_lt_structure_limit { (source < structure_limit) × (target < structure_limit) × (start + 4 * count ≤ length s.now) }
-    ensures { result ≡ all
-        (pair_named (element_numbers s.now index.now source)
-        (element_numbers s.now index.now target))
-        (pairs_of (numbers (stretch s.now start (4 * count)))) }
+// Is each key above the one before it?
+fn keys_ascend(pairs: &[u8]) -> bool
+    ensures { result ≡ keys_ascend (pairs_in_bytes pairs.now) }
 {
-    for i in 0..count {
-        if !has_element(s, index, source, ElId(num(s, start + 4 * i))) {
-            return false;
-        }
-        if !has_element(s, index, target, ElId(num(s, start + 4 * i + 2))) {
-            return false;
-        }
-    }
-    true
+    let (pairs, _) = pairs.as_chunks::<4>();
+    pairs.is_sorted_by(|p, q| num(p, 0) < num(q, 0))
 }
 
-// Is each key above the one before it?
-#[tactic(auto, using(crate::proofs::PairLaws::key_loop))]
-fn keys_ascend(s: &[u8], start: usize, count: usize) -> bool
-    requires { start + 4 * count ≤ length s.now }
-    ensures { result ≡ keys_ascend (pairs_of (numbers (stretch s.now start (4 * count)))) }
+// Are the source and the target of a map or a kind structures that are known?
+fn ends_named(known: &Known<'_>, content: &[u8]) -> bool
+    requires { 4 ≤ length content.now }
+    ensures { result ≡ all (λ (k : ℕ). ltb k (length known.now)) (take 2 (numbers content.now)) }
 {
-    for i in 1..count {
-        if num(s, start + 4 * i) <= num(s, start + 4 * i - 4) {
-            return false;
-        }
-    }
-    true
+    let (ends, _) = content.split_at(4);
+    named(ends, known.count())
 }
 
 // An M field: source, target, and pairs of key and image.
-#[tactic(auto, using(crate::proofs::Drawn::map_tests))]
-pub fn map_fault(
-    s: &[u8],
-    index: &[u16; RULE_INDEX],
-    structures: usize,
-    f: Spot,
-) -> Result<(), Refusal>
-    requires known { Known s.now index.now structures }
-    requires lies { Lies s.now f }
-    ensures { (letter : ℕ)
-        → fault_of result ≡ fault_at (map_fault (numbers_in s.now index.now structures)) s.now letter f }
+#[tactic(auto, unfolding(definition::specs::Rule::map_fault, definition::specs::Base::lowest))]
+fn map_fault(known: &Known<'_>, f: Spot<'_>) -> Result<(), Refusal>
+    ensures { (letter before : ℕ) → fault_of result ≡ fault_at (map_fault known.now) letter before f.entry }
 {
-    let start = f.start;
-    let len = f.len;
-    if len < 4 || (len & 3) != 0 {
+    let content = f.content;
+    if content.len() < 4 || (content.len() & 3) != 0 {
         return Err(Refusal::BadLength);
     }
     if MAPS <= f.before {
         return Err(Refusal::TooMany);
     }
-    if !named(s, start, 4, structures) {
+    if !ends_named(known, content) {
         return Err(Refusal::Undeclared);
     }
-    let pairs = (len >> 2) - 1;
-    if !pairs_named(s, index, two(s, start), two(s, start + 2), start + 4, pairs) {
+    let source = usize::from(number(content, 0));
+    let target = usize::from(number(content, 1));
+    let (_, pairs) = content.split_at(4);
+    if !known.has_pairs(source, target, pairs) {
         return Err(Refusal::Undeclared);
     }
-    if first_not_above(s, f.last, 2, start, len) {
+    if first_not_above(f, 2) {
         return Err(Refusal::NotAscending);
     }
-    if !keys_ascend(s, start + 4, pairs) {
+    if !keys_ascend(pairs) {
         return Err(Refusal::NotAscending);
     }
     Ok(())
 }
 
 // A K field: source, target, and a byte for the kind.
-#[tactic(auto, using(crate::proofs::Drawn::kind_tests))]
-pub fn kind_fault(s: &[u8], structures: usize, f: Spot) -> Result<(), Refusal>
-    requires { Lies s.now f }
-    ensures { (letter : ℕ) (named : List (List ℕ)) → length named ≡ structures
-        → fault_of result ≡ fault_at (kind_fault named) s.now letter f }
+#[tactic(auto, unfolding(definition::specs::Rule::kind_fault, definition::specs::Base::lowest))]
+fn kind_fault(known: &Known<'_>, f: Spot<'_>) -> Result<(), Refusal>
+    ensures { (letter before : ℕ) → fault_of result ≡ fault_at (kind_fault known.now) letter before f.entry }
 {
-    let start = f.start;
-    if f.len != 5 {
+    let content = f.content;
+    if content.len() != 5 {
         return Err(Refusal::BadLength);
     }
     if MAPS <= f.before {
         return Err(Refusal::TooMany);
     }
-    if !named(s, start, 4, structures) {
+    if !ends_named(known, content) {
         return Err(Refusal::Undeclared);
     }
-    if 3 < s[start + 4] {
+    if 3 < content[4] {
         return Err(Refusal::Undeclared);
     }
-    if first_not_above(s, f.last, 2, start, f.len) {
+    if first_not_above(f, 2) {
         return Err(Refusal::NotAscending);
     }
     Ok(())
 }
 
 // Is the class below the last one?
-#[tactic(auto, using(crate::proofs::Drawn::class_none, crate::proofs::Drawn::class_below))]
-fn class_falls(s: &[u8], last: Option<Field>, start: usize) -> bool
-    requires start_in_bounds { start < length s.now }
-    requires last_in { LastIn last (length s.now) }
-    ensures { (letter len : ℕ) → 1 ≤ len
-        → result ≡ class_falls (last_field s.now letter last) (field_of s.now letter start len) }
+#[tactic(auto, unfolding(definition::specs::Rule::auxiliary_of))]
+fn class_falls(f: Spot<'_>) -> bool
+    requires { 1 ≤ length f.content.now }
+    ensures { (letter before : ℕ) → result ≡ class_falls (last_field before f.entry.last) (field_with letter f.entry.content.now) }
 {
-    match last {
-        Some(g) => g.len != 0 && s[start] < s[g.start],
+    match f.last {
+        Some(last) => !last.is_empty() && f.content[0] < last[0],
         None => false,
     }
 }
 
 // An X field: a byte for the class, and a structure.
-#[tactic(auto, using(crate::proofs::Drawn::auxiliary_tests))]
-pub fn auxiliary_fault(s: &[u8], structures: usize, f: Spot) -> Result<(), Refusal>
-    requires { Lies s.now f }
-    ensures { (letter : ℕ) (named : List (List ℕ)) → length named ≡ structures
-        → fault_of result ≡ fault_at (auxiliary_fault named) s.now letter f }
+#[tactic(auto, unfolding(definition::specs::Rule::auxiliary_fault, definition::specs::Rule::auxiliary_of, definition::specs::Base::lowest))]
+fn auxiliary_fault(known: &Known<'_>, f: Spot<'_>) -> Result<(), Refusal>
+    ensures { (letter before : ℕ) → fault_of result ≡ fault_at (auxiliary_fault known.now) letter before f.entry }
 {
-    let start = f.start;
-    if f.len != 3 {
+    let content = f.content;
+    if content.len() != 3 {
         return Err(Refusal::BadLength);
     }
     if MAPS <= f.before {
         return Err(Refusal::TooMany);
     }
-    if 2 < s[start] {
+    if 2 < content[0] {
         return Err(Refusal::Undeclared);
     }
-    if structures <= two(s, start + 1) {
+    let (_, structure) = content.split_at(1);
+    if known.count() <= usize::from(number(structure, 0)) {
         return Err(Refusal::Undeclared);
     }
-    if class_falls(s, f.last, start) {
+    if class_falls(f) {
         return Err(Refusal::NotAscending);
     }
     Ok(())
 }
 
-// How many results a row has: none in an R field, one in an A field.
-fn results_of(letter: u8) -> usize
-    ensures { result ≡ pick (eqb letter letter_a) 1 0 }
-{
-    if letter == LETTER_A {
-        return 1;
-    }
-    0
-}
-
-// How many numbers stand before a name: one in a V field, two in an I field.
-fn numbers_of(letter: u8) -> usize
-    ensures { result ≡ pick (eqb letter letter_i) 2 1 }
-{
-    if letter == LETTER_I {
-        return 2;
-    }
-    1
-}
-
-// A field of any letter but S and E, which are checked where structures and elements are counted.
-// The elements of so many structures are known; R, A, V and I stand in the last of them.
+// A field of a section, where the elements of some structures are known; R, A, V and I stand in the last of them.
 // One call serves R and A, one V and I, so that each check is compiled into this function.
-#[tactic(auto, unfolding(crate::specs::Faults::check_of), using(crate::proofs::Drawn::named_length, crate::proofs::Drawn::last_named_lem))]
 pub fn field_fault(
     sig: &Signature<'_>,
-    s: &[u8],
-    index: &[u16; RULE_INDEX],
-    structures: usize,
-    letter: u8,
-    f: Spot,
+    known: &Known<'_>,
+    kind: SectionKind,
+    f: Spot<'_>,
 ) -> Result<(), Refusal>
-    requires known { Known s.now index.now structures }
-    requires le_structures { letter ≡ letter_r ⊎ letter ≡ letter_a ⊎ letter ≡ letter_v ⊎ letter ≡ letter_i → 1 ≤ structures }
-    requires lies { Lies s.now f }
-    ensures { fault_of result
-        ≡ fault_at (check_of sig.now
-        (numbers_in s.now index.now structures) letter) s.now letter f }
+    requires { InStructure kind (length known.now) }
+    ensures { (letter before : ℕ) → fault_of result ≡ fault_at (check_of sig.now known.now kind) letter before f.entry }
 {
-    match letter {
-        LETTER_N => head_fault(s, f.start, f.len),
-        LETTER_M => map_fault(s, index, structures, f),
-        LETTER_K => kind_fault(s, structures, f),
-        LETTER_R | LETTER_A => {
-            let results = results_of(letter);
-            row_fault(sig, s, index, structures - 1, results, f)
-        }
-        LETTER_V | LETTER_I => name_fault(s, index, structures - 1, numbers_of(letter), f),
-        _ => auxiliary_fault(s, structures, f),
+    match kind {
+        SectionKind::Head => head_fault(f.content),
+        SectionKind::Row(rows) => row_fault(sig, known, known.count() - 1, rows, f),
+        SectionKind::Name(names) => name_fault(known, known.count() - 1, names, f),
+        SectionKind::Map => map_fault(known, f),
+        SectionKind::Kind => kind_fault(known, f),
+        SectionKind::Auxiliary => auxiliary_fault(known, f),
     }
 }

@@ -47,8 +47,6 @@ pub const PLACE_K: usize = 9;
 
 pub const PLACE_X: usize = 10;
 
-pub const NO_PLACE: usize = 11;
-
 // The limits of the record: bytes, structures, fields of a letter in a structure, fields of M, K and X, bytes of a name.
 pub const RULE_BYTES: usize = 32768;
 

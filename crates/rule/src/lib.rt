@@ -2,15 +2,17 @@
 #![tactic(auto)]
 
 pub mod elements;
+pub mod els;
 pub mod faults;
 pub mod ids;
-pub mod lists;
-pub mod lookup;
-pub mod maps;
-pub mod names;
+pub mod known;
+pub mod map;
+pub mod name;
 pub mod order;
 pub mod pass;
 pub mod reader;
-pub mod rows;
+pub mod row;
 pub mod search;
 pub mod sections;
+pub mod tail;
+pub mod views;

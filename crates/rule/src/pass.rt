@@ -1,15 +1,15 @@
 // The pass along the letters: which part of a record comes before the first field that draws 2, and where its sections stand.
 ghost use Rattle.std.specs.Prelude.{◌≡◌, ℕ, ◌+◌, ◌≤◌, ◌<◌, length};
 ghost use Rattle.definition.specs.Limits.{structure_limit, rule_bytes};
-ghost use Rattle.rule.specs.Layout.{place_n, place_x, place_of, may_follow, with_one, section_at, sections, rule_index, bound_at};
+ghost use Rattle.rule.specs.Layout.{place_n, place_x, may_follow, PlaceOf, NextPlace, with_one, section_at, sections, rule_index, bound_at};
 ghost use Rattle.rule.specs.Answers.{Passes};
 
 use crate::ids::{
     AT_START, LETTER_A, LETTER_E, LETTER_I, LETTER_K, LETTER_M, LETTER_N, LETTER_R, LETTER_S,
-    LETTER_V, LETTER_X, LETTERS, NO_PLACE, PLACE_A, PLACE_E, PLACE_I, PLACE_K, PLACE_M, PLACE_N,
-    PLACE_R, PLACE_S, PLACE_V, PLACE_X, RULE_INDEX, SECTIONS, STRUCTURES,
+    LETTER_V, LETTER_X, LETTERS, PLACE_A, PLACE_E, PLACE_I, PLACE_K, PLACE_M, PLACE_N, PLACE_R,
+    PLACE_S, PLACE_V, PLACE_X, RULE_INDEX, SECTIONS, STRUCTURES,
 };
-use records::fields::{Field, read_field};
+use records::iter::Fields;
 use signature::ids::START;
 
 // Whether the part is the whole record, and how many structures it has; those past the first one over the limit are not counted.
@@ -19,24 +19,24 @@ pub struct Passed {
     pub structures: usize,
 }
 
-// The place of a letter.
+// The place of a letter, which is a byte of the record.
 #[tactic(auto, unfolding(crate::specs::Layout::place_of, definition::specs::Base::place_from))]
-fn place(letter: u8) -> usize
-    ensures { result ≡ place_of letter }
+fn place(letter: u8) -> Option<usize>
+    ensures { PlaceOf result letter }
 {
     match letter {
-        START => AT_START,
-        LETTER_N => PLACE_N,
-        LETTER_S => PLACE_S,
-        LETTER_E => PLACE_E,
-        LETTER_R => PLACE_R,
-        LETTER_A => PLACE_A,
-        LETTER_V => PLACE_V,
-        LETTER_I => PLACE_I,
-        LETTER_M => PLACE_M,
-        LETTER_K => PLACE_K,
-        LETTER_X => PLACE_X,
-        _ => NO_PLACE,
+        START => Some(AT_START),
+        LETTER_N => Some(PLACE_N),
+        LETTER_S => Some(PLACE_S),
+        LETTER_E => Some(PLACE_E),
+        LETTER_R => Some(PLACE_R),
+        LETTER_A => Some(PLACE_A),
+        LETTER_V => Some(PLACE_V),
+        LETTER_I => Some(PLACE_I),
+        LETTER_M => Some(PLACE_M),
+        LETTER_K => Some(PLACE_K),
+        LETTER_X => Some(PLACE_X),
+        _ => None,
     }
 }
 
@@ -44,6 +44,7 @@ fn place(letter: u8) -> usize
 // any other behind an S or a letter that is no later than itself.
 #[tactic(auto, unfolding(crate::specs::Layout::may_follow))]
 fn may_follow(behind: usize, at: usize) -> bool
+    requires { at ≤ place_x }
     ensures { result ≡ may_follow behind at }
 {
     if at == PLACE_N {
@@ -58,10 +59,19 @@ fn may_follow(behind: usize, at: usize) -> bool
     if behind < PLACE_S {
         return false;
     }
-    if PLACE_X < at {
-        return false;
-    }
     behind <= at
+}
+
+// The place of a letter that may stand directly behind that of a place.
+#[tactic(auto, unfolding(crate::specs::Layout::may_follow))]
+fn next_place(behind: usize, letter: u8) -> Option<usize>
+    ensures { NextPlace result behind letter }
+{
+    let at = place(letter)?;
+    if may_follow(behind, at) {
+        return Some(at);
+    }
+    None
 }
 
 // The structures, with the one that a letter begins.
@@ -129,24 +139,22 @@ pub fn pass(s: &[u8], index: &mut [u16; RULE_INDEX]) -> Passed
     ensures index_len_2 { length index.new ≡ rule_index }
 {
     index[0] = 0;
-    let mut at: usize = 0;
+    let mut fields = Fields::new(s);
+    let mut left = s;
     let mut last = START;
     let mut behind = AT_START;
     let mut structures: usize = 0;
     let mut section: usize = 0;
-    while at < s.len() {
-        let Some(Field { letter, next, .. }) = read_field(s, at) else {
-            return ended(index, section, at, false, structures);
-        };
+    while let Some(f) = fields.next() {
+        let at = s.len() - left.len();
+        left = fields.rest();
         // A letter that may be repeated, so not N and not S, stays in its section.
-        if letter == last && PLACE_S < behind {
-            at = next;
+        if f.letter == last && PLACE_S < behind {
             continue;
         }
-        let p = place(letter);
-        if !may_follow(behind, p) {
+        let Some(p) = next_place(behind, f.letter) else {
             return ended(index, section, at, false, structures);
-        }
+        };
         let n = counted(structures, p);
         if STRUCTURES < n {
             return ended(index, section, at, false, n);
@@ -155,9 +163,10 @@ pub fn pass(s: &[u8], index: &mut [u16; RULE_INDEX]) -> Passed
         fill(index, section, to, at);
         structures = n;
         section = to;
-        last = letter;
+        last = f.letter;
         behind = p;
-        at = next;
     }
-    ended(index, section, at, PLACE_S <= behind, structures)
+    let at = s.len() - left.len();
+    let whole = left.is_empty() && PLACE_S <= behind;
+    ended(index, section, at, whole, structures)
 }

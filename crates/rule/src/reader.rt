@@ -1,18 +1,20 @@
 // Reading a rule: the pass along its letters, then the faults of its fields, section by section.
-ghost use Rattle.std.specs.Prelude.{List, ◌⊎◌, ◌≡◌, ◌+◌, ◌*◌, ◌≤◌, ◌<◌, length, get_or};
-ghost use Rattle.definition.specs.Letters.{letter_r, letter_a, letter_v, letter_i};
+ghost use Rattle.std.specs.Prelude.{List, IfOk, ◌≡◌, ◌+◌, ◌≤◌, ◌<◌, length, get_or};
+ghost use Rattle.std.proofs.Math.Option.{none};
+ghost use Rattle.definition.specs.Letters.{letter_n, letter_e};
 ghost use Rattle.definition.specs.Limits.{structure_limit, rule_bytes};
 ghost use Rattle.definition.specs.Records as definition;
-ghost use Rattle.definition.specs.Rule.{named_elements, structure_fault, body_fault, structures_fault, named_in, read_rule};
-ghost use Rattle.records.specs.Refusals.{fault_of};
-ghost use Rattle.signature.specs.Index.{signature_at, Indexed};
-ghost use Rattle.rule.specs.Layout.{sections, rule_index, place_s, section_from};
-ghost use Rattle.rule.specs.Elements.{element_numbers, numbers_in, Known};
-ghost use Rattle.rule.specs.Faults.{Below, rest_fault, tail_fault};
+ghost use Rattle.definition.specs.Records.{with_letter, fault_from, fault_among};
+ghost use Rattle.definition.specs.Rule.{named_elements, head_fault, structure_fault, element_fault, body_fault, structures_fault, named_in, read_rule};
+ghost use Rattle.records.specs.Iter.{fields_in};
+ghost use Rattle.records.specs.Places.{Run};
+ghost use Rattle.records.specs.Refusals.{fault_of, outcome_by};
+ghost use Rattle.rule.specs.Views.{RuleBy};
+ghost use Rattle.rule.specs.Layout.{rule_index, place_s, section_from};
+ghost use Rattle.rule.specs.Elements as elements;
+ghost use Rattle.rule.specs.Elements.{element_numbers, numbers_in, named_by};
+ghost use Rattle.rule.specs.Faults.{Below, InStructure, check_of, rest_fault, tail_fault};
 ghost use Rattle.rule.specs.Answers.{
-  SectionChecked,
-  ElementsChecked,
-  ElementsHeld,
   HeadAt,
   Bodied,
   Structured,
@@ -21,61 +23,44 @@ ghost use Rattle.rule.specs.Answers.{
   Holds,
   AllStored,
   AllHold,
-  Usable,
-  rule_reading,
 };
 
-use crate::faults::{element_fault, field_fault, structure_fault};
+use crate::faults::{SectionKind, element_fault, field_fault, structure_fault};
 use crate::ids::{
-    BEHIND_I, COUNTS_FROM, ELEMENTS_FROM, FIELDS, LETTER_A, LETTER_I, LETTER_K, LETTER_M, LETTER_N,
-    LETTER_R, LETTER_V, LETTER_X, LETTERS, RULE_BYTES, RULE_INDEX, SECTION_A, SECTION_E, SECTION_I,
-    SECTION_K, SECTION_M, SECTION_N, SECTION_R, SECTION_S, SECTION_V, SECTION_X,
+    BEHIND_I, COUNTS_FROM, ELEMENTS_FROM, FIELDS, LETTERS, RULE_BYTES, RULE_INDEX, SECTION_A,
+    SECTION_E, SECTION_I, SECTION_K, SECTION_M, SECTION_N, SECTION_R, SECTION_S, SECTION_V,
+    SECTION_X,
 };
+use crate::known::Known;
+use crate::name::NameKind;
 use crate::order::Spot;
 use crate::pass::pass;
-use records::fields::{Field, read_field};
+use crate::row::RowKind;
+use crate::sections::{Section, bound, part_at, part_of, section_at};
+use crate::views::Rule;
+use records::iter::Fields;
 use records::refusal::Refusal;
 use signature::lookup::Signature;
-
-// Where a section starts.
-pub fn bound(index: &[u16; RULE_INDEX], section: usize) -> usize
-    requires { section ≤ sections }
-    ensures { result ≡ get_or index.now section 0 }
-{
-    usize::from(index[section])
-}
 
 // The first fault of the fields of a section, front to back.
 fn check_section(
     sig: &Signature<'_>,
-    s: &[u8],
-    index: &[u16; RULE_INDEX],
-    structures: usize,
-    letter: u8,
-    section: usize,
+    known: &Known<'_>,
+    kind: SectionKind,
+    part: &[u8],
 ) -> Result<(), Refusal>
-    requires known { Known s.now index.now structures }
-    requires section_lt_sections { section < sections }
-    requires le_structures { letter ≡ letter_r ⊎ letter ≡ letter_a ⊎ letter ≡ letter_v ⊎ letter ≡ letter_i → 1 ≤ structures }
-    ensures { SectionChecked result sig.now
-        s.now index.now structures letter section }
+    requires { InStructure kind (length known.now) }
+    ensures { fault_of result ≡ fault_from (check_of sig.now known.now kind) 0 none (fields_in part.now) }
 {
-    let to = bound(index, section + 1);
-    let mut at = bound(index, section);
-    let mut count: usize = 0;
-    let mut last: Option<Field> = None;
-    while at < to {
-        let f = read_field(s, at).ok_or(Refusal::BadFields)?;
+    let mut last = None;
+    for (before, f) in Fields::new(part).enumerate() {
         let spot = Spot {
-            start: f.start,
-            len: f.len,
-            before: count,
+            content: f.content,
+            before,
             last,
         };
-        field_fault(sig, s, index, structures, letter, spot)?;
-        count += 1;
-        last = Some(f);
-        at = f.next;
+        field_fault(sig, known, kind, spot)?;
+        last = Some(f.content);
     }
     Ok(())
 }
@@ -86,33 +71,33 @@ fn check_elements(
     s: &[u8],
     index: &mut [u16; RULE_INDEX],
     k: usize,
-    from: usize,
-    to: usize,
+    section: Section,
 ) -> Result<(), Refusal>
     requires s_len_bound { length s.now ≤ rule_bytes }
     requires index_len { length index.old ≡ rule_index }
     requires k_lt_structure_limit { k < structure_limit }
-    ensures elements_checked { ElementsChecked result sig.now s.now from to }
-    ensures elements_held { ElementsHeld result s.now index.new k from to }
+    ensures checked { (fs : List definition.Field) → Run s.now section.from section.to fs
+        → fault_of result ≡ fault_from (element_fault sig.now (named_by fs)) 0 none fs }
+    ensures held { (fs : List definition.Field) → Run s.now section.from section.to fs → Holds result s.now index.new k fs }
     ensures stored { Stored result s.now index.old index.new k }
     ensures index_len_2 { length index.new ≡ rule_index }
 {
-    let mut at = from;
+    let part = part_of(s, section);
+    let mut fields = Fields::new(part);
+    let mut left = part;
     let mut count: usize = 0;
-    let mut last: Option<Field> = None;
-    while at < to {
-        let f = read_field(s, at).ok_or(Refusal::BadFields)?;
+    let mut last = None;
+    while let Some(f) = fields.next() {
         let spot = Spot {
-            start: f.start,
-            len: f.len,
+            content: f.content,
             before: count,
             last,
         };
-        element_fault(sig, s, from, to, spot)?;
-        index[ELEMENTS_FROM + FIELDS * k + count] = at as u16;
+        element_fault(sig, part, spot)?;
+        index[ELEMENTS_FROM + FIELDS * k + count] = (section.to - left.len()) as u16;
         count += 1;
-        last = Some(f);
-        at = f.next;
+        last = Some(f.content);
+        left = fields.rest();
     }
     index[COUNTS_FROM + k] = count as u16;
     Ok(())
@@ -125,8 +110,13 @@ fn check_head(s: &[u8], index: &[u16; RULE_INDEX], k: usize) -> Result<(), Refus
         → HeadAt s.now (section_from index.now k place_s) f → fault_of result ≡ structure_fault k f }
     ensures below { Below result k }
 {
-    let f = read_field(s, bound(index, LETTERS * k + SECTION_S)).ok_or(Refusal::BadFields)?;
-    structure_fault(f.len, k)
+    let at = bound(index, LETTERS * k + SECTION_S);
+    let (_, left) = s.split_at(at.min(s.len()));
+    let mut fields = Fields::new(left);
+    let Some(f) = fields.next() else {
+        return Err(Refusal::BadFields);
+    };
+    structure_fault(f.content, k)
 }
 
 // The first fault of the R, A, V and I fields of structure k, whose elements are known.
@@ -137,22 +127,30 @@ fn check_rest(
     k: usize,
 ) -> Result<(), Refusal>
     requires k_lt_structure_limit { k < structure_limit }
-    requires known { Known s.now index.now (k + 1) }
+    requires known { elements.Known s.now index.now (k + 1) }
     ensures { (body : List definition.Field) → Bodied s.now index.now k body
         → element_numbers s.now index.now k ≡ named_elements body
         → fault_of result ≡ rest_fault sig.now (named_elements body) body }
 {
     let at = LETTERS * k;
-    let n = k + 1;
-    check_section(sig, s, index, n, LETTER_R, at + SECTION_R)?;
+    let known = Known {
+        bytes: s,
+        index,
+        structures: k + 1,
+    };
+    let rows = part_at(s, index, at + SECTION_R);
+    check_section(sig, &known, SectionKind::Row(RowKind::Predicate), rows)?;
     // Many structures have no A, V or I fields; then no section is gone into for them.
     if bound(index, at + SECTION_A) == bound(index, at + BEHIND_I) {
         return Ok(());
     }
-    check_section(sig, s, index, n, LETTER_A, at + SECTION_A)?;
-    check_section(sig, s, index, n, LETTER_V, at + SECTION_V)?;
+    let rows = part_at(s, index, at + SECTION_A);
+    check_section(sig, &known, SectionKind::Row(RowKind::Function), rows)?;
+    let names = part_at(s, index, at + SECTION_V);
+    check_section(sig, &known, SectionKind::Name(NameKind::Variable), names)?;
     // Not handed on whole: the processor waits where it reads two bytes back of which only one was just written.
-    check_section(sig, s, index, n, LETTER_I, at + SECTION_I)?;
+    let names = part_at(s, index, at + SECTION_I);
+    check_section(sig, &known, SectionKind::Name(NameKind::Identifier), names)?;
     Ok(())
 }
 
@@ -166,20 +164,32 @@ fn check_body(
     requires s_len_bound { length s.now ≤ rule_bytes }
     requires index_len { length index.old ≡ rule_index }
     requires k_lt_structure_limit { k < structure_limit }
-    requires known { Known s.now index.old k }
+    requires known { elements.Known s.now index.old k }
     ensures result_value { (body : List definition.Field) → Bodied s.now index.old k body
         → fault_of result ≡ body_fault sig.now (named_elements body) body }
     ensures holds { (body : List definition.Field) → Bodied s.now index.old k body
-        → Holds result s.now index.new k body }
+        → Holds result s.now index.new k (with_letter letter_e body) }
     ensures stored { Stored result s.now index.old index.new k }
     ensures index_len_2 { length index.new ≡ rule_index }
 {
-    let section = LETTERS * k + SECTION_E;
-    let from = bound(index, section);
-    let to = bound(index, section + 1);
-    check_elements(sig, s, index, k, from, to)?;
+    let section = section_at(index, LETTERS * k + SECTION_E);
+    check_elements(sig, s, index, k, section)?;
     check_rest(sig, s, index, k)?;
     Ok(())
+}
+
+// The first fault of the N field; nothing is known yet.
+fn check_name(sig: &Signature<'_>, s: &[u8], index: &[u16; RULE_INDEX]) -> Result<(), Refusal>
+    ensures { (fs : List definition.Field) → Run s.now (get_or index.now 0 0) (get_or index.now 1 0) (with_letter letter_n fs)
+        → fault_of result ≡ fault_among letter_n head_fault fs }
+{
+    let known = Known {
+        bytes: s,
+        index,
+        structures: 0,
+    };
+    let head = part_at(s, index, SECTION_N);
+    check_section(sig, &known, SectionKind::Head, head)
 }
 
 // The first fault of so many structures.
@@ -211,41 +221,53 @@ fn check_tail(
     sig: &Signature<'_>,
     s: &[u8],
     index: &[u16; RULE_INDEX],
-    known: usize,
+    structures: usize,
 ) -> Result<(), Refusal>
-    requires known { Known s.now index.now known }
+    requires { elements.Known s.now index.now structures }
     ensures { (fs : List definition.Field) → Tailed s.now index.now fs
-        → numbers_in s.now index.now known ≡ named_in fs → fault_of result ≡ tail_fault fs }
+        → numbers_in s.now index.now structures ≡ named_in fs → fault_of result ≡ tail_fault fs }
 {
-    check_section(sig, s, index, known, LETTER_M, SECTION_M)?;
-    check_section(sig, s, index, known, LETTER_K, SECTION_K)?;
-    check_section(sig, s, index, known, LETTER_X, SECTION_X)?;
+    let known = Known {
+        bytes: s,
+        index,
+        structures,
+    };
+    let maps = part_at(s, index, SECTION_M);
+    check_section(sig, &known, SectionKind::Map, maps)?;
+    let kinds = part_at(s, index, SECTION_K);
+    check_section(sig, &known, SectionKind::Kind, kinds)?;
+    let auxiliaries = part_at(s, index, SECTION_X);
+    check_section(sig, &known, SectionKind::Auxiliary, auxiliaries)?;
     Ok(())
 }
 
-// The rule's answer; where it is accepted, the index holds where its sections start and where its elements stand.
-// Where it is refused, the entries of the index are left free: any may have been written, and only their number holds.
-pub fn read_rule(
-    sig: &Signature<'_>,
-    s: &[u8],
-    index: &mut [u16; RULE_INDEX],
-) -> Result<usize, Refusal>
+// The rule, or why it is refused. The index is lent for as long as the rule is used: it holds where the rule's sections start and where its
+// elements stand.
+pub fn read_rule<'a>(
+    sig: &'a Signature<'a>,
+    s: &'a [u8],
+    index: &'a mut [u16; RULE_INDEX],
+) -> Result<Rule<'a>, Refusal>
     requires index_len { length index.old ≡ rule_index }
-    ensures result_value { rule_reading s.now result
-        ≡ read_rule sig.now s.now }
-    ensures usable { Usable sig.now s.now index.new result }
-    ensures index_len_unchanged { length index.new ≡ length index.old }
+    ensures value { outcome_by (λ (x : RuleBy). x.rule) result ≡ read_rule sig.now s.now }
+    ensures signature_kept { IfOk result (λ (x : RuleBy). x.sig ≡ sig.now) }
 {
     if RULE_BYTES < s.len() {
         return Err(Refusal::TooLong);
     }
     let p = pass(s, index);
-    let n = p.structures;
-    check_section(sig, s, index, 0, LETTER_N, SECTION_N)?;
-    check_structures(sig, s, index, n)?;
-    check_tail(sig, s, index, n)?;
+    let structures = p.structures;
+    check_name(sig, s, index)?;
+    check_structures(sig, s, index, structures)?;
+    check_tail(sig, s, index, structures)?;
     if !p.whole {
         return Err(Refusal::BadFields);
     }
-    Ok(n)
+    sig.small_arities();
+    Ok(Rule {
+        sig,
+        bytes: s,
+        index,
+        structures,
+    })
 }

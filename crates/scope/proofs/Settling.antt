@@ -5,9 +5,9 @@ use mathlib.Core.Bool.{Bool, true, false}
 use mathlib.Core.List.{List}
 use mathlib.Core.Option.{Option, none, some}
 use mathlib.Core.Path.{◌≡◌, refl, ◌∙◌}
-use lib.ListN.{length, get_or, drop, drop_of_length-le}
-use lib.Dec.{eqb, ltb}
-use borrow.Author.Tests.{eqb-true, eq-eqb, ne_eqb, ltb-false}
+use lib.ListN.{length, get_or, take, drop, drop_of_length-le}
+use lib.Dec.{eqb}
+use borrow.Author.Tests.{eqb-true, eq-eqb, ne_eqb, lt-ltb, le-ltb}
 use Rattle.definition.specs.Base.{Outcome, refused, accepted, pick, any, has}
 use Rattle.definition.specs.Letters.{equality}
 use Rattle.definition.specs.Records.{numbers}
@@ -15,16 +15,11 @@ use Rattle.definition.specs.Signature.{Signature, parent_model}
 use Rattle.definition.specs.Group as definition
 use Rattle.definition.specs.Group.{Variable}
 use Rattle.definition.specs.Scope.{Scope, global, owner_count, same_variables, owners_verdict, conclusion_verdict, relation_verdict, premise_verdict}
-use Rattle.records.specs.Places.{stretch}
+use Rattle.laws.proofs.Numbers.{take_numbers}
 use Rattle.records.proofs.Link.{one_more}
-use Rattle.group.specs.Lookups.{table, statement_from}
-use Rattle.group.specs.declared.lookup.StatementField.{StatementField}
-use Rattle.group.proofs.Values.{numbers_count, taken}
-use Rattle.scope.specs.Statements.{owners_in}
+use Rattle.group.specs.declared.ids.Side.{Side}
+use Rattle.group.specs.declared.ids.Side.TheVariants.{Premise, Conclusion}
 use Rattle.scope.specs.Sides.{verdict_at, without_model, suiting}
-use Rattle.scope.specs.declared.answers.Owned.{Owned}
-use Rattle.scope.specs.declared.answers.Side.{Side}
-use Rattle.scope.specs.declared.answers.Side.TheVariants.{Premises, Conclusions}
 
 -- A search along a list.
 module _ (xs : List ℕ) (x : ℕ) where
@@ -47,23 +42,21 @@ module _ (xs : List ℕ) (x : ℕ) where
 pub ruleset has_steps = (has_start, has_hit, has_miss, has_end)
 
 -- A statement's variables against the owners.
-module _ (s : List ℕ) (own : Owned) (count : ℕ) (t : StatementField) (w : t.start + 2 * t.count ≤ length s) where
+module _ (variables : List Variable) (vs ws : List ℕ) (count : ℕ) (kind symbol : ℕ) where
   abbrev verdict : Option (Outcome Scope)
-  verdict = owners_verdict (table s) (owners_in s own) count (statement_from s t)
+  verdict = owners_verdict variables (numbers ws) count (record { kind = kind; symbol = symbol; variables = numbers vs })
 
-  pub short : ltb t.count count ≡ true → verdict ≡ some (refused 43)
+  pub short : length (numbers vs) < count → verdict ≡ some (refused 43)
   unfolding owners_verdict
-  short q = rw (numbers_count s t.start t.count w, q)
+  short q = rw (lt-ltb _ _ q)
 
-  module _ (h : count ≤ own.count) (v : own.start + 2 * own.count ≤ length s) (q : ltb t.count count ≡ false) where
+  module _ (q : count ≤ length (numbers vs)) where
     abbrev alike : Bool
-    alike = same_variables (table s) (numbers (stretch s t.start (2 * count))) (numbers (stretch s own.start (2 * count)))
+    alike = same_variables variables (numbers (take (2 * count) vs)) (numbers (take (2 * count) ws))
 
     by_owners : verdict ≡ pick alike none (some (accepted global))
-    unfolding owners_verdict owners_in
-    by_owners =
-        let l = ltb-false t.count count q in
-        rw (numbers_count s t.start t.count w, q, taken s t.start t.count w count l, taken s own.start own.count v count h)
+    unfolding owners_verdict
+    by_owners = rw (le-ltb _ _ q, take_numbers count vs, take_numbers count ws)
 
     pub same_owners : alike ≡ true → verdict ≡ none
     same_owners f = by_owners ∙ rw f
@@ -81,8 +74,8 @@ module _ (side : Side) (sig : Signature) (variables : List Variable) (m : ℕ) (
   no_model q = go side
     where
       go : (side : Side) → verdict_at side sig variables m owners x ≡ without_model side x.kind
-      go Premises = rw q
-      go Conclusions = rw q
+      go Premise = rw q
+      go Conclusion = rw q
 
   module _ (p : ℕ) (q : parent_model sig x.kind x.symbol ≡ some p) where
     -- It has one, so it is no Equality.
@@ -96,8 +89,8 @@ module _ (side : Side) (sig : Signature) (variables : List Variable) (m : ℕ) (
     other_model = go side
       where
         go : (side : Side) → suiting side sig m p ≡ false → verdict_at side sig variables m owners x ≡ some (accepted global)
-        go Premises d = rw (no_equality, q, d)
-        go Conclusions d = rw (q, d)
+        go Premise d = rw (no_equality, q, d)
+        go Conclusion d = rw (q, d)
 
     pub by_prefix : suiting side sig m p ≡ true
         → verdict_at side sig variables m owners x ≡ owners_verdict variables owners (min (owner_count sig p) (owner_count sig m)) x
@@ -106,8 +99,8 @@ module _ (side : Side) (sig : Signature) (variables : List Variable) (m : ℕ) (
       where
         go : (side : Side) → suiting side sig m p ≡ true
             → verdict_at side sig variables m owners x ≡ owners_verdict variables owners (min (owner_count sig p) (owner_count sig m)) x
-        go Premises d = rw (no_equality, q, d)
-        go Conclusions d =
+        go Premise d = rw (no_equality, q, d)
+        go Conclusion d =
             let same : p ≡ m = eqb-true p m d in
             let all : min (owner_count sig m) (owner_count sig m) ≡ owner_count sig m = omega arith in
             rw (q, d, same, all)

@@ -5,24 +5,19 @@ use native.Mathlib.Nat.{add-sub_cancel_left}
 use mathlib.Core.List.{List, [], ◌∷◌}
 use mathlib.Core.Path.{◌≡◌, refl, sym, ◌∙◌}
 use lib.ListN.{length, get_or, get_elem?, take, drop}
-use Rattle.definition.specs.Base.{Outcome, refused}
-use Rattle.definition.specs.Letters.{letter_u}
-use Rattle.definition.specs.Records.{Field, Block, blocks}
+use Rattle.definition.specs.Base.{refused}
 use Rattle.definition.specs.Signature.{Signature, read_signature}
-use Rattle.definition.specs.Group.{FlatRule, Group, flat_rule_of, group_of, group_part, read_group}
-use Rattle.definition.specs.Scope as definition
-use Rattle.definition.specs.Scope.{model, conclusion_scope, infer_scope, scope_of, owners_at, owners_part, owners_of}
-use Rattle.records.specs.Places.{Run, none, more}
-use Rattle.group.specs.Index.{conclusions_at, no_block, Indexed}
-use Rattle.group.specs.Answers.{group_reading, Usable}
-use Rattle.group.specs.Lookups.{table, SectionsAt}
-use Rattle.group.specs.declared.lookup.Sections.{Sections}
-use Rattle.group.specs.declared.ids.GroupCounts.{GroupCounts}
-use Rattle.records.specs.Refusals.{number, outcome}
+use Rattle.definition.specs.Group.{FlatRule, Group, flat_rule_of, group_part, read_group}
+use Rattle.definition.specs.Scope.{conclusion_at, conclusion_scope, infer_scope, scope_of, owners_at, owners_part, owners_of}
+use Rattle.records.proofs.Parts.{count_in}
+use Rattle.group.specs.Index.{no_block}
+use Rattle.group.specs.Lookups.{Accepted, content, rule_numbered}
+use Rattle.records.specs.Refusals.{number, outcome, outcome_by}
 use Rattle.records.specs.declared.refusal.Refusal.{Refusal}
 use Rattle.std.proofs.Common as std
-use Rattle.std.proofs.Common.{Some, None, Result, Ok, Err}
-use Rattle.group.proofs.Values.{rules_length, rule_is, numbers_count}
+use Rattle.std.proofs.Common.{Some, None, Result, Ok, Err, IfOk}
+use Rattle.records.specs.Iter.{fields_in}
+use Rattle.group.specs.declared.rule.FlatRule as rules
 use Rattle.scope.specs.Answers.{scope_answer, OwnersStand, OwnersFrom}
 use Rattle.scope.specs.declared.answers.Owned.{Owned}
 
@@ -41,67 +36,48 @@ module _ (sig : Signature) (g : Group) where
   infer_at (r ∷ rs) zero d h = refl
   infer_at (r ∷ rs) (suc i) d h = infer_at rs i d (omega arith)
 
--- The fields of the rule at a position.
-abbrev block_at : List ℕ → ℕ → Block
-block_at s k = get_or (blocks letter_u (group_part s).fields) k no_block
-
--- A run that goes on has a field.
-some_field : {s : List ℕ} {at end : ℕ} {fs : List Field} → Run s at end fs → at < end → fs ≡ [] → ⊥
-some_field none h q = absurd (omega arith)
-some_field (more e r) h q = let z : ◌≡◌ {A = ℕ} 0 1 = cc in absurd (omega arith)
-
 module _ (bytes group_bytes : List ℕ) (position : ℕ) {a : Result Signature Refusal} (e : outcome a ≡ read_signature bytes) where
   -- The signature was refused.
   pub signature_refused : {r : Refusal} → a ≡ Err r → refused (number r) ≡ scope_of bytes group_bytes position
   unfolding scope_of
   signature_refused q = rw (← e, q)
 
-  module _ {sig : Signature} (p : a ≡ Ok sig) {b : Result GroupCounts Refusal}
-      (f : group_reading group_bytes b ≡ read_group sig group_bytes) where
+  module _ {sig : Signature} (p : a ≡ Ok sig) {b : Result Accepted Refusal} (f : outcome_by content b ≡ read_group sig group_bytes) where
     -- The group was refused.
     pub group_refused : {r : Refusal} → b ≡ Err r → refused (number r) ≡ scope_of bytes group_bytes position
     unfolding scope_of
     group_refused q = rw (← e, p, ← f, q)
 
-    module _ {found : GroupCounts} (q : b ≡ Ok found) {index : List ℕ}
-        (w : Indexed sig group_bytes index found.variables found.rules) where
-      here : scope_of bytes group_bytes position
-          ≡ infer_scope sig (group_of (group_part group_bytes).fields)
-          (get_elem? (group_of (group_part group_bytes).fields).rules position)
+    module _ {g : Accepted} (q : b ≡ Ok g) where
+      here : scope_of bytes group_bytes position ≡ infer_scope sig (content g) (get_elem? (content g).rules position)
       unfolding scope_of
       here = rw (← e, p, ← f, q)
 
       -- There is no rule at the position, or there is one.
-      pub no_rule : found.rules ≤ position → refused 41 ≡ scope_of bytes group_bytes position
-      no_rule h = sym (here ∙ infer_none _ _ (group_of (group_part group_bytes).fields).rules position (rw (rules_length w.rule) h))
+      pub no_rule : length (content g).rules ≤ position → refused 41 ≡ scope_of bytes group_bytes position
+      no_rule h = sym (here ∙ infer_none _ _ (content g).rules position h)
 
-      pub rule_answer : position < found.rules → {answer : Outcome definition.Scope}
-          → answer ≡ conclusion_scope sig (table group_bytes) (flat_rule_of (block_at group_bytes position))
-          (flat_rule_of (block_at group_bytes position)).conclusion
-          → answer ≡ scope_of bytes group_bytes position
-      rule_answer h k =
-          let d : FlatRule = flat_rule_of no_block in
-          let l : position < length (group_of (group_part group_bytes).fields).rules = rw (rules_length w.rule) h in
-          k ∙ sym (here ∙ infer_at _ _ (group_of (group_part group_bytes).fields).rules position d l ∙ rw (rule_is w.rule position d h))
+      pub rule_answer : position < length (content g).rules → (g.signature ≡ sig) × (g.bytes ≡ group_bytes) → (r : Result (std.Option Owned) Refusal)
+          → scope_answer g.bytes r
+          ≡ conclusion_scope g.signature (content g).variables (rule_numbered g position) (rule_numbered g position).conclusion
+          → scope_answer group_bytes r ≡ scope_of bytes group_bytes position
+      rule_answer h i r k =
+          let x : FlatRule = rule_numbered g position in
+          let answer : scope_answer group_bytes r ≡ conclusion_scope sig (content g).variables x x.conclusion = rw (← i.1) (rw i.0 at k) in
+          answer ∙ sym (here ∙ infer_at _ _ (content g).rules position (flat_rule_of no_block) h)
 
--- What was accepted can be looked up.
-pub usable_group : {sig : Signature} {s index : List ℕ} {b : Result GroupCounts Refusal} {found : GroupCounts} → b ≡ Ok found
-    → Usable sig s index b → Indexed sig s index found.variables found.rules
-usable_group e u = rw e at u
-
-module _ {sig : Signature} {s index : List ℕ} {variables rules : ℕ} (w : Indexed sig s index variables rules) {k : ℕ} (h : k < rules) {rule : Sections}
-    (v : SectionsAt s rule.premises rule.conclusions rule.end (block_at s k)) where
-  -- Its owners stand in the first conclusion.
-  pub owners_stand : rule.conclusions ≡ conclusions_at index k → (r : Result (std.Option Owned) Refusal)
-      → OwnersFrom r rule.conclusions rule.end (length s) → OwnersStand s k r
-  unfolding owners_at
-  owners_stand c (Err r) o = tt
-  owners_stand c (Ok None) o = tt
-  owners_stand c (Ok (Some own)) o = (o.1 ∙ rw (c ∙ sym (w.first k h (some_field v.conclusion o.0))), o.2)
+-- The owners stand in the first conclusion.
+pub owners_stand : (g : Accepted) (position : ℕ) (rule : rules.FlatRule)
+    → ((fields_in rule.conclusions.now ≡ [] → ⊥) → conclusion_at (position + 1) (group_part g.bytes).fields 0 ≡ rule.from)
+    → (r : Result (std.Option Owned) Refusal) (size : ℕ) → OwnersFrom r rule size → size ≡ length g.bytes → OwnersStand g.bytes position r
+unfolding owners_at
+owners_stand g position rule c (Err r) size o e = tt
+owners_stand g position rule c (Ok None) size o e = tt
+owners_stand g position rule c (Ok (Some own)) size o e = (o.1 ∙ rw (c o.0) refl, rw e at o.2)
 
 -- The owners' part of the group.
 pub owners_are : (bytes group_bytes : List ℕ) (position : ℕ) (own : Owned)
     → scope_answer group_bytes (Ok (Some own)) ≡ scope_of bytes group_bytes position → OwnersStand group_bytes position (Ok (Some own))
     → take (own.start + 2 * own.count - own.start) (drop own.start group_bytes) ≡ owners_of bytes group_bytes position
 unfolding owners_of owners_part
-owners_are bytes group_bytes position own e o = rw (← e, numbers_count group_bytes own.start own.count o.1, ← o.0, add-sub_cancel_left)
+owners_are bytes group_bytes position own e o = rw (← e, count_in group_bytes own.start own.count o.1, ← o.0, add-sub_cancel_left)

@@ -1,14 +1,16 @@
 -- Scope's answers as the definition's, and where the owners stand.
 use Rattle.std.specs.Prelude as std
-use Rattle.std.specs.Prelude.{Result, Ok, Err, Some, None, List, ◌≡◌, ℕ, ◌+◌, ◌*◌, ◌≤◌, ◌<◌, length}
+use Rattle.std.specs.Prelude.{Result, Ok, Err, Some, None, List, [], ◌≡◌, ℕ, ◌+◌, ◌*◌, ◌≤◌, ◌<◌, length}
 use Rattle.std.proofs.Math.Option.{Option, none, some}
 use Rattle.definition.specs.Base.{Outcome, refused, accepted}
 use Rattle.definition.specs.Records.{numbers}
 use Rattle.definition.specs.Scope as definition
 use Rattle.definition.specs.Scope.{owners_at}
 use Rattle.records.specs.Places.{stretch}
+use Rattle.records.specs.Iter.{fields_in}
 use Rattle.records.specs.Refusals.{number, outcome_by}
 use Rattle.records.specs.declared.refusal.Refusal.{Refusal}
+use Rattle.group.specs.declared.rule.FlatRule.{FlatRule}
 use Rattle.scope.specs.declared.answers.Owned.{Owned}
 use Rattle.scope.specs.declared.answers.Verdict.{Verdict}
 use Rattle.scope.specs.declared.answers.Verdict.TheVariants.{Open, Global}
@@ -35,10 +37,11 @@ Leads (Ok None) from size = Unit
 Leads (Err r) from size = Unit
 
 -- Where a rule has owners, it has a conclusion, and they stand in the first one, behind letter, length, kind and symbol.
-abbrev pub OwnersFrom : Result (std.Option Owned) Refusal → ℕ → ℕ → ℕ → Type 0
-OwnersFrom (Ok (Some own)) from end size = (from < end) × (own.start ≡ from + 6) × (own.start + 2 * own.count ≤ size)
-OwnersFrom (Ok None) from end size = Unit
-OwnersFrom (Err r) from end size = Unit
+abbrev pub OwnersFrom : Result (std.Option Owned) Refusal → FlatRule → ℕ → Type 0
+OwnersFrom (Ok (Some own)) rule size =
+    (fields_in rule.conclusions.now ≡ [] → ⊥) × (own.start ≡ rule.from + 6) × (own.start + 2 * own.count ≤ size)
+OwnersFrom (Ok None) rule size = Unit
+OwnersFrom (Err r) rule size = Unit
 
 -- What a statement settles, if anything.
 abbrev pub verdict_of : Result Verdict Refusal → Option (Outcome definition.Scope)

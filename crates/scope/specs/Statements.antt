@@ -1,24 +1,22 @@
--- Statements and owners, as the scope's functions ask for them.
-use Rattle.std.specs.Prelude.{List, ◌≡◌, ℕ, ◌*◌, ◌<◌}
+-- A rule's owners, and what they settle of its statements.
+use Rattle.std.specs.Prelude.{List, ℕ}
+use Rattle.std.proofs.Math.Option.{Option}
+use Rattle.definition.specs.Base.{Outcome}
 use Rattle.definition.specs.Records.{numbers}
-use Rattle.definition.specs.Signature.{Signature, symbol_count}
-use Rattle.definition.specs.Scope.{owner_count}
-use Rattle.records.specs.Places.{stretch}
-use Rattle.group.specs.Lookups.{VariablesAt}
-use Rattle.group.specs.declared.lookup.StatementField.{StatementField}
-use Rattle.scope.specs.declared.answers.Owned.{Owned}
+use Rattle.definition.specs.Group.{Statement}
+use Rattle.definition.specs.Scope.{Scope}
+use Rattle.group.specs.Lookups.{Accepted, content}
+use Rattle.group.specs.declared.ids.Side.{Side}
+use Rattle.scope.specs.Sides.{verdict_at}
+use Rattle.scope.specs.declared.answers.Owners.{Owners}
 
--- A statement's symbol is one of its kind, and its variables are the group's.
-pub record Sound (sig : Signature) (variables : ℕ) (s : List ℕ) (t : StatementField) : Type 0 where
-  pub symbol : t.symbol < symbol_count sig t.kind
-  pub named : VariablesAt s variables t.start t.count
+-- The group that they are of, and their numbers.
+abbrev pub accepted_by : Owners → Accepted
+accepted_by own = own.rule.group.now
 
--- The owners' numbers.
-unfoldable pub owners_in : List ℕ → Owned → List ℕ
-owners_in s own = numbers (stretch s own.start (2 * own.count))
+abbrev pub owners_in : Owners → List ℕ
+owners_in own = numbers own.variables.now
 
--- They are as many as their model asks for, and the group's.
-pub record OwnedAt (sig : Signature) (types variables : ℕ) (s : List ℕ) (own : Owned) : Type 0 where
-  pub typed : own.model.0 < types
-  pub counted : own.count ≡ owner_count sig own.model.0
-  pub named : VariablesAt s variables own.start own.count
+-- What a statement of a side settles, if anything.
+abbrev pub verdict_by : Owners → Side → Statement → Option (Outcome Scope)
+verdict_by own side = verdict_at side (accepted_by own).signature (content (accepted_by own)).variables own.model.0 (owners_in own)

@@ -1,4 +1,10 @@
 // What scope answers, and what a statement settles on the way to it.
+ghost use Rattle.std.specs.Prelude.{◌≡◌, ◌*◌, ◌<◌, length};
+ghost use Rattle.definition.specs.Records.{numbers};
+ghost use Rattle.definition.specs.Scope.{owner_count};
+ghost use Rattle.group.specs.Lookups.{Named};
+
+use group::rule::FlatRule;
 use signature::ids::TypeId;
 
 // A model and a rule's owners: `count` variables of two bytes each, from `start` on in the group. The first conclusion has them, and
@@ -10,11 +16,16 @@ pub struct Owned {
     pub count: usize,
 }
 
-// A rule's statements stand in two sections.
+// The same while it is sought: the rule, the model that its first conclusion has, and the owners' numbers, two bytes each, as many as
+// the model asks for.
 #[derive(Clone, Copy)]
-pub enum Side {
-    Premises,
-    Conclusions,
+pub struct Owners<'a> {
+    pub rule: FlatRule<'a>,
+    pub model: TypeId,
+    pub variables: &'a [u8],
+    pub ghost typed: { model.0 < length rule.group.now.signature.types },
+    pub ghost counted: { length variables.now ≡ 2 * owner_count rule.group.now.signature model.0 },
+    pub ghost named: { Named rule.group.now (numbers variables.now) },
 }
 
 // A statement leaves the scope open, or settles that the rule belongs to no model.

@@ -6,8 +6,8 @@ ghost use Rattle.scope.specs.Answers.{scope_answer, OwnersStand};
 use crate::answers::Owned;
 use crate::rules::rule_scope;
 use group::ids::GROUP_INDEX;
-use group::lookup::rule_sections;
 use group::reader::read_group;
+use group::rule::FlatRule;
 use records::refusal::Refusal;
 use signature::ids::INDEX;
 use signature::reader::read_signature;
@@ -21,11 +21,10 @@ pub fn scope(sig: &[u8], group: &[u8], position: usize) -> Result<Option<Owned>,
     let signature = read_signature(sig, &mut symbols)?;
     let mut index = [0u16; GROUP_INDEX];
     let found = read_group(&signature, group, &mut index)?;
-    if found.rules <= position {
+    if found.rules() <= position {
         return Err(Refusal::NoSuchRule);
     }
-    let rule = rule_sections(group, &index, found.rules, position);
-    rule_scope(&signature, group, &index, found.variables, rule)
+    rule_scope(FlatRule::of(&found, position))
 }
 
 // The owners: the part of the group's bytes that holds the first conclusion's leading variables. It is empty where the rule

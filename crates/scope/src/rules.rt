@@ -1,154 +1,92 @@
 // The statements of a rule, in order, and its scope.
-ghost use Rattle.std.specs.Prelude.{◌≡◌, length};
+ghost use Rattle.std.specs.Prelude.{◌≡◌, ◌+◌, ◌≤◌, length};
 ghost use Rattle.definition.specs.Base.{first_of};
-ghost use Rattle.definition.specs.Group.{FlatRule};
+ghost use Rattle.definition.specs.Group as definition;
 ghost use Rattle.definition.specs.Signature.{parent_model};
 ghost use Rattle.definition.specs.Scope.{output_scope, conclusion_scope};
-ghost use Rattle.signature.specs.Index.{signature_at, Indexed};
-ghost use Rattle.group.specs.Lookups.{table, Listed, statement_from, statements_in, RuleStands, RuleSays};
-ghost use Rattle.scope.specs.Statements.{Sound, owners_in, OwnedAt};
-ghost use Rattle.scope.specs.Sides.{begin_of, end_of, verdict_at, first_verdict};
+ghost use Rattle.records.specs.Places.{stretch};
+ghost use Rattle.signature.specs.Relations.{kind_of, number_of};
+ghost use Rattle.group.specs.Lookups.{content, Sound};
+ghost use Rattle.group.specs.Views.{statement_from, statements_of, RuleSays};
+ghost use Rattle.scope.specs.Statements.{accepted_by, owners_in, verdict_by};
+ghost use Rattle.scope.specs.Sides.{first_verdict};
 ghost use Rattle.scope.specs.Answers.{verdict_of, scope_answer, Leads, OwnersFrom};
 
-use crate::answers::{Owned, Side, Verdict};
-use crate::verdicts::{owner_count, statement_model, statement_verdict, too_few};
-use group::ids::GROUP_INDEX;
-use group::lookup::{Sections, StatementField, read_statement};
+use crate::answers::{Owned, Owners, Verdict};
+use crate::verdicts::{owner_count, statement_verdict};
+use group::ids::{BEFORE_VARS, Side};
+use group::rule::{FlatRule, StatementView};
 use records::refusal::Refusal;
-use signature::lookup::Signature;
 
-// Where a section of a rule stands.
-#[derive(Clone, Copy)]
-struct Part {
-    from: usize,
-    end: usize,
-}
-
-#[tactic(auto, unfolding(crate::specs::Sides::begin_of, crate::specs::Sides::end_of))]
-fn part_of(rule: Sections, side: Side) -> Part
-    ensures { (result.from ≡ begin_of rule side) × (result.end ≡ end_of rule side) }
+// The first verdict of a side that settles the scope.
+fn section_verdict(own: &Owners<'_>, side: Side) -> Result<Verdict, Refusal>
+    ensures { verdict_of result ≡ first_of (verdict_by own.now side) (statements_of own.now.rule side) }
 {
-    match side {
-        Side::Premises => Part {
-            from: rule.premises,
-            end: rule.conclusions,
-        },
-        Side::Conclusions => Part {
-            from: rule.conclusions,
-            end: rule.end,
-        },
-    }
-}
-
-// The first verdict of a section that settles the scope.
-fn section_verdict(
-    sig: &Signature<'_>,
-    s: &[u8],
-    index: &[u16; GROUP_INDEX],
-    variables: usize,
-    own: Owned,
-    rule: Sections,
-    side: Side,
-) -> Result<Verdict, Refusal>
-    requires listed { Listed s.now index.now variables }
-    requires owned_at { OwnedAt sig.now (length sig.now.types) variables s.now own }
-    requires rule_stands { RuleStands sig.now variables s.now rule }
-    ensures { verdict_of result
-        ≡ first_of (verdict_at side sig.now (table s.now)
-        own.model.0 (owners_in s.now own))
-        (statements_in s.now (begin_of rule side) (end_of rule side)) }
-{
-    let part = part_of(rule, side);
-    let mut at = part.from;
-    while at < part.end {
-        let t = read_statement(s, at);
-        let v = statement_verdict(sig, s, index, variables, own, side, t)?;
+    for t in own.rule.statements(side) {
+        let v = statement_verdict(own, side, t)?;
         if v != Verdict::Open {
             return Ok(v);
         }
-        at = t.next;
     }
     Ok(Verdict::Open)
 }
 
 // The first verdict of a rule: its conclusions', then its premises'.
-fn rule_verdict(
-    sig: &Signature<'_>,
-    s: &[u8],
-    index: &[u16; GROUP_INDEX],
-    variables: usize,
-    own: Owned,
-    rule: Sections,
-) -> Result<Verdict, Refusal>
-    requires listed { Listed s.now index.now variables }
-    requires owned_at { OwnedAt sig.now (length sig.now.types) variables s.now own }
-    requires rule_stands { RuleStands sig.now variables s.now rule }
-    ensures { (x : FlatRule) → RuleSays s.now rule x → verdict_of result
-        ≡ first_verdict sig.now (table s.now) x
-        own.model.0 (owners_in s.now own) }
+fn rule_verdict(own: &Owners<'_>) -> Result<Verdict, Refusal>
+    ensures { (x : definition.FlatRule) → RuleSays own.now.rule x → verdict_of result
+        ≡ first_verdict (accepted_by own.now).signature (content (accepted_by own.now)).variables x
+        own.now.model.0 (owners_in own.now) }
 {
-    let first = Side::Conclusions;
-    let v = section_verdict(sig, s, index, variables, own, rule, first)?;
+    let v = section_verdict(own, Side::Conclusion)?;
     if v != Verdict::Open {
         return Ok(v);
     }
-    let second = Side::Premises;
-    section_verdict(sig, s, index, variables, own, rule, second)
+    section_verdict(own, Side::Premise)
 }
 
 // The scope of a rule by its first conclusion.
 #[tactic(auto, using(crate::proofs::InOrder::output_steps))]
-fn output_scope(
-    sig: &Signature<'_>,
-    s: &[u8],
-    index: &[u16; GROUP_INDEX],
-    variables: usize,
-    rule: Sections,
-    t: StatementField,
-) -> Result<Option<Owned>, Refusal>
-    requires listed { Listed s.now index.now variables }
-    requires rule_stands { RuleStands sig.now variables s.now rule }
-    requires sound { Sound sig.now variables s.now t }
-    ensures result_value { (x : FlatRule) → RuleSays s.now rule x → scope_answer s.now result
-        ≡ output_scope sig.now (table s.now) x (statement_from s.now t)
-        (parent_model sig.now t.kind t.symbol) }
-    ensures leads { Leads result t.start (length s.now) }
+fn output_scope(rule: FlatRule<'_>, t: StatementView<'_>) -> Result<Option<Owned>, Refusal>
+    requires sound { Sound rule.group.now (statement_from t) }
+    requires within { rule.from + 6 + length t.variables.now ≤ length rule.group.now.bytes }
+    requires stands { t.variables.now ≡ stretch rule.group.now.bytes (rule.from + 6) (length t.variables.now) }
+    ensures result_value { (x : definition.FlatRule) → RuleSays rule.entry x → scope_answer rule.entry.group.now.bytes result
+        ≡ output_scope rule.entry.group.now.signature (content rule.entry.group.now).variables x (statement_from t.entry)
+        (parent_model rule.entry.group.now.signature (kind_of t.entry.relation) (number_of t.entry.relation)) }
+    ensures leads { Leads result (rule.entry.from + 6) (length rule.entry.group.now.bytes) }
 {
-    let Some(model) = statement_model(sig, t) else {
+    let sig = rule.group.signature();
+    let Some(model) = sig.parent_model(t.relation) else {
         return Ok(None);
     };
     let count = owner_count(sig, model);
-    if too_few(t, count) {
+    if t.count() < count {
         return Err(Refusal::TooFewVariables);
     }
-    let own = Owned {
+    let own = Owners {
+        rule,
         model,
-        start: t.start,
-        count,
+        variables: &t.variables[..2 * count],
     };
-    match rule_verdict(sig, s, index, variables, own, rule)? {
-        Verdict::Open => Ok(Some(own)),
+    match rule_verdict(&own)? {
+        Verdict::Open => Ok(Some(Owned {
+            model,
+            start: rule.from + BEFORE_VARS,
+            count,
+        })),
         Verdict::Global => Ok(None),
     }
 }
 
 // The scope of a rule.
-pub fn rule_scope(
-    sig: &Signature<'_>,
-    s: &[u8],
-    index: &[u16; GROUP_INDEX],
-    variables: usize,
-    rule: Sections,
-) -> Result<Option<Owned>, Refusal>
-    requires listed { Listed s.now index.now variables }
-    requires rule_stands { RuleStands sig.now variables s.now rule }
-    ensures result_value { (x : FlatRule) → RuleSays s.now rule x → scope_answer s.now result
-        ≡ conclusion_scope sig.now (table s.now) x x.conclusion }
-    ensures owners_from { OwnersFrom result rule.conclusions rule.end (length s.now) }
+pub fn rule_scope(rule: FlatRule<'_>) -> Result<Option<Owned>, Refusal>
+    ensures result_value { (x : definition.FlatRule) → RuleSays rule.entry x → scope_answer rule.entry.group.now.bytes result
+        ≡ conclusion_scope rule.entry.group.now.signature (content rule.entry.group.now).variables x x.conclusion }
+    ensures owners_from { OwnersFrom result rule.entry (length rule.entry.group.now.bytes) }
 {
-    if rule.end <= rule.conclusions {
+    let mut conclusions = rule.statements(Side::Conclusion);
+    let Some(first) = conclusions.next() else {
         return Ok(None);
-    }
-    let first = read_statement(s, rule.conclusions);
-    output_scope(sig, s, index, variables, rule, first)
+    };
+    output_scope(rule, first)
 }

@@ -1,31 +1,22 @@
 // What one statement of a rule settles.
-ghost use Rattle.std.specs.Prelude.{◌≡◌, ◌+◌, ◌≤◌, ◌<◌, ltb, length};
+ghost use Rattle.std.specs.Prelude.{◌≡◌, ◌*◌, ◌≤◌, ◌<◌, length};
 ghost use Rattle.definition.specs.Base.{has};
-ghost use Rattle.definition.specs.Signature.{type_parents, symbol_count, parent_model};
+ghost use Rattle.definition.specs.Signature.{type_parents};
 ghost use Rattle.definition.specs.Scope as definition;
 ghost use Rattle.definition.specs.Scope.{owner_count, owners_verdict};
-ghost use Rattle.signature.specs.Entries.{model_of, Named};
-ghost use Rattle.signature.specs.Index.{signature_at, Indexed};
-ghost use Rattle.group.specs.Lookups.{table, Listed, statement_from, VariablesAt};
-ghost use Rattle.scope.specs.Statements.{Sound, owners_in, OwnedAt};
+ghost use Rattle.signature.specs.Relations.{kind_of};
+ghost use Rattle.group.specs.Lookups.{content, Named, Sound};
+ghost use Rattle.group.specs.Views.{statement_from};
+ghost use Rattle.scope.specs.Statements.{accepted_by, owners_in, verdict_by};
 ghost use Rattle.scope.specs.Answers.{verdict_of};
-ghost use Rattle.scope.specs.Sides.{without_model, suiting, verdict_at};
+ghost use Rattle.scope.specs.Sides.{without_model, suiting};
 
-use crate::answers::{Owned, Side, Verdict};
-use group::ids::GROUP_INDEX;
-use group::lookup::{StatementField, same_variables};
+use crate::answers::{Owners, Verdict};
+use group::ids::Side;
+use group::rule::StatementView;
 use records::refusal::Refusal;
-use signature::ids::{EQUALITY, TypeId};
-use signature::lookup::{Signature, relation};
-
-// The model of what a statement is about.
-pub fn statement_model(sig: &Signature<'_>, t: StatementField) -> Option<TypeId>
-    requires symbol_bound { t.symbol < symbol_count sig.now t.kind }
-    ensures result_value { model_of result ≡ parent_model sig.now t.kind t.symbol }
-    ensures named { Named result (length sig.now.types) }
-{
-    sig.parent_model(relation(t.kind, t.symbol))
-}
+use signature::ids::{Relation, TypeId};
+use signature::lookup::Signature;
 
 // How many owners a model's rules have: one more than it has parents.
 pub fn owner_count(sig: &Signature<'_>, m: TypeId) -> usize
@@ -58,33 +49,19 @@ fn related(sig: &Signature<'_>, m: TypeId, p: TypeId) -> bool
     p == m || among(sig, p, m) || among(sig, m, p)
 }
 
-// Has a statement fewer arguments than owners are compared? A FuncDomain's result is none of them.
-pub fn too_few(t: StatementField, count: usize) -> bool
-    ensures { result ≡ ltb t.count count }
-{
-    t.count < count
-}
-
-// A statement's first variables against the owners, so many of each.
+// A statement's first variables against the owners, so many of each: 43 where it has fewer. A FuncDomain's result is none of them.
 #[tactic(auto, using(crate::proofs::Settling::compared_steps))]
-fn compared(
-    s: &[u8],
-    index: &[u16; GROUP_INDEX],
-    variables: usize,
-    own: Owned,
-    count: usize,
-    t: StatementField,
-) -> Result<Verdict, Refusal>
-    requires listed { Listed s.now index.now variables }
-    requires count_le_count { (count ≤ own.count) × VariablesAt s.now variables own.start own.count }
-    requires variables_at { VariablesAt s.now variables t.start t.count }
-    ensures { verdict_of result
-        ≡ owners_verdict (table s.now) (owners_in s.now own) count (statement_from s.now t) }
+fn compared(own: &Owners<'_>, count: usize, t: StatementView<'_>) -> Result<Verdict, Refusal>
+    requires count_bound { 2 * count ≤ length own.now.variables.now }
+    requires named { Named (accepted_by own.now) (statement_from t).variables }
+    ensures { verdict_of result ≡ owners_verdict (content (accepted_by own.now)).variables
+        (owners_in own.now) count (statement_from t.entry) }
 {
-    if too_few(t, count) {
+    if t.count() < count {
         return Err(Refusal::TooFewVariables);
     }
-    if same_variables(s, index, variables, t.start, own.start, count) {
+    let group = own.rule.group;
+    if group.same_variables(&t.variables[..2 * count], &own.variables[..2 * count]) {
         return Ok(Verdict::Open);
     }
     Ok(Verdict::Global)
@@ -92,13 +69,13 @@ fn compared(
 
 // A statement without a model. A conclusion must have one; a premise passes, but an Equality should have been eliminated.
 #[tactic(auto, unfolding(crate::specs::Sides::without_model))]
-fn without_model(side: Side, kind: u8) -> Result<Verdict, Refusal>
-    ensures { verdict_of result ≡ without_model side kind }
+fn without_model(side: Side, relation: Relation) -> Result<Verdict, Refusal>
+    ensures { verdict_of result ≡ without_model side (kind_of relation) }
 {
-    match side {
-        Side::Conclusions => Ok(Verdict::Global),
-        Side::Premises if kind == EQUALITY => Err(Refusal::PremiseEquality),
-        Side::Premises => Ok(Verdict::Open),
+    match (side, relation) {
+        (Side::Conclusion, _) => Ok(Verdict::Global),
+        (Side::Premise, Relation::Equality(_)) => Err(Refusal::PremiseEquality),
+        (Side::Premise, _) => Ok(Verdict::Open),
     }
 }
 
@@ -109,34 +86,28 @@ fn suits(sig: &Signature<'_>, side: Side, m: TypeId, p: TypeId) -> bool
     ensures { result ≡ suiting side sig.now m.0 p.0 }
 {
     match side {
-        Side::Conclusions => p == m,
-        Side::Premises => related(sig, m, p),
+        Side::Conclusion => p == m,
+        Side::Premise => related(sig, m, p),
     }
 }
 
 // What a statement settles. Of the owners it must have as many as both models have: where the models are the same, all.
 #[tactic(auto, using(crate::proofs::Settling::verdict_steps))]
 pub fn statement_verdict(
-    sig: &Signature<'_>,
-    s: &[u8],
-    index: &[u16; GROUP_INDEX],
-    variables: usize,
-    own: Owned,
+    own: &Owners<'_>,
     side: Side,
-    t: StatementField,
+    t: StatementView<'_>,
 ) -> Result<Verdict, Refusal>
-    requires listed { Listed s.now index.now variables }
-    requires owned_at { OwnedAt sig.now (length sig.now.types) variables s.now own }
-    requires sound { Sound sig.now variables s.now t }
-    ensures { verdict_of result ≡ verdict_at side sig.now (table s.now)
-        own.model.0 (owners_in s.now own) (statement_from s.now t) }
+    requires sound { Sound (accepted_by own.now) (statement_from t) }
+    ensures { verdict_of result ≡ verdict_by own.now side (statement_from t.entry) }
 {
-    let Some(parent) = statement_model(sig, t) else {
-        return without_model(side, t.kind);
+    let sig = own.rule.group.signature();
+    let Some(parent) = sig.parent_model(t.relation) else {
+        return without_model(side, t.relation);
     };
     if !suits(sig, side, own.model, parent) {
         return Ok(Verdict::Global);
     }
-    let n = owner_count(sig, parent);
-    compared(s, index, variables, own, n.min(own.count), t)
+    let count = owner_count(sig, parent).min(own.variables.len() >> 1);
+    compared(own, count, t)
 }

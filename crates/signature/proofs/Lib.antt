@@ -6,3 +6,4 @@ pub mod Whole
 pub mod Symbols
 pub mod ByKind
 pub mod Views
+pub mod Arities

@@ -1,20 +1,23 @@
 -- The pass along a signature's letters, which counts the T fields.
-use Prim.Native.Nat.{ℕ, ◌+◌, ◌≤◌, ◌<◌}
+use Prim.Native.Nat.{ℕ, ◌+◌, ◌-◌, ◌≤◌, ◌<◌}
 use native.Mathlib.Omega.{arith}
 use mathlib.Core.Bool.{Bool, true, false, ◌&&◌, ◌||◌}
 use mathlib.Core.List.{List, [], ◌∷◌, ◌++◌}
-use mathlib.Core.Path.{◌≡◌, refl}
-use lib.Dec.{eqb}
-use lib.ListN.{length, length-append}
-use borrow.Author.Tests.{eqb-true}
+use mathlib.Core.Path.{◌≡◌, refl, sym, ◌∙◌}
+use lib.Dec.{eqb, ltb}
+use lib.ListN.{length, take, length-append, length-take}
+use borrow.Author.Tests.{eqb-true, eq-eqb, ne_eqb, ltb-true, ltb-false}
 use Rattle.definition.specs.Base.{pick, any, has, keep}
 use Rattle.definition.specs.Letters.{letter_t, letter_p, letter_f, start}
 use Rattle.definition.specs.Records.{Field, follows, with_letter}
 use Rattle.definition.specs.Signature.{signature_grammar, signature_part}
 use Rattle.laws.proofs.Lists.{never}
-use Rattle.records.specs.Places.{field_at, field_of, Parted, got}
+use Rattle.records.specs.Places.{field_at, field_of, got}
 use Rattle.std.proofs.Common.{None}
 use Rattle.records.proofs.Link.{got_is}
+use Rattle.records.proofs.FieldsIn.{parted_front, end_found, end_bad}
+use Rattle.records.specs.Iter.{fields_in, Stands, EndOf}
+use Rattle.signature.specs.Answers.{Passes}
 use Rattle.records.proofs.Lists.{keep_append}
 use Rattle.records.proofs.Placed.{Placing, Placed, placing_start, placing_next, placing_stop, placing_bad, placing_end}
 
@@ -44,15 +47,8 @@ pub pass_start : (s : List ℕ) → Passing s 0 start 0
 unfolding signature_part with_letter keep has any
 pass_start s = record { passed = []; placing = placing_start signature_grammar s; counted = refl; last = refl; few = omega arith }
 
--- What the pass answers.
-abbrev Answers : List ℕ → ℕ → Bool → ℕ → Type 0
-Answers s end whole types = Parted s (signature_part s) end whole × (types ≡ length (with_letter letter_t (signature_part s).fields))
-
 module _ {s : List ℕ} {at behind types : ℕ} (p : Passing s at behind types) where
-  answered : {whole : Bool} → Placed s (signature_part s) at whole p.passed → Answers s at whole types
-  answered q = (q.parted, rw q.fields p.counted)
-
-  pub pass_next : {letter start len next : ℕ} → field_at s at ≡ got letter start len next → follows signature_grammar.places behind letter ≡ true
+  pass_next : {letter start len next : ℕ} → field_at s at ≡ got letter start len next → follows signature_grammar.places behind letter ≡ true
       → Passing s next letter (pick (eqb letter letter_t) (types + 1) types)
   unfolding with_letter keep
   pass_next {letter} {start} {len} {next} e f = record {
@@ -72,12 +68,46 @@ module _ {s : List ℕ} {at behind types : ℕ} (p : Passing s at behind types) 
       small true = let g = got_is s at e in omega (arith, p.few)
       small false = let g = got_is s at e in omega (arith, p.few)
 
-  pub pass_stop : {letter start len next : ℕ} → field_at s at ≡ got letter start len next → follows signature_grammar.places behind letter ≡ false
-      → Answers s at false types
-  pass_stop e f = answered (placing_stop p.placing e f)
+  answered : {whole : Bool} → Placed s (signature_part s) at whole p.passed → whole ≡ eqb at (length s) → Passes s (take at s) types
+  answered q e =
+      let within = q.parted.within in
+      let long : length (take at s) ≡ at = rw length-take (omega arith) in
+      let same = sym q.parted.same ∙ e in
+      record {
+        front = parted_front q.parted (λ w. eqb-true at (length s) (sym same ∙ w));
+        whole = rw long same;
+        counts = rw q.fields p.counted;
+      }
 
-  pub pass_bad : at < length s → field_at s at ≡ None → Answers s at false types
-  pass_bad h e = answered (placing_bad p.placing h e)
+  pass_stop : {letter start len next : ℕ} → at < length s → field_at s at ≡ got letter start len next
+      → follows signature_grammar.places behind letter ≡ false → Passes s (take at s) types
+  pass_stop h e f = answered (placing_stop p.placing e f) (sym (ne_eqb at (length s) (λ q. omega arith)))
 
-  pub pass_end : length s ≤ at → Answers s at true types
-  pass_end h = answered (placing_end p.placing h p.last)
+  pass_bad : at < length s → field_at s at ≡ None → Passes s (take at s) types
+  pass_bad h e = answered (placing_bad p.placing h e) (sym (ne_eqb at (length s) (λ q. omega arith)))
+
+  pass_end : length s ≤ at → Passes s (take at s) types
+  pass_end h = let w = p.placing.within in answered (placing_end p.placing h p.last) (sym (eq-eqb at (length s) (omega arith)))
+
+-- The same by what is left.
+module _ {s left : List ℕ} {behind types : ℕ} (end : EndOf s left) (p : Passing s (length s - length left) behind types) where
+  pub pass_turn : {f : Field} {rest : List ℕ} → Stands left f rest → follows signature_grammar.places behind f.letter ≡ true
+      → Passing s (length s - length rest) f.letter (pick (eqb f.letter letter_t) (types + 1) types)
+  pass_turn h = pass_next p (end_found end h).is
+
+  pub pass_stopped : {f : Field} {rest : List ℕ} → Stands left f rest → follows signature_grammar.places behind f.letter ≡ false
+      → Passes s (take (length s - length left) s) types
+  pass_stopped h =
+      let few = end.few in
+      let long = h.long in
+      pass_stop p (omega arith) (end_found end h).is
+
+  pub pass_done : fields_in left ≡ [] → Passes s (take (length s - length left) s) types
+  pass_done h = go (ltb 0 (length left)) refl
+    where
+      go : (t : Bool) → ltb 0 (length left) ≡ t → Passes s (take (length s - length left) s) types
+      go true q =
+          let few = end.few in
+          let some = ltb-true 0 (length left) q in
+          pass_bad p (omega arith) (end_bad end h some)
+      go false q = let none = ltb-false 0 (length left) q in pass_end p (omega arith)

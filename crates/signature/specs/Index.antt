@@ -3,9 +3,9 @@ use Rattle.std.specs.Prelude.{List, ◌≡◌, ℕ, ◌+◌, ◌*◌, ◌≤◌,
 use Rattle.std.proofs.Math.Option.{none}
 use Rattle.definition.specs.Base.{each}
 use Rattle.definition.specs.Letters.{letter_t, letter_p, letter_f}
-use Rattle.definition.specs.Limits.{symbol_limit}
+use Rattle.definition.specs.Limits.{symbol_limit, parent_limit, column_limit}
 use Rattle.definition.specs.Records.{Field, numbers}
-use Rattle.definition.specs.Signature.{Signature, symbol_of}
+use Rattle.definition.specs.Signature.{Signature, symbol_of, type_parents, pred_of, func_of, column_count}
 use Rattle.records.specs.Places.{two_at}
 use Rattle.records.specs.Held.{field_in, held_at}
 use Rattle.signature.specs.Faults.{check_of}
@@ -46,3 +46,10 @@ pub record Indexed (s index : List ℕ) (counts : Counts) : Type 0 where
   pub types : Held s index letter_t counts.types types_from counts.types
   pub preds : Held s index letter_p counts.types preds_from counts.preds
   pub funcs : Held s index letter_f counts.types funcs_from counts.funcs
+
+-- The types of an accepted signature are few, and its arities are small.
+pub record SmallArities (sig : Signature) : Type 0 where
+  pub few : length sig.types ≤ symbol_limit
+  pub types : (t : ℕ) → t < length sig.types → length (type_parents sig t) ≤ parent_limit
+  pub preds : (p : ℕ) → p < length sig.preds → column_count (pred_of sig p) ≤ column_limit
+  pub funcs : (f : ℕ) → f < length sig.funcs → column_count (func_of sig f) ≤ column_limit

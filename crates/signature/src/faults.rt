@@ -1,98 +1,67 @@
 // The faults of a T, P or F field, the lowest number first.
-ghost use Rattle.std.specs.Prelude.{◌≡◌, ℕ, ◌+◌, ◌≤◌, ◌<◌, length};
+ghost use Rattle.std.specs.Prelude.{◌≡◌, ℕ, ◌≤◌, length, drop};
 ghost use Rattle.std.proofs.Math.Option.{Option};
 ghost use Rattle.definition.specs.Records.{Field, numbers};
 ghost use Rattle.definition.specs.Signature.{type_fault, symbol_fault};
-ghost use Rattle.records.specs.Places.{stretch, field_of};
 ghost use Rattle.records.specs.Refusals.{fault_of};
-ghost use Rattle.signature.specs.Faults.{columns_fault, check_of};
+ghost use Rattle.signature.specs.Faults.{columns_fault, check_of, letter_of, declaration};
 
-use crate::ids::{COLUMNS, LETTER_P, LETTER_T, PARENTS, SYMBOLS};
-use records::order::named;
+use crate::ids::{COLUMNS, PARENTS, SYMBOLS, SymbolKind};
+use records::contents::named;
 use records::refusal::Refusal;
 
 // What T, P and F share: 4 past a limit, 5 at a number that names no type.
-fn columns_fault(
-    s: &[u8],
-    start: usize,
-    len: usize,
-    most: usize,
-    types: usize,
-    before: usize,
-) -> Result<(), Refusal>
-    requires { start + len ≤ length s.now }
-    ensures { fault_of result ≡ columns_fault most types before (numbers (stretch s.now start len)) }
+#[tactic(auto, unfolding(crate::specs::Faults::columns_fault, definition::specs::Base::lowest), using(laws::proofs::Numbers::length_numbers))]
+fn columns_fault(columns: &[u8], most: usize, types: usize, before: usize) -> Result<(), Refusal>
+    ensures { fault_of result ≡ columns_fault most types before (numbers columns.now) }
 {
-    if SYMBOLS <= before {
+    if SYMBOLS <= before || most < columns.len() >> 1 {
         return Err(Refusal::TooMany);
     }
-    if most < len >> 1 {
-        return Err(Refusal::TooMany);
-    }
-    if !named(s, start, len, types) {
+    if !named(columns, types) {
         return Err(Refusal::Undeclared);
     }
     Ok(())
 }
 
 // A T field: its parents.
-fn type_fault(
-    s: &[u8],
-    start: usize,
-    len: usize,
-    types: usize,
-    before: usize,
-) -> Result<(), Refusal>
-    requires { start + len ≤ length s.now }
-    ensures { (letter : ℕ) (last : Option Field)
-        → fault_of result ≡ type_fault types before last (field_of s.now letter start len) }
+#[tactic(auto, unfolding(definition::specs::Signature::type_fault, crate::specs::Faults::columns_fault, definition::specs::Base::lowest))]
+fn type_fault(content: &[u8], types: usize, before: usize) -> Result<(), Refusal>
+    ensures { (letter : ℕ) (last : Option Field) → fault_of result ≡ type_fault types before last (declaration letter content.now) }
 {
-    if (len & 1) == 1 {
+    if (content.len() & 1) == 1 {
         return Err(Refusal::BadLength);
     }
-    columns_fault(s, start, len, PARENTS, types, before)
+    columns_fault(content, PARENTS, types, before)
 }
 
 // A P or F field: a byte that counts the parents, then the columns. Of an F (one result) the byte leaves a codomain.
-fn symbol_fault(
-    s: &[u8],
-    start: usize,
-    len: usize,
-    results: usize,
-    types: usize,
-    before: usize,
-) -> Result<(), Refusal>
-    requires { (start + len ≤ length s.now) × (results ≤ 1) }
-    ensures { (letter : ℕ) (last : Option Field)
-        → fault_of result ≡ symbol_fault results types before last (field_of s.now letter start len) }
+#[tactic(auto, unfolding(definition::specs::Signature::symbol_fault, definition::specs::Base::lowest), using(crate::proofs::Drawn::columns_half))]
+fn symbol_fault(content: &[u8], results: usize, types: usize, before: usize) -> Result<(), Refusal>
+    requires { results ≤ 1 }
+    ensures { (letter : ℕ) (last : Option Field) → fault_of result ≡ symbol_fault results types before last (declaration letter content.now) }
 {
-    if (len & 1) != 1 {
+    if (content.len() & 1) != 1 {
         return Err(Refusal::BadLength);
     }
-    if len >> 1 < usize::from(s[start]) + results {
+    if content.len() >> 1 < usize::from(content[0]) + results {
         return Err(Refusal::BadLength);
     }
-    columns_fault(s, start + 1, len - 1, COLUMNS, types, before)
+    columns_fault(&content[1..], COLUMNS, types, before)
 }
 
-// A field of any of the three letters.
+// A field that declares a symbol.
 pub fn field_fault(
-    s: &[u8],
-    letter: u8,
-    start: usize,
-    len: usize,
+    kind: SymbolKind,
+    content: &[u8],
     types: usize,
     before: usize,
 ) -> Result<(), Refusal>
-    requires { start + len ≤ length s.now }
-    ensures { (last : Option Field)
-        → fault_of result ≡ check_of letter types before last (field_of s.now letter start len) }
+    ensures { (last : Option Field) → fault_of result ≡ check_of (letter_of kind) types before last (declaration (letter_of kind) content.now) }
 {
-    if letter == LETTER_T {
-        return type_fault(s, start, len, types, before);
+    match kind {
+        SymbolKind::Type => type_fault(content, types, before),
+        SymbolKind::Predicate => symbol_fault(content, 0, types, before),
+        SymbolKind::Function => symbol_fault(content, 1, types, before),
     }
-    if letter == LETTER_P {
-        return symbol_fault(s, start, len, 0, types, before);
-    }
-    symbol_fault(s, start, len, 1, types, before)
 }

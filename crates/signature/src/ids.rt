@@ -1,3 +1,6 @@
+ghost use Rattle.std.specs.Prelude.{◌≡◌};
+ghost use Rattle.signature.specs.Faults.{letter_of};
+
 // The numbers of types, predicates and functions, each a position among the fields of its letter.
 // They are types of their own, so that one is never taken for another.
 #[derive(Clone, Copy, PartialEq, Eq, PartialOrd, Ord)]
@@ -25,6 +28,27 @@ pub const LETTER_T: u8 = b'T';
 pub const LETTER_P: u8 = b'P';
 
 pub const LETTER_F: u8 = b'F';
+
+// The kinds of symbols, each declared by the fields of a letter.
+#[derive(Clone, Copy)]
+pub enum SymbolKind {
+    Type,
+    Predicate,
+    Function,
+}
+
+impl SymbolKind {
+    // Its letter.
+    pub fn letter(self) -> u8
+        ensures { result ≡ letter_of self }
+    {
+        match self {
+            SymbolKind::Type => LETTER_T,
+            SymbolKind::Predicate => LETTER_P,
+            SymbolKind::Function => LETTER_F,
+        }
+    }
+}
 
 // The limits of the record: bytes, fields of a letter, parents of a type, columns of a predicate or function.
 pub const SIGNATURE_BYTES: usize = 32768;
@@ -66,4 +90,34 @@ pub enum Relation {
     Equality(TypeId),
     TypeSet(TypeId),
     FuncDomain(FuncId),
+}
+
+impl Relation {
+    ghost use Rattle.std.specs.Prelude.{◌≡◌};
+    ghost use Rattle.signature.specs.Relations.{kind_of, number_of};
+
+    // The byte of its kind.
+    pub fn kind(self) -> u8
+        ensures { result ≡ kind_of self }
+    {
+        match self {
+            Relation::Predicate(_) => PREDICATE,
+            Relation::Function(_) => FUNCTION,
+            Relation::Member(_) => MEMBER,
+            Relation::Equality(_) => EQUALITY,
+            Relation::TypeSet(_) => TYPE_SET,
+            Relation::FuncDomain(_) => FUNC_DOMAIN,
+        }
+    }
+
+    // The number of its symbol.
+    pub fn number(self) -> u16
+        ensures { result ≡ number_of self }
+    {
+        match self {
+            Relation::Predicate(p) => p.0,
+            Relation::Function(f) | Relation::FuncDomain(f) => f.0,
+            Relation::Member(t) | Relation::Equality(t) | Relation::TypeSet(t) => t.0,
+        }
+    }
 }

@@ -1,20 +1,21 @@
 // A signature that was accepted, and what it says.
-ghost use Rattle.std.specs.Prelude.{not, ◌≡◌, ℕ, ◌+◌, ◌-◌, ◌≤◌, ◌<◌, ltb, length, get_or};
+ghost use Rattle.std.specs.Prelude.{true, not, ◌≡◌, ℕ, ◌-◌, ◌≤◌, ◌<◌, ltb, length, get_or};
 ghost use Rattle.definition.specs.Base.{empty, last_of};
 ghost use Rattle.definition.specs.Letters.{func_domain};
 ghost use Rattle.definition.specs.Signature as definition;
-ghost use Rattle.definition.specs.Signature.{symbol_of, type_parents, pred_of, func_of, column_count, symbol_count, parent_model};
-ghost use Rattle.records.specs.Places.{two_at};
+ghost use Rattle.definition.specs.Signature.{type_parents, pred_of, func_of, column_count, symbol_count, parent_model, named};
+ghost use Rattle.definition.specs.Records.{numbers};
 ghost use Rattle.records.specs.Held.{field_in};
-ghost use Rattle.signature.specs.Index.{index_size, signature_at, Indexed};
-ghost use Rattle.signature.specs.Entries.{Sits, Columned, AllNamed, model_of, Named};
+ghost use Rattle.signature.specs.Index.{index_size, signature_at, Indexed, SmallArities};
+ghost use Rattle.signature.specs.Entries.{Sits, Columned, AllNamed, symbol_in, model_of, Named};
 ghost use Rattle.signature.specs.Relations.{kind_of, number_of};
 
 use crate::ids::{
     Counts, EQUALITY, FUNCS_FROM, FUNCTION, FuncId, INDEX, MEMBER, PREDICATE, PREDS_FROM, PredId,
     Relation, TYPE_SET, TYPES_FROM, TypeId,
 };
-use records::fields::{num, two};
+use records::contents::number;
+use records::fields::two;
 use std::marker::Model;
 
 // A signature that was accepted: its bytes, the index of its fields, and how many there are of each letter. In contracts it is the
@@ -34,72 +35,63 @@ impl<'a> Model for Signature<'a> {
     ghost invariant = { λ s. Indexed s.bytes.now s.index.now s.counts };
 }
 
-// The content of a field.
-#[derive(Clone, Copy)]
-struct Content {
-    start: usize,
-    len: usize,
-}
-
 // The content of the field at an entry of the index.
-fn content_at(s: &[u8], index: &[u16; INDEX], entry: usize) -> Content
+#[tactic(auto, unfolding(records::specs::Held::field_in, records::specs::Places::stretch))]
+fn content_at<'a>(s: &'a [u8], index: &[u16; INDEX], entry: usize) -> &'a [u8]
     requires lt_index_size { entry < index_size }
     requires sits { Sits s.now (get_or index.now entry 0) }
-    ensures start_value { result.start ≡ get_or index.now entry 0 + 3 }
-    ensures len_value { result.len ≡ two_at s.now (get_or index.now entry 0 + 1) }
-    ensures len_bound { result.len < 65536 }
+    ensures value { result.now ≡ (field_in s.now (get_or index.now entry 0)).content }
+    ensures len_bound { length result.now < 65536 }
 {
     let at = usize::from(index[entry]);
-    Content {
-        start: at + 3,
-        len: two(s, at + 1),
+    let start = at + 3;
+    &s[start..start + two(s, at + 1)]
+}
+
+// The content of a P or F field without a fault: a byte that counts the parents, then the columns.
+#[derive(Clone, Copy)]
+struct SymbolContent<'a> {
+    bytes: &'a [u8],
+    ghost shaped: { Columned bytes.now },
+}
+
+impl<'a> SymbolContent<'a> {
+    // How many columns the symbol has in all.
+    #[tactic(auto, using(crate::proofs::Symbols::columns_counted))]
+    fn columns(self) -> usize
+        ensures { result ≡ column_count (symbol_in self.entry.bytes.now) }
+    {
+        self.bytes.len() >> 1
     }
-}
 
-// Of a predicate or function, by its entry: how many columns it has in all.
-fn columns(s: &[u8], index: &[u16; INDEX], entry: usize) -> usize
-    requires lt_index_size { entry < index_size }
-    requires columned { Columned s.now (get_or index.now entry 0) }
-    ensures { result ≡ column_count (symbol_of (field_in s.now (get_or index.now entry 0))) }
-{
-    let c = content_at(s, index, entry);
-    c.len >> 1
-}
-
-// How many of them are parents.
-fn parents(s: &[u8], index: &[u16; INDEX], entry: usize) -> usize
-    requires lt_index_size { entry < index_size }
-    requires columned { Columned s.now (get_or index.now entry 0) }
-    ensures { result ≡ length (symbol_of (field_in s.now (get_or index.now entry 0))).parents }
-{
-    let c = content_at(s, index, entry);
-    let start = c.start;
-    usize::from(s[start])
-}
-
-// One of the parents.
-fn parent(s: &[u8], index: &[u16; INDEX], entry: usize, i: usize) -> TypeId
-    requires lt_index_size { (entry < index_size) × (i < length (symbol_of (field_in s.now (get_or index.now entry 0))).parents) }
-    requires columned { Columned s.now (get_or index.now entry 0) }
-    ensures result_value { result.0 ≡ get_or (symbol_of (field_in s.now (get_or index.now entry 0))).parents i 0 }
-    ensures by_index { (types : ℕ) → AllNamed types s.now (get_or index.now entry 0) → result.0 < types }
-{
-    let c = content_at(s, index, entry);
-    TypeId(num(s, c.start + 1 + 2 * i))
-}
-
-// The last of the parents.
-fn model(s: &[u8], index: &[u16; INDEX], entry: usize) -> Option<TypeId>
-    requires lt_index_size { entry < index_size }
-    requires columned { Columned s.now (get_or index.now entry 0) }
-    ensures result_value { model_of result ≡ last_of (symbol_of (field_in s.now (get_or index.now entry 0))).parents }
-    ensures by_index { (types : ℕ) → AllNamed types s.now (get_or index.now entry 0) → Named result types }
-{
-    let n = parents(s, index, entry);
-    if n == 0 {
-        return None;
+    // How many of them are parents.
+    #[tactic(auto, using(crate::proofs::Symbols::parents_counted))]
+    fn parents(self) -> usize
+        ensures { result ≡ length (symbol_in self.entry.bytes.now).parents }
+    {
+        usize::from(self.bytes[0])
     }
-    Some(parent(s, index, entry, n - 1))
+
+    // One of the parents.
+    fn parent(self, i: usize) -> TypeId
+        requires { i < length (symbol_in self.bytes.now).parents }
+        ensures value { result.0 ≡ get_or (symbol_in self.entry.bytes.now).parents i 0 }
+        ensures by_index { (types : ℕ) → AllNamed types self.entry.bytes.now → result.0 < types }
+    {
+        TypeId(number(&self.bytes[1..], i))
+    }
+
+    // The last of the parents.
+    fn model(self) -> Option<TypeId>
+        ensures value { model_of result ≡ last_of (symbol_in self.entry.bytes.now).parents }
+        ensures by_index { (types : ℕ) → AllNamed types self.entry.bytes.now → Named result types }
+    {
+        let n = self.parents();
+        if n == 0 {
+            return None;
+        }
+        Some(self.parent(n - 1))
+    }
 }
 
 // What a statement is about. Only here does a number become an id by a kind.
@@ -118,6 +110,13 @@ pub fn relation(kind: u8, number: u16) -> Relation
 }
 
 impl<'a> Signature<'a> {
+    // Its types are few and its arities small. This is said to proofs; nothing runs.
+    pub fn small_arities(&self)
+        ensures { SmallArities self.now }
+    {
+        let _ = &self.bytes;
+    }
+
     // How many types it has.
     pub fn types(&self) -> usize
         ensures { result ≡ length self.now.types }
@@ -125,24 +124,57 @@ impl<'a> Signature<'a> {
         self.counts.types
     }
 
+    // The content of a type's field: its parents.
+    fn type_content(&self, t: TypeId) -> &'a [u8]
+        requires { t.0 < length self.now.types }
+        ensures value { numbers result.now ≡ type_parents self.now t.0 }
+        ensures len_bound { length result.now < 65536 }
+        ensures all_named { named (length self.now.types) (numbers result.now) ≡ true }
+    {
+        content_at(self.bytes, self.index, TYPES_FROM + usize::from(t.0))
+    }
+
+    // The content of a predicate's field.
+    fn pred_content(&self, p: PredId) -> SymbolContent<'a>
+        requires { p.0 < length self.now.preds }
+        ensures value { symbol_in result.bytes.now ≡ pred_of self.now p.0 }
+        ensures all_named { AllNamed (length self.now.types) result.bytes.now }
+    {
+        SymbolContent {
+            bytes: content_at(self.bytes, self.index, PREDS_FROM + usize::from(p.0)),
+        }
+    }
+
+    // The content of a function's field.
+    fn func_content(&self, f: FuncId) -> SymbolContent<'a>
+        requires { f.0 < length self.now.funcs }
+        ensures value { symbol_in result.bytes.now ≡ func_of self.now f.0 }
+        ensures all_named { AllNamed (length self.now.types) result.bytes.now }
+        ensures has_result { 1 ≤ column_count (symbol_in result.bytes.now) }
+    {
+        SymbolContent {
+            bytes: content_at(self.bytes, self.index, FUNCS_FROM + usize::from(f.0)),
+        }
+    }
+
     // How many parents a type has.
+    #[tactic(auto, using(laws::proofs::Numbers::length_numbers))]
     pub fn type_parents(&self, t: TypeId) -> usize
         requires { t.0 < length self.now.types }
         ensures value { result ≡ length (type_parents self.now t.0) }
         ensures upper_bound { result < 65536 }
     {
-        let c = content_at(self.bytes, self.index, TYPES_FROM + usize::from(t.0));
-        c.len >> 1
+        self.type_content(t).len() >> 1
     }
 
     // One of them.
+    #[tactic(auto, unfolding(definition::specs::Records::number_at), using(laws::proofs::Numbers::length_numbers, crate::proofs::Symbols::named_below))]
     pub fn type_parent(&self, t: TypeId, i: usize) -> TypeId
         requires { (t.0 < length self.now.types) × (i < length (type_parents self.now t.0)) }
         ensures result_value { result.0 ≡ get_or (type_parents self.now t.0) i 0 }
         ensures result_lt_types { result.0 < length self.now.types }
     {
-        let c = content_at(self.bytes, self.index, TYPES_FROM + usize::from(t.0));
-        TypeId(num(self.bytes, c.start + 2 * i))
+        TypeId(number(self.type_content(t), i))
     }
 
     // Only a type with parents has a member relation.
@@ -171,7 +203,7 @@ impl<'a> Signature<'a> {
         requires { p.0 < length self.now.preds }
         ensures { result ≡ column_count (pred_of self.now p.0) }
     {
-        columns(self.bytes, self.index, PREDS_FROM + usize::from(p.0))
+        self.pred_content(p).columns()
     }
 
     // How many of them are parents.
@@ -179,7 +211,7 @@ impl<'a> Signature<'a> {
         requires { p.0 < length self.now.preds }
         ensures { result ≡ length (pred_of self.now p.0).parents }
     {
-        parents(self.bytes, self.index, PREDS_FROM + usize::from(p.0))
+        self.pred_content(p).parents()
     }
 
     // The last of the parents.
@@ -188,7 +220,7 @@ impl<'a> Signature<'a> {
         ensures result_value { model_of result ≡ last_of (pred_of self.now p.0).parents }
         ensures named { Named result (length self.now.types) }
     {
-        model(self.bytes, self.index, PREDS_FROM + usize::from(p.0))
+        self.pred_content(p).model()
     }
 
     // How many columns a function has; the last is its result.
@@ -197,7 +229,7 @@ impl<'a> Signature<'a> {
         ensures value { result ≡ column_count (func_of self.now f.0) }
         ensures has_result { 1 ≤ result }
     {
-        columns(self.bytes, self.index, FUNCS_FROM + usize::from(f.0))
+        self.func_content(f).columns()
     }
 
     // How many of them are parents.
@@ -205,7 +237,7 @@ impl<'a> Signature<'a> {
         requires { f.0 < length self.now.funcs }
         ensures { result ≡ length (func_of self.now f.0).parents }
     {
-        parents(self.bytes, self.index, FUNCS_FROM + usize::from(f.0))
+        self.func_content(f).parents()
     }
 
     // The columns without the result.
@@ -222,7 +254,7 @@ impl<'a> Signature<'a> {
         ensures result_value { model_of result ≡ last_of (func_of self.now f.0).parents }
         ensures named { Named result (length self.now.types) }
     {
-        model(self.bytes, self.index, FUNCS_FROM + usize::from(f.0))
+        self.func_content(f).model()
     }
 
     // Does it have what a statement is about?

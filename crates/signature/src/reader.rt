@@ -1,36 +1,35 @@
 // Reading a signature: the part before the first field that draws 2, then the faults of its fields, letter by letter.
-ghost use Rattle.std.specs.Prelude.{◌≡◌, ◌+◌, ◌≤◌, ◌<◌, length};
-ghost use Rattle.definition.specs.Letters.{letter_t};
+ghost use Rattle.std.specs.Prelude.{◌≡◌, ◌+◌, ◌≤◌, length};
 ghost use Rattle.definition.specs.Limits.{symbol_limit, signature_bytes};
-ghost use Rattle.definition.specs.Records.{follows, with_letter};
-ghost use Rattle.definition.specs.Signature.{signature_grammar, signature_part, read_signature};
+ghost use Rattle.definition.specs.Records.{follows};
+ghost use Rattle.definition.specs.Signature.{signature_grammar, read_signature};
 ghost use Rattle.records.specs.Refusals.{outcome};
-ghost use Rattle.records.specs.Places.{Parted};
-ghost use Rattle.signature.specs.Answers.{ChecksUpTo, Stored};
+ghost use Rattle.records.specs.Iter.{EndOf, rest_of, fields_left};
+ghost use Rattle.signature.specs.Answers.{Passes, ChecksUpTo, Stored};
+ghost use Rattle.signature.specs.Faults.{letter_of};
 ghost use Rattle.signature.specs.Index.{index_size};
 
 use crate::faults::field_fault;
 use crate::ids::{
     Counts, FUNCS_FROM, INDEX, LETTER_F, LETTER_P, LETTER_T, PREDS_FROM, SIGNATURE_BYTES, START,
-    TYPES_FROM,
+    SymbolKind, TYPES_FROM,
 };
 use crate::lookup::Signature;
-use records::fields::{Field, read_field};
+use records::iter::Fields;
 use records::refusal::Refusal;
 
-// Where the part before the first field that draws 2 ends, whether it is the whole record, and how many T stand in it.
+// The part before the first field that draws 2, and how many T stand in it.
 #[derive(Clone, Copy)]
-struct Passed {
-    end: usize,
-    whole: bool,
+struct Passed<'a> {
+    part: &'a [u8],
     types: usize,
 }
 
-// The fields of one letter: how many there are and where the next letter's begin.
+// The fields of one letter: how many there are, and those behind them.
 #[derive(Clone, Copy)]
-struct Checked {
+struct Checked<'a> {
     count: usize,
-    next: usize,
+    behind: Fields<'a>,
 }
 
 // May a field of a letter stand directly behind one of another?
@@ -47,73 +46,59 @@ fn may_follow(behind: u8, letter: u8) -> bool
 }
 
 // The pass along the letters. Every T of the part can be named, also one with a fault or past a limit, so they are counted here.
-fn pass(s: &[u8]) -> Passed
-    ensures parted { Parted s.now (signature_part s.now) result.end result.whole }
-    ensures types_value { result.types ≡ length (with_letter letter_t (signature_part s.now).fields) }
+// Nothing is required, so any letter may be the last: the part is the whole record where nothing is left.
+fn pass(s: &[u8]) -> Passed<'_>
+    ensures { Passes s.now result.part.now result.types }
 {
-    let mut at: usize = 0;
+    let mut fields = Fields::new(s);
+    let mut left = s;
     let mut behind = START;
     let mut types: usize = 0;
-    while at < s.len() {
-        let Some(Field { letter, next, .. }) = read_field(s, at) else {
-            return Passed {
-                end: at,
-                whole: false,
-                types,
-            };
-        };
-        if !may_follow(behind, letter) {
-            return Passed {
-                end: at,
-                whole: false,
-                types,
-            };
+    while let Some(field) = fields.next() {
+        if !may_follow(behind, field.letter) {
+            break;
         }
-        if letter == LETTER_T {
+        if field.letter == LETTER_T {
             types += 1;
         }
-        behind = letter;
-        at = next;
+        behind = field.letter;
+        left = fields.rest();
     }
-    // Nothing is required, so any letter may be the last.
-    Passed {
-        end: at,
-        whole: true,
-        types,
-    }
+    let (part, _) = s.split_at(s.len() - left.len());
+    Passed { part, types }
 }
 
-// The faults of the fields of one letter, front to back; their positions go into the index, from an entry on.
+// The faults of the fields that declare symbols of a kind, front to back; their positions go into the index, from an entry on.
 // The pass made sure that T stand before P and P before F, so the fields of a letter end at the first of another letter,
-// and letter by letter is front to back in all. The pass has read every field, so none is bad.
+// and letter by letter is front to back in all.
 // The index is lent as a slice, since that tells its length: then nothing asks that it be cleared first.
-fn check(
-    s: &[u8],
-    begin: usize,
-    end: usize,
-    letter: u8,
+fn check<'a>(
+    part: &'a [u8],
+    left: Fields<'a>,
+    kind: SymbolKind,
     types: usize,
     index: &mut [u16],
     from: usize,
-) -> Result<Checked, Refusal>
-    requires end_in_bounds { (end ≤ length s.now) × (length s.now ≤ signature_bytes) }
+) -> Result<Checked<'a>, Refusal>
+    requires end_of { EndOf part.now (rest_of left) }
+    requires few_bytes { length part.now ≤ signature_bytes }
     requires symbol_limit_bound { (from + symbol_limit ≤ index_size) × (length index.old ≡ index_size) }
-    ensures checks_up_to { ChecksUpTo result s.now index.new letter types from begin end }
-    ensures stored { Stored result s.now index.old index.new letter types from }
+    ensures checks_up_to { ChecksUpTo result part.now index.new (letter_of kind) types from (fields_left left.entry) }
+    ensures stored { Stored result part.now index.old index.new (letter_of kind) types from }
 {
-    let mut at = begin;
+    let mut fields = left;
+    let mut behind = left;
     let mut count: usize = 0;
-    while at < end {
-        let f = read_field(s, at).ok_or(Refusal::BadFields)?;
-        if f.letter != letter {
-            return Ok(Checked { count, next: at });
+    while let Some(field) = fields.next() {
+        if field.letter != kind.letter() {
+            break;
         }
-        field_fault(s, letter, f.start, f.len, types, count)?;
-        index[from + count] = at as u16;
+        field_fault(kind, field.content, types, count)?;
+        index[from + count] = (part.len() - behind.rest().len()) as u16;
         count += 1;
-        at = f.next;
+        behind = fields;
     }
-    Ok(Checked { count, next: at })
+    Ok(Checked { count, behind })
 }
 
 // The signature, or why it is refused. The index is lent for as long as the signature is used.
@@ -126,16 +111,31 @@ pub fn read_signature<'a>(
     if SIGNATURE_BYTES < s.len() {
         return Err(Refusal::TooLong);
     }
-    let p = pass(s);
-    let t = check(s, 0, p.end, LETTER_T, p.types, index, TYPES_FROM)?;
-    let q = check(s, t.next, p.end, LETTER_P, t.count, index, PREDS_FROM)?;
-    let f = check(s, q.next, p.end, LETTER_F, t.count, index, FUNCS_FROM)?;
-    if !p.whole {
+    let Passed { part, types } = pass(s);
+    let all = Fields::new(part);
+    let t = check(part, all, SymbolKind::Type, types, index, TYPES_FROM)?;
+    let p = check(
+        part,
+        t.behind,
+        SymbolKind::Predicate,
+        types,
+        index,
+        PREDS_FROM,
+    )?;
+    let f = check(
+        part,
+        p.behind,
+        SymbolKind::Function,
+        types,
+        index,
+        FUNCS_FROM,
+    )?;
+    if part.len() != s.len() {
         return Err(Refusal::BadFields);
     }
     let counts = Counts {
-        types: t.count,
-        preds: q.count,
+        types,
+        preds: p.count,
         funcs: f.count,
     };
     Ok(Signature {

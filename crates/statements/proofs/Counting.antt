@@ -7,35 +7,33 @@ use mathlib.Core.Bool.{Bool, true, false}
 use mathlib.Core.List.{List, [], ◌∷◌}
 use mathlib.Core.Path.{◌≡◌, refl, sym, ◌∙◌, ap}
 use lib.Dec.{eqb}
-use lib.ListN.{length, drop, length-append, drop_of_length-le}
+use lib.ListN.{length, get_or, drop, length-append, drop_of_length-le}
 use borrow.Author.Tests.{eq-eqb, ne_eqb}
 use Rattle.definition.specs.Base.{pick, cons_if, keep, each, empty}
-use Rattle.definition.specs.Letters.{member}
+use Rattle.definition.specs.Kinds.{Side, variable_in}
+use Rattle.definition.specs.Names.{numbers_of}
 use Rattle.definition.specs.Rows.{member_row, row_before, insert_row, sort_rows, members, row_statement}
-use Rattle.definition.specs.Rule.{Structure, Row}
+use Rattle.definition.specs.Rule.{Structure, Element, Row}
 use Rattle.definition.specs.Writer.{statement_field, field_bytes}
+use Rattle.flags.specs.Flags.{flag_at, none_set}
+use Rattle.flags.specs.declared.Mask.{Mask}
+use Rattle.group.proofs.Writing.{statement_long}
 use Rattle.laws.proofs.ByteForm.{statements_append}
 use Rattle.laws.proofs.Lists.{length_each}
+use Rattle.laws.specs.Bytes.{statement_bytes}
 use Rattle.records.specs.Buffer.{Put, capped, count_limit}
 use Rattle.records.proofs.Tail.{nothing, counted}
-use Rattle.rule.specs.Elements.{count_at}
-use Rattle.rule.specs.ElementFields.{element_in, element_from, Within}
 use Rattle.rows.specs.Members.{member_in}
-use Rattle.rule.specs.declared.elements.Element as read
-use Rattle.flags.specs.declared.Mask.{Mask}
-use Rattle.flags.specs.Flags.{flag_at, none_set}
-use Rattle.rule.specs.Structures.{structure_in, Stands}
-use Rattle.naming.specs.Variables.{variables_in}
-use Rattle.naming.proofs.Placed.{elements_are}
 use Rattle.rule.specs.Rows.{member_rows}
-use Rattle.laws.specs.Bytes.{statement_bytes}
-use Rattle.statements.specs.Said.{flagged, member_flag, said_by}
-use Rattle.statements.specs.Parts.{variable_by, chosen_statements, preds_by, funcs_by, members_said, types_said, element_statement, type_set_of}
+use Rattle.rule.proofs.Finding.{Ascending}
+use Rattle.rule.specs.Views.{no_element}
 use Rattle.statements.specs.Equalities.{equality_of, equalities_among}
+use Rattle.statements.specs.Parts.{rows_said, members_said, types_said, type_set_of}
+use Rattle.statements.specs.Said.{flagged, member_flag, said_by}
 use Rattle.statements.specs.declared.masks.Masks.{Masks}
-use Rattle.group.proofs.Writing.{statement_long}
-use Rattle.statements.proofs.Elements.{statements_cons, statements_none, own_flag, parents_count, element_many, type_said, type_unsaid}
-use Rattle.statements.proofs.Elements.{in_place, elements_left, types_from, types_on, types_pass, types_end}
+use Rattle.statements.specs.declared.masks.SaidAs.TheVariants.{Predicates, Functions}
+use Rattle.statements.proofs.Bytes.{statements_cons, statements_none}
+use Rattle.statements.proofs.Elements.{own_flag, elements_left, empty_is, member_many, type_said, type_unsaid, types_from, types_on, types_pass, types_end}
 use Rattle.statements.proofs.Unsaid.{unsaid, members_none, types_none}
 use Rattle.statements.proofs.Whole.{apps_parts, said_parts}
 
@@ -101,111 +99,107 @@ sort_size p (r ∷ rows) = insert_size p r (sort_rows rows) ∙ ap (λ (n : ℕ)
 abbrev members_left : Structure → Mask → ℕ → ℕ
 members_left st mask i = rows_size (member_flag st mask) (member_rows (drop i st.elements))
 
-abbrev types_left : ℕ → Structure → List ℕ → Mask → ℕ → ℕ
-types_left letter st row mask i = length (types_from letter (variable_by st row) mask st.elements i)
+abbrev types_left : ℕ → (ℕ → ℕ) → Structure → Mask → ℕ → ℕ
+types_left letter variable st mask i = length (types_from letter variable mask st.elements i)
 
-unfoldable pub elements_size : ℕ → Structure → List ℕ → Mask → Mask → ℕ → ℕ
-elements_size letter st row members free i = members_left st members i + types_left letter st row free i
+unfoldable pub elements_size : ℕ → (ℕ → ℕ) → Structure → Mask → Mask → ℕ → ℕ
+elements_size letter variable st members free i = members_left st members i + types_left letter variable st free i
 
--- From the first place on these are the member rows in their order and the TypeSets.
-pub elements_all : (letter : ℕ) (st : Structure) (row : List ℕ) (members free : Mask)
-    → elements_size letter st row members free 0
-    ≡ length (statement_bytes letter (members_said st row members)) + length (statement_bytes letter (types_said st row (flagged free st.elements)))
-unfolding elements_size member_rows types_from members
-elements_all letter st row mask free =
-    let a = rows_size_lem letter (variable_by st row) (member_flag st mask) (sort_rows (member_rows st.elements)) in
-    let b = sort_size (member_flag st mask) (member_rows st.elements) in
-    omega arith
+module _ (letter : ℕ) (side : Side) (mask free : Mask) where
+  abbrev both : ℕ
+  both = length (statement_bytes letter (members_said side mask)) + length (statement_bytes letter (types_said side (flagged free side.structure.elements)))
 
--- Where no flag is set nothing is counted.
-pub elements_unsaid : (letter : ℕ) (st : Structure) (row : List ℕ) (members free : Mask) {from : ℕ}
-    → none_set members ≡ true → none_set free ≡ true → from ≤ count_limit
-    → from ≡ capped (from +
-    (length (statement_bytes letter (members_said st row members)) + length (statement_bytes letter (types_said st row (flagged free st.elements)))))
-elements_unsaid letter st row members free m f h =
-    let a = (unsaid [] letter (members_none st row members m) h).size in
-    let b = (unsaid [] letter (types_none st row free f st.elements) h).size in
-    omega arith
+  -- From the first place on these are the member rows in their order and the TypeSets.
+  pub elements_all : elements_size letter (variable_in side) side.structure mask free 0 ≡ both
+  unfolding elements_size member_rows types_from members
+  elements_all =
+      let a = rows_size_lem letter (variable_in side) (member_flag side.structure mask) (sort_rows (member_rows side.structure.elements)) in
+      let b = sort_size (member_flag side.structure mask) (member_rows side.structure.elements) in
+      omega arith
 
--- There are no parents where their number is 0.
-empty_is : (ps : List ℕ) → empty ps ≡ eqb (length ps) 0
-empty_is [] = refl
-empty_is (p ∷ ps) = sym (ne_eqb (length (p ∷ ps)) 0 (λ e. omega arith))
+  -- Where no flag is set nothing is counted.
+  pub elements_unsaid : {from : ℕ} → none_set mask ≡ true → none_set free ≡ true → from ≤ count_limit → from ≡ capped (from + both)
+  elements_unsaid m f h =
+      let a = (unsaid [] letter (members_none side mask m) h).size in
+      let b = (unsaid [] letter (types_none side free f side.structure.elements) h).size in
+      omega arith
+
+-- A member row has a column for each parent and one for the element.
+columns : (d : Element) {n : ℕ} → n ≡ length d.parents → length (member_row d).elements ≡ n + 1
+unfolding member_row
+columns d q = rw (length-append, q)
 
 -- A loop along the elements.
-module _ {s index : List ℕ} {k : ℕ} (w : Stands s index k) (letter : ℕ) (row : List ℕ) (members free : Mask) {count i : ℕ} (c : count ≡ count_at index k) where
-  pub elements_end : count ≤ i → elements_size letter (structure_in s k) row members free i ≡ 0
+module _ (st : Structure) (up : Ascending (numbers_of st)) (letter : ℕ) (variable : ℕ → ℕ) (members free : Mask) (i : ℕ) where
+  pub elements_end : length st.elements ≤ i → elements_size letter variable st members free i ≡ 0
   unfolding elements_size member_rows keep each rows_size
-  elements_end h =
-      let n = elements_are w.at.laid in
-      rw (types_end w letter row free c h, drop_of_length-le (structure_in s k).elements {i = i} (omega arith))
+  elements_end h = rw (types_end letter variable free st.elements i h, drop_of_length-le st.elements h)
 
-  module _ (h : i < count) {e : read.Element} (q : element_from s e ≡ element_in s index k i) (b : Within s e) where
-    -- It has so many parents.
-    many : length (element_in s index k i).parents ≡ e.parents
-    many = parents_count w (in_place w c h) q b
+  module _ (h : i < length st.elements) {d : Element} (q : d ≡ get_or st.elements i no_element) {n : ℕ} (m : n ≡ length d.parents) where
+    left : drop i st.elements ≡ d ∷ drop (i + 1) st.elements
+    left = rw q (elements_left st up h)
 
-    without : empty (element_in s index k i).parents ≡ eqb e.parents 0
-    without = empty_is (element_in s index k i).parents ∙ ap (λ (n : ℕ). eqb n 0) many
+    without : empty d.parents ≡ eqb n 0
+    without = rw m (empty_is d.parents)
+
+    flag_is : member_flag st members (member_row d) ≡ flag_at members i
+    unfolding member_in
+    flag_is = rw q (own_flag st up h members)
 
     -- Without parents it is no member row, and with parents it has no TypeSet.
-    no_member : e.parents ≡ 0 → members_left (structure_in s k) members i ≡ members_left (structure_in s k) members (i + 1)
+    no_member : n ≡ 0 → members_left st members i ≡ members_left st members (i + 1)
     unfolding member_rows keep
-    no_member z = rw (elements_left w c h, without, eq-eqb _ _ z)
+    no_member z = rw (left, without, eq-eqb _ _ z)
 
-    member_left : (e.parents ≡ 0 → ⊥)
-        → members_left (structure_in s k) members i ≡ pick (flag_at members i) (6 + 2 * (e.parents + 1)) 0 + members_left (structure_in s k) members (i + 1)
-    unfolding member_rows keep each rows_size member_in member_row
+    member_left : (n ≡ 0 → ⊥) → members_left st members i ≡ pick (flag_at members i) (6 + 2 * (n + 1)) 0 + members_left st members (i + 1)
+    unfolding member_rows keep each rows_size
     member_left z =
-        let f = own_flag w (in_place w c h) members in
-        rw (elements_left w c h, without, ne_eqb _ _ z, f, length-append, many)
+        let l : length (member_row d).elements ≡ n + 1 = columns d m in
+        rw (left, without, ne_eqb _ _ z, flag_is, l)
 
-    no_type : (e.parents ≡ 0 → ⊥) → types_left letter (structure_in s k) row free i ≡ types_left letter (structure_in s k) row free (i + 1)
+    no_type : (n ≡ 0 → ⊥) → types_left letter variable st free i ≡ types_left letter variable st free (i + 1)
     no_type z = go (flag_at free i) refl
       where
-        go : (x : Bool) → flag_at free i ≡ x → types_left letter (structure_in s k) row free i ≡ types_left letter (structure_in s k) row free (i + 1)
-        go true f = rw (types_on w letter row free c h f, ← (type_unsaid w (in_place w c h) q b letter row z))
-        go false f = rw (types_pass w letter row free c h f)
+        go : (b : Bool) → flag_at free i ≡ b → types_left letter variable st free i ≡ types_left letter variable st free (i + 1)
+        go true f = rw (types_on letter variable free st.elements i left f, ← (type_unsaid variable d letter (λ e. z (m ∙ e))))
+        go false f = rw (types_pass letter variable free st.elements i left f)
 
-    type_left : e.parents ≡ 0 → flag_at free i ≡ true
-        → types_left letter (structure_in s k) row free i ≡ 8 + types_left letter (structure_in s k) row free (i + 1)
+    type_left : n ≡ 0 → flag_at free i ≡ true → types_left letter variable st free i ≡ 8 + types_left letter variable st free (i + 1)
     unfolding type_set_of
-    type_left z f = rw (types_on w letter row free c h f, type_said w (in_place w c h) q b letter row z, length-append, statement_long)
+    type_left z f = rw (types_on letter variable free st.elements i left f, type_said variable d letter refl (sym m ∙ z), length-append, statement_long)
 
     -- It counts where the flag is set by which it goes: a TypeSet is as long as a member row of one variable.
-    pub element_on : flag_at (pick (eqb e.parents 0) free members) i ≡ true → elements_size letter (structure_in s k) row members free i
-        ≡ length (field_bytes (statement_field letter (element_statement (variable_by (structure_in s k) row) member (element_in s index k i)))) + elements_size
-        letter (structure_in s k) row members free (i + 1)
+    pub element_on : flag_at (pick (eqb n 0) free members) i ≡ true → elements_size letter variable st members free i
+        ≡ length (field_bytes (statement_field letter (row_statement variable (member_row d)))) + elements_size letter variable st members free (i + 1)
     unfolding elements_size
     element_on f =
-        let a = statement_long letter (element_statement (variable_by (structure_in s k) row) member (element_in s index k i)) in
-        let n = element_many w (in_place w c h) q b row member in
-        let g = go (ℕ_discrete e.parents 0) in omega arith
+        let a = statement_long letter (row_statement variable (member_row d)) in
+        let k = member_many variable d m in
+        let g = go (ℕ_discrete n 0) in omega arith
       where
-        go : Dec (e.parents ≡ 0) → members_left (structure_in s k) members i + types_left letter (structure_in s k) row free i
-            ≡ (6 + 2 * (e.parents + 1)) + (members_left (structure_in s k) members (i + 1) + types_left letter (structure_in s k) row free (i + 1))
-        go (yes z) = let m = no_member z in let t = type_left z (rw (eq-eqb _ _ z) at f) in omega arith
-        go (no z) = let m = rw (rw (ne_eqb _ _ z) at f) at (member_left z) in let t = no_type z in omega arith
+        go : Dec (n ≡ 0) → members_left st members i + types_left letter variable st free i
+            ≡ (6 + 2 * (n + 1)) + (members_left st members (i + 1) + types_left letter variable st free (i + 1))
+        go (yes z) = let a = no_member z in let t = type_left z (rw (eq-eqb _ _ z) at f) in omega arith
+        go (no z) = let a = rw (rw (ne_eqb _ _ z) at f) at (member_left z) in let t = no_type z in omega arith
 
-    pub element_pass : flag_at (pick (eqb e.parents 0) free members) i ≡ false
-        → elements_size letter (structure_in s k) row members free i ≡ elements_size letter (structure_in s k) row members free (i + 1)
+    pub element_pass : flag_at (pick (eqb n 0) free members) i ≡ false
+        → elements_size letter variable st members free i ≡ elements_size letter variable st members free (i + 1)
     unfolding elements_size
-    element_pass f = go (ℕ_discrete e.parents 0)
+    element_pass f = go (ℕ_discrete n 0)
       where
-        go : Dec (e.parents ≡ 0)
-            → members_left (structure_in s k) members i + types_left letter (structure_in s k) row free i
-            ≡ members_left (structure_in s k) members (i + 1) + types_left letter (structure_in s k) row free (i + 1)
-        go (yes z) = rw (no_member z, types_pass w letter row free c h (rw (eq-eqb _ _ z) at f))
-        go (no z) = let m = rw (rw (ne_eqb _ _ z) at f) at (member_left z) in let t = no_type z in omega arith
+        go : Dec (n ≡ 0) → members_left st members i + types_left letter variable st free i
+            ≡ members_left st members (i + 1) + types_left letter variable st free (i + 1)
+        go (yes z) = rw (no_member z, types_pass letter variable free st.elements i left (rw (eq-eqb _ _ z) at f))
+        go (no z) = let a = rw (rw (ne_eqb _ _ z) at f) at (member_left z) in let t = no_type z in omega arith
 
 -- What a structure says, its parts counted one behind the other.
-pub said_counted : {s index : List ℕ} {k : ℕ} → Stands s index k → (letter : ℕ) (row : List ℕ) (masks : Masks) (from : ℕ) {p f r : ℕ}
-    → p ≡ capped (from + length (statement_bytes letter (chosen_statements (structure_in s k) row (preds_by masks.preds))))
-    → f ≡ capped (p + length (statement_bytes letter (chosen_statements (structure_in s k) row (funcs_by masks.funcs))))
-    → r ≡ capped (f + (length (statement_bytes letter (members_said (structure_in s k) row masks.members)) + length
-    (statement_bytes letter (types_said (structure_in s k) row (flagged masks.free (structure_in s k).elements)))))
-    → r ≡ capped (from + length (statement_bytes letter (said_by (structure_in s k) (variables_in (structure_in s k) row) masks)))
-said_counted w letter row masks from a b c = rw (said_parts, apps_parts w row letter masks, length-append, length-append, length-append) (omega arith)
+pub said_counted : (letter : ℕ) (side : Side) (masks : Masks) (from : ℕ) {p f r : ℕ}
+    → p ≡ capped (from + length (statement_bytes letter (rows_said side Predicates masks.preds)))
+    → f ≡ capped (p + length (statement_bytes letter (rows_said side Functions masks.funcs)))
+    → r ≡ capped (f + (length (statement_bytes letter (members_said side masks.members))
+    + length (statement_bytes letter (types_said side (flagged masks.free side.structure.elements)))))
+    → r ≡ capped (from + length (statement_bytes letter (said_by side.structure side.variables masks)))
+said_counted letter side masks from a b c = rw (said_parts, apps_parts letter side masks, length-append, length-append, length-append) (omega arith)
 
 -- The Equalities of a variable with later ones: 10 bytes each.
 later_long : (letter : ℕ) (types : List ℕ) (v : ℕ) (vs : List ℕ) → length (statement_bytes letter (each (equality_of types v) vs)) ≡ 10 * length vs

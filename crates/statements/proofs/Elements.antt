@@ -4,145 +4,111 @@ use native.Mathlib.Omega.{arith}
 use native.Mathlib.Numerals.{add-one}
 use mathlib.Core.Bool.{Bool, true, false}
 use mathlib.Core.List.{List, [], ◌∷◌, ◌++◌, append-nil}
+use mathlib.Core.Logic.{⊎_elim}
 use mathlib.Core.Path.{◌≡◌, refl, sym, ◌∙◌, ap}
+use lib.Dec.{eqb}
 use lib.ListN.{length, get_or, set, take, drop, length-append, drop_of_length-le}
 use lib.Seq.{drop-cons}
-use Rattle.definition.specs.Base.{cons_if, keep, each, joined, empty, ◌∈◌}
-use Rattle.definition.specs.Group.{Statement}
+use borrow.Author.Tests.{eq-eqb, ne_eqb}
+use Rattle.definition.specs.Base.{cons_if, keep, each, empty, place_from, ◌∈◌}
 use Rattle.definition.specs.Letters.{member, type_set}
-use Rattle.definition.specs.Rows.{member_row, sort_rows, members, row_statement, type_sets}
+use Rattle.definition.specs.Names.{numbers_of, variable_at}
+use Rattle.definition.specs.Rows.{member_row, members, row_statement, type_sets}
 use Rattle.definition.specs.Rule.{Structure, Element}
-use Rattle.definition.specs.Writer.{statement_field, field_bytes, record_bytes}
-use Rattle.laws.proofs.ByteForm.{statements_append}
-use Rattle.laws.proofs.Lists.{each_append, length_each, get_d_each, mem_at}
-use Rattle.rule.specs.Elements.{count_at, element_at, element_numbers, Finds}
-use Rattle.std.proofs.Common.{Some}
-use Rattle.rule.proofs.Finding.{search_found}
-use Rattle.rule.specs.ElementFields.{element_in, elements_in, element_from, Within}
-use Rattle.rows.specs.Members.{member_in, Below}
-use Rattle.rule.specs.declared.elements.Element as read
-use Rattle.records.proofs.Parts.{store_more}
-use Rattle.rule.proofs.ElementLaws.{no_element, element_is, parents_many, elements_on}
-use Rattle.rows.proofs.Kept.{members_are}
+use Rattle.definition.specs.Writer.{statement_field, field_bytes}
+use Rattle.flags.specs.Flags.{flag_at}
 use Rattle.flags.specs.declared.Mask.{Mask}
-use Rattle.flags.specs.Flags.{places, flag_at}
-use Rattle.rule.specs.Structures.{structure_in, Laid, Stands}
-use Rattle.naming.proofs.Placed.{elements_are, numbers_are, element_get}
-use Rattle.rule.specs.Rows.{member_rows}
-use Rattle.laws.specs.Bytes.{statement_bytes}
+use Rattle.laws.proofs.ByteForm.{statements_append}
+use Rattle.laws.proofs.Lists.{each_append, length_each, get_d_each, mem_at, trichotomy}
+use Rattle.laws.proofs.Numbering.{place_in}
 use Rattle.laws.proofs.RowLaws.{member_last}
+use Rattle.laws.specs.Bytes.{statement_bytes}
+use Rattle.records.proofs.Parts.{store_more}
+use Rattle.rows.proofs.Places.{numbers_many}
+use Rattle.rows.specs.Members.{member_in, Below}
+use Rattle.rule.proofs.Finding.{Ascending}
+use Rattle.rule.specs.Views.{no_element}
 use Rattle.statements.specs.Said.{flagged_from, member_flag}
-use Rattle.statements.specs.Parts.{variable_by, NamedIn, element_statement, type_set_of}
-use Rattle.statements.proofs.Variables.{variable_found}
+use Rattle.statements.specs.Parts.{type_set_of}
+use Rattle.statements.proofs.Bytes.{statements_cons, statements_none, flagged_on, flagged_pass, flagged_end}
 
--- One statement before others.
-pub statements_cons : (letter : ℕ) (x : Statement) (xs : List Statement)
-    → statement_bytes letter (x ∷ xs) ≡ field_bytes (statement_field letter x) ++ statement_bytes letter xs
-unfolding statement_bytes record_bytes joined each
-statements_cons letter x xs = refl
+-- The element at a place of an accepted structure.
+module _ (st : Structure) (up : Ascending (numbers_of st)) {i : ℕ} (h : i < length st.elements) where
+  abbrev own : Element
+  own = get_or st.elements i no_element
 
-pub statements_none : (letter : ℕ) → statement_bytes letter [] ≡ []
-unfolding statement_bytes record_bytes joined each
-statements_none letter = refl
+  number_is : get_or (numbers_of st) i 0 ≡ own.number
+  unfolding numbers_of
+  number_is = get_d_each (λ (e : Element). e.number) st.elements i no_element 0 h
 
--- A loop along a list with flags.
-module _ {A : Type 0} (mask : Mask) (xs : List A) (i : ℕ) {x : A} (e : drop i xs ≡ x ∷ drop (i + 1) xs) where
-  pub flagged_on : flag_at mask i ≡ true → flagged_from mask i (drop i xs) ≡ x ∷ flagged_from mask (i + 1) (drop (i + 1) xs)
-  unfolding flagged_from
-  flagged_on f = rw (e, f)
+  -- Its number stands at its place alone.
+  place_own : place_from 0 own.number (numbers_of st) ≡ i
+  place_own =
+      let n = numbers_many st in
+      let m : own.number ∈ numbers_of st = rw (← number_is) (mem_at (numbers_of st) i 0 (omega arith)) in
+      let p = place_in own.number (numbers_of st) m in
+      let at : ℕ = place_from 0 own.number (numbers_of st) in
+      ⊎_elim (λ (a : at < i). let u = up at i a (omega arith) in absurd (omega (arith, p.1, number_is)))
+      (⊎_elim (λ (a : at ≡ i). a) (λ (a : i < at). let u = up i at a p.0 in absurd (omega (arith, p.1, number_is)))) (trichotomy at i)
 
-  pub flagged_pass : flag_at mask i ≡ false → flagged_from mask i (drop i xs) ≡ flagged_from mask (i + 1) (drop (i + 1) xs)
-  unfolding flagged_from
-  flagged_pass f = rw (e, f)
+  pub own_variable : (vars : List ℕ) → get_or vars i 0 ≡ variable_at st vars own.number
+  unfolding variable_at
+  own_variable vars = rw place_own
 
-flagged_end : {A : Type 0} (mask : Mask) (xs : List A) (i : ℕ) → length xs ≤ i → flagged_from mask i (drop i xs) ≡ []
-unfolding flagged_from
-flagged_end mask xs i h = rw (drop_of_length-le xs h)
-
--- The element at a place.
-module _ {s index : List ℕ} {k : ℕ} (w : Stands s index k) {i : ℕ} (h : i < count_at index k) where
-  abbrev l : Laid s index k
-  l = w.at.laid
-
-  abbrev st : Structure
-  st = structure_in s k
-
-  element_mem : element_in s index k i ∈ st.elements
-  element_mem = rw (← (element_get l i h)) (mem_at st.elements i no_element (rw (elements_are l) h))
-
-  found_own : Finds (Some i) (element_in s index k i).number (element_numbers s index k)
-  found_own = let e : element_at s index k i ≡ (element_in s index k i).number = ap (λ (x : Element). x.number) (element_is l.elements i h) in
-      search_found l.elements.elements _ i h e
-
-  own_variable : (row : List ℕ) → get_or row i 0 ≡ variable_by st row (element_in s index k i).number
-  own_variable row = variable_found l row found_own
-
-  pub own_flag : (mask : Mask) → member_flag st mask (member_in s index k i) ≡ flag_at mask i
+  pub own_flag : (mask : Mask) → member_flag st mask (member_in st i) ≡ flag_at mask i
   unfolding member_flag member_in
-  own_flag mask = rw (member_last (element_in s index k i), numbers_are l, ← found_own.is.0)
+  own_flag mask = rw (member_last own, place_own)
 
-  -- As it was read.
-  module _ {e : read.Element} (q : element_from s e ≡ element_in s index k i) (b : Within s e) where
-    pub parents_count : length (element_in s index k i).parents ≡ e.parents
-    parents_count = rw (← q) (parents_many b)
+  pub elements_left : drop i st.elements ≡ own ∷ drop (i + 1) st.elements
+  elements_left = rw (add-one, drop-cons st.elements i no_element)
 
-    module _ {ns : List ℕ} (p : ns ≡ (element_from s e).parents) where
-      parents_are : (element_in s index k i).parents ≡ ns
-      parents_are = sym (p ∙ ap (λ (x : Element). x.parents) q)
+-- The number of parents tells whether there are any.
+pub empty_is : (ps : List ℕ) → empty ps ≡ eqb (length ps) 0
+empty_is [] = refl
+empty_is (p ∷ ps) = sym (ne_eqb (length (p ∷ ps)) 0 (λ e. omega arith))
 
-      pub parents_named : NamedIn st ns
-      parents_named = record { named = λ x m. (w.at.sound.elements_sound (element_in s index k i) element_mem).parents_in x (rw parents_are m) }
+-- What is said of one element: its member row, and its TypeSet, if it has no parents.
+module _ (variable : ℕ → ℕ) (d : Element) where
+  pub member_many : {n : ℕ} → n ≡ length d.parents → length (row_statement variable (member_row d)).variables ≡ n + 1
+  unfolding row_statement member_row
+  member_many q = rw (length_each, length-append, q)
 
-      pub element_said : (row : List ℕ) (kind : ℕ) (vars : List ℕ) (n : ℕ) → n < length vars → take n vars ≡ each (variable_by st row) ns
-          → record { kind = kind; symbol = e.ty.0; variables = take (n + 1) (set vars n (get_or row i 0)) }
-          ≡ element_statement (variable_by st row) kind (element_in s index k i)
-      unfolding element_statement each
-      element_said row kind vars n few t =
-          let a : e.ty.0 ≡ (element_in s index k i).type = ap (λ (x : Element). x.type) q in
-          rw (store_more vars n (get_or row i 0) few, t, own_variable row, each_append, parents_are, a)
+  pub member_said : {v : ℕ} (vars : List ℕ) (n : ℕ) → v ≡ variable d.number → n < length vars → take n vars ≡ each variable d.parents
+      → record { kind = member; symbol = d.type; variables = take (n + 1) (set vars n v) } ≡ row_statement variable (member_row d)
+  unfolding row_statement member_row each
+  member_said {v} vars n q few t = rw (store_more vars n v few, t, q, each_append)
 
-    pub element_many : (row : List ℕ) (kind : ℕ) → length (element_statement (variable_by st row) kind (element_in s index k i)).variables ≡ e.parents + 1
-    unfolding element_statement
-    element_many row kind = rw (length_each, length-append, parents_count)
+  module _ (letter : ℕ) where
+    pub type_said : {v : ℕ} → v ≡ variable d.number → length d.parents ≡ 0
+        → statement_bytes letter (type_sets variable (d ∷ [])) ≡ field_bytes (statement_field letter (type_set_of d.type v))
+    unfolding type_sets keep each type_set_of
+    type_said q z = rw (q, empty_is d.parents, eq-eqb _ _ z) (rw (statements_cons, statements_none, append-nil) refl)
 
-    -- Its TypeSet, if it has no parents.
-    pub type_said : (letter : ℕ) (row : List ℕ) → e.parents ≡ 0
-        → statement_bytes letter (type_sets (variable_by st row) (element_in s index k i ∷ []))
-        ≡ field_bytes (statement_field letter (type_set_of e.ty.0 (get_or row i 0)))
-    unfolding type_sets keep each type_set_of statement_bytes record_bytes joined
-    type_said letter row z =
-        let a : e.ty.0 ≡ (element_in s index k i).type = ap (λ (x : Element). x.type) q in
-        rw (own_variable row, a) (go (element_in s index k i).parents (parents_count ∙ z))
-      where
-        go : (ps : List ℕ) → length ps ≡ 0
-            → joined field_bytes (each (statement_field letter)
-            (each (λ (x : Element). record { kind = type_set; symbol = x.type; variables = variable_by st row x.number ∷ [] })
-            (cons_if (empty ps) (element_in s index k i) [])))
-            ≡ field_bytes (statement_field letter
-            (record { kind = type_set; symbol = (element_in s index k i).type; variables = variable_by st row (element_in s index k i).number ∷ [] }))
-        go [] n = rw append-nil
-        go (p ∷ ps) n = absurd (omega arith)
+    pub type_unsaid : (length d.parents ≡ 0 → ⊥) → [] ≡ statement_bytes letter (type_sets variable (d ∷ []))
+    unfolding type_sets keep each
+    type_unsaid z = rw (empty_is d.parents, ne_eqb _ _ z) (sym (statements_none letter))
 
-    pub type_unsaid : (letter : ℕ) (row : List ℕ) → (e.parents ≡ 0 → ⊥)
-        → [] ≡ statement_bytes letter (type_sets (variable_by st row) (element_in s index k i ∷ []))
-    unfolding type_sets keep each statement_bytes record_bytes joined
-    type_unsaid letter row z = go (element_in s index k i).parents (λ n. z (sym parents_count ∙ n))
-      where
-        go : (ps : List ℕ) → (length ps ≡ 0 → ⊥)
-            → [] ≡ joined field_bytes
-            (each (statement_field letter)
-            (each (λ (x : Element). record { kind = type_set; symbol = x.type; variables = variable_by st row x.number ∷ [] })
-            (cons_if (empty ps) (element_in s index k i) [])))
-        go [] n = absurd (n refl)
-        go (p ∷ ps) n = refl
+-- The same of one that was read from its place.
+module _ (st : Structure) (up : Ascending (numbers_of st)) {i : ℕ} (h : i < length st.elements) {d : Element} (q : d ≡ get_or st.elements i no_element)
+    (vars : List ℕ) where
+  given_variable : get_or vars i 0 ≡ variable_at st vars d.number
+  given_variable = rw q (own_variable st up h vars)
 
--- A loop along the elements.
-module _ {s index : List ℕ} {k : ℕ} (w : Stands s index k) {count i : ℕ} (c : count ≡ count_at index k) (h : i < count) where
-  pub in_place : i < count_at index k
-  in_place = rw (← c) h
+  pub member_given : (others : List ℕ) (n : ℕ) → n < length others → take n others ≡ each (variable_at st vars) d.parents
+      → record { kind = member; symbol = d.type; variables = take (n + 1) (set others n (get_or vars i 0)) }
+      ≡ row_statement (variable_at st vars) (member_in st i)
+  unfolding member_in
+  member_given others n few t = rw (← q) (member_said (variable_at st vars) d others n given_variable few t)
 
-  pub elements_left : drop i (structure_in s k).elements ≡ element_in s index k i ∷ drop (i + 1) (structure_in s k).elements
-  elements_left = rw w.at.laid.same (elements_on s index k i in_place)
+  module _ (letter : ℕ) where
+    pub type_given : length d.parents ≡ 0
+        → statement_bytes letter (type_sets (variable_at st vars) (get_or st.elements i no_element ∷ []))
+        ≡ field_bytes (statement_field letter (type_set_of d.type (get_or vars i 0)))
+    type_given z = rw (← q) (type_said (variable_at st vars) d letter given_variable z)
+
+    pub type_ungiven : (length d.parents ≡ 0 → ⊥)
+        → [] ≡ statement_bytes letter (type_sets (variable_at st vars) (get_or st.elements i no_element ∷ []))
+    type_ungiven z = rw (← q) (type_unsaid (variable_at st vars) d letter z)
 
 -- The TypeSets of the flagged elements, from a place on.
 unfoldable pub types_from : ℕ → (ℕ → ℕ) → Mask → List Element → ℕ → List ℕ
@@ -158,63 +124,51 @@ types_cons variable e es = go (empty e.parents)
     go true = refl
     go false = refl
 
-module _ {s index : List ℕ} {k : ℕ} (w : Stands s index k) (letter : ℕ) (row : List ℕ) (mask : Mask) {count i : ℕ} (c : count ≡ count_at index k) where
-  module _ (h : i < count) where
-    pub types_on : flag_at mask i ≡ true → types_from letter (variable_by (structure_in s k) row) mask (structure_in s k).elements i
-        ≡ statement_bytes letter (type_sets (variable_by (structure_in s k) row) (element_in s index k i ∷ [])) ++ types_from letter
-        (variable_by (structure_in s k) row) mask (structure_in s k).elements (i + 1)
+module _ (letter : ℕ) (variable : ℕ → ℕ) (mask : Mask) (els : List Element) (i : ℕ) where
+  module _ {d : Element} (e : drop i els ≡ d ∷ drop (i + 1) els) where
+    pub types_on : flag_at mask i ≡ true
+        → types_from letter variable mask els i ≡ statement_bytes letter (type_sets variable (d ∷ [])) ++ types_from letter variable mask els (i + 1)
     unfolding types_from
-    types_on f = rw (flagged_on mask (structure_in s k).elements i (elements_left w c h) f, types_cons _ (element_in s index k i), statements_append)
+    types_on f = rw (flagged_on e mask i f, types_cons _ d, statements_append)
 
-    pub types_pass : flag_at mask i ≡ false → types_from letter (variable_by (structure_in s k) row) mask (structure_in s k).elements i
-        ≡ types_from letter (variable_by (structure_in s k) row) mask (structure_in s k).elements (i + 1)
+    pub types_pass : flag_at mask i ≡ false → types_from letter variable mask els i ≡ types_from letter variable mask els (i + 1)
     unfolding types_from
-    types_pass f = rw (flagged_pass mask (structure_in s k).elements i (elements_left w c h) f)
+    types_pass f = rw (flagged_pass e mask i f)
 
-  pub types_end : count ≤ i → types_from letter (variable_by (structure_in s k) row) mask (structure_in s k).elements i ≡ []
-  unfolding types_from type_sets keep each statement_bytes record_bytes joined
-  types_end h = let n = elements_are w.at.laid in rw (flagged_end mask (structure_in s k).elements i (omega arith))
+  pub types_end : length els ≤ i → types_from letter variable mask els i ≡ []
+  unfolding types_from type_sets keep each
+  types_end h = rw (flagged_end mask i (drop_of_length-le els h)) (statements_none letter)
 
 -- The flagged member rows, from a place of their order on.
-unfoldable pub members_from : ℕ → Structure → List ℕ → Mask → ℕ → List ℕ
-members_from letter st row mask n = statement_bytes letter (each (row_statement (variable_by st row)) (keep (member_flag st mask) (drop n (members st))))
+unfoldable pub members_from : ℕ → Structure → (ℕ → ℕ) → Mask → ℕ → List ℕ
+members_from letter st variable mask n = statement_bytes letter (each (row_statement variable) (keep (member_flag st mask) (drop n (members st))))
 
 -- The places of the member rows' elements, in the rows' order; the n-th of them.
-module _ {s index : List ℕ} {k : ℕ} (w : Stands s index k) {order : List ℕ} (below : Below (count_at index k) order) {n i : ℕ}
-    (h : n < length order) (q : i ≡ get_or order n 0) where
-  pub order_below : i < count_at index k
-  order_below = rw q (below.each_below (get_or order n 0) (mem_at order n 0 h))
+pub order_below : {count : ℕ} {order : List ℕ} → Below count order → {n i : ℕ} → n < length order → i ≡ get_or order n 0 → i < count
+order_below below {n} h q = rw q (below.each_below _ (mem_at _ n 0 h))
 
-  pub order_few : i < places
-  order_few = let f = w.at.laid.elements.elements.few in let b = order_below in omega arith
+module _ (st : Structure) (up : Ascending (numbers_of st)) (letter : ℕ) (variable : ℕ → ℕ) (mask : Mask) (order : List ℕ)
+    (sorted : each (member_in st) order ≡ members st) where
+  many : length (members st) ≡ length order
+  many = ap length (sym sorted) ∙ length_each (member_in st) order
 
-module _ {s index : List ℕ} {k : ℕ} (w : Stands s index k) (letter : ℕ) (row : List ℕ) (mask : Mask) (order : List ℕ)
-    (sorted : each (member_in s index k) order ≡ sort_rows (member_rows (elements_in s index k))) where
-  in_order : members (structure_in s k) ≡ each (member_in s index k) order
-  in_order = members_are s index k (structure_in s k) w.at.laid.same ∙ sym sorted
+  pub members_end : {n : ℕ} → length order ≤ n → members_from letter st variable mask n ≡ []
+  unfolding members_from keep each
+  members_end {n} h = let z = many in rw (drop_of_length-le (members st) {i = n} (omega arith)) (statements_none letter)
 
-  many : length (members (structure_in s k)) ≡ length order
-  many = ap length in_order ∙ length_each (member_in s index k) order
-
-  pub members_end : {n : ℕ} → length order ≤ n → members_from letter (structure_in s k) row mask n ≡ []
-  unfolding members_from keep each statement_bytes record_bytes joined
-  members_end {n} h = let z = many in rw (drop_of_length-le (members (structure_in s k)) {i = n} (omega arith))
-
-  module _ (below : Below (count_at index k) order) {n : ℕ} (h : n < length order) {i : ℕ} (q : i ≡ get_or order n 0) where
-    left : drop n (members (structure_in s k)) ≡ member_in s index k i ∷ drop (n + 1) (members (structure_in s k))
+  module _ (below : Below (length st.elements) order) {n : ℕ} (h : n < length order) {i : ℕ} (q : i ≡ get_or order n 0) where
+    left : drop n (members st) ≡ member_in st i ∷ drop (n + 1) (members st)
     left =
-        let g : get_or (members (structure_in s k)) n (member_in s index k 0) ≡ member_in s index k i
-        = rw (in_order, q) (get_d_each (member_in s index k) order n 0 (member_in s index k 0) h) in
+        let g : get_or (members st) n (member_in st 0) ≡ member_in st i
+        = rw (← sorted, q) (get_d_each (member_in st) order n 0 (member_in st 0) h) in
         let m = many in
-        rw (add-one, ← g) (drop-cons (members (structure_in s k)) n (member_in s index k 0) (omega arith))
+        rw (add-one, ← g) (drop-cons (members st) n (member_in st 0) (omega arith))
 
-    pub members_on : flag_at mask i ≡ true → members_from letter (structure_in s k) row mask n
-        ≡ field_bytes (statement_field letter (element_statement (variable_by (structure_in s k) row) member (element_in s index k i)))
-        ++ members_from letter (structure_in s k) row mask (n + 1)
-    unfolding members_from keep each row_statement member_in member_row element_statement
-    members_on f = rw (left, own_flag w (order_below w below h q) mask, f) (statements_cons letter _ _)
+    pub members_on : flag_at mask i ≡ true → members_from letter st variable mask n
+        ≡ field_bytes (statement_field letter (row_statement variable (member_in st i))) ++ members_from letter st variable mask (n + 1)
+    unfolding members_from keep each
+    members_on f = rw (left, own_flag st up (order_below below h q) mask, f) (statements_cons letter _ _)
 
-    pub members_pass : flag_at mask i ≡ false
-        → members_from letter (structure_in s k) row mask n ≡ members_from letter (structure_in s k) row mask (n + 1)
+    pub members_pass : flag_at mask i ≡ false → members_from letter st variable mask n ≡ members_from letter st variable mask (n + 1)
     unfolding members_from keep
-    members_pass f = rw (left, own_flag w (order_below w below h q) mask, f)
+    members_pass f = rw (left, own_flag st up (order_below below h q) mask, f)

@@ -1,7 +1,8 @@
 pub mod Variables
-pub mod Elements
+pub mod Bytes
 pub mod Unsaid
 pub mod Rows
+pub mod Elements
 pub mod Whole
 pub mod Counting
 pub mod Fibers

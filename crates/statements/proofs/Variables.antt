@@ -1,48 +1,63 @@
 -- The variables of elements.
 use Prim.Native.Nat.{ℕ, ◌+◌, ◌≤◌, ◌<◌}
 use native.Mathlib.Omega.{arith}
-use mathlib.Core.List.{List, [], ◌++◌}
-use mathlib.Core.Path.{◌≡◌, sym, ◌∙◌}
-use lib.ListN.{length, get_or}
-use lib.Seq.{get_or-take}
-use Rattle.definition.specs.Base.{each, ◌∈◌}
+use native.Mathlib.Nat.{zero-add}
+use mathlib.Core.Bool.{Bool, true, false, ◌||◌}
+use mathlib.Core.List.{List, [], ◌∷◌, ◌++◌}
+use mathlib.Core.Path.{◌≡◌, refl, sym, ◌∙◌}
+use lib.Dec.{eqb}
+use lib.ListN.{length, get_or, set, take, get_or-eq_default}
+use Rattle.definition.specs.Base.{pick, each, has, any, place_from}
 use Rattle.definition.specs.Names.{numbers_of, variable_at}
+use Rattle.definition.specs.Rule.{Structure}
 use Rattle.definition.specs.Writer.{two_bytes}
-use Rattle.laws.proofs.Lists.{never, mem_has, length_each, get_d_each}
-use Rattle.rule.specs.Elements.{element_numbers, Finds}
-use Rattle.std.proofs.Common.{Some, None}
-use Rattle.rule.proofs.Finding.{numbers_length}
-use Rattle.rule.specs.Lists.{els_in, ElsInside}
-use Rattle.rule.specs.Structures.{structure_in, Laid}
-use Rattle.rule.specs.declared.lists.Els.{Els}
-use Rattle.rule.proofs.ListLaws.{els_many}
-use Rattle.naming.proofs.Placed.{elements_are, numbers_are}
 use Rattle.group.proofs.Writing.{vars_from, vars_on, vars_end}
-use Rattle.statements.specs.Parts.{variable_by}
+use Rattle.laws.proofs.Lists.{never, length_each, get_d_each, each_append}
+use Rattle.records.proofs.Parts.{take_more, store_more}
+use Rattle.rows.proofs.Places.{numbers_many}
+use Rattle.rule.specs.Elements.{Finds}
+use Rattle.std.proofs.Common.{Some, None}
 
--- An element that was found: its variable stands in the row at its place. An element is found.
-module _ {s index : List ℕ} {k : ℕ} (l : Laid s index k) where
-  pub variable_found : {i e : ℕ} (row : List ℕ) → Finds (Some i) e (element_numbers s index k) → get_or row i 0 ≡ variable_by (structure_in s k) row e
+-- Where a number is not in a list, its place is behind the list.
+place_behind : (i e : ℕ) (ns : List ℕ) → has e ns ≡ false → place_from i e ns ≡ i + length ns
+unfolding has any place_from
+place_behind i e [] h = omega arith
+place_behind i e (n ∷ ns) h = go (eqb n e) (place_behind (i + 1) e ns) h
+  where
+    go : (b : Bool) → (has e ns ≡ false → place_from (i + 1) e ns ≡ i + 1 + length ns) → (b || has e ns) ≡ false
+        → pick b i (place_from (i + 1) e ns) ≡ i + length (n ∷ ns)
+    go true f q = never refl q
+    go false f q = let r = f q in omega arith
+
+-- An element's variable stands at its place; behind the elements there is none.
+module _ (st : Structure) (vars : List ℕ) {e : ℕ} where
+  pub variable_found : {i : ℕ} → Finds (Some i) e (numbers_of st) → get_or vars i 0 ≡ variable_at st vars e
   unfolding variable_at
-  variable_found {i} {e} row f =
-      let n : i < length (structure_in s k).elements = omega (arith, f.is.1, numbers_length s index k, elements_are l) in
-      rw (numbers_are l, ← f.is.0) (sym (get_or-take (length (structure_in s k).elements) row i 0 n))
+  variable_found f = rw (← f.is.0)
 
-  pub not_absent : {A : Type 0} {e : ℕ} → e ∈ numbers_of (structure_in s k) → Finds None e (element_numbers s index k) → A
-  not_absent {e = e} m f = never (mem_has e (element_numbers s index k) (rw (numbers_are l) at m)) f.is
+  pub variable_absent : length vars ≡ length st.elements → Finds None e (numbers_of st) → 0 ≡ variable_at st vars e
+  unfolding variable_at
+  variable_absent l f =
+      let n = numbers_many st in
+      let p : place_from 0 e (numbers_of st) ≡ length (numbers_of st) = place_behind 0 e (numbers_of st) f.is ∙ zero-add _ in
+      rw p (sym (get_or-eq_default vars 0 (omega arith)))
 
--- The variables of elements, and their bytes.
-module _ {s : List ℕ} {els : Els} (w : ElsInside s els) (variable : ℕ → ℕ) where
-  pub els_said : length (each variable (els_in s els)) ≡ els.count
-  els_said = length_each variable (els_in s els) ∙ els_many w
+-- The variables of several elements: one more is stored, and the next is written.
+module _ (variable : ℕ → ℕ) (es : List ℕ) (i : ℕ) where
+  module _ (h : i < length es) {v : ℕ} (q : v ≡ variable (get_or es i 0)) where
+    pub variables_more : (vars : List ℕ) → i < length vars → take i vars ≡ each variable (take i es)
+        → take (i + 1) (set vars i v) ≡ each variable (take (i + 1) es)
+    unfolding each
+    variables_more vars room t = rw (store_more vars i v room, t, take_more es i 0 h, each_append, q)
 
-  module _ (i : ℕ) where
-    module _ (b : i < els.count) {e v : ℕ} (is : e ≡ get_or (els_in s els) i 0) (q : v ≡ variable e) where
-      pub els_said_at : v ≡ get_or (each variable (els_in s els)) i 0
-      els_said_at = let c = els_many w in rw (q, is) (sym (get_d_each variable (els_in s els) i 0 0 (omega arith)))
+    pub variables_on : vars_from (each variable es) i ≡ two_bytes v ++ vars_from (each variable es) (i + 1)
+    variables_on =
+        let n = length_each variable es in
+        let g : v ≡ get_or (each variable es) i 0 = rw q (sym (get_d_each variable es i 0 0 h)) in
+        rw g (vars_on (each variable es) i (omega arith))
 
-      pub els_said_on : vars_from (each variable (els_in s els)) i ≡ two_bytes v ++ vars_from (each variable (els_in s els)) (i + 1)
-      els_said_on = let n = els_said in rw els_said_at (vars_on (each variable (els_in s els)) i (omega arith))
+  pub variables_end : length es ≤ i → vars_from (each variable es) i ≡ []
+  variables_end h = let n = length_each variable es in vars_end (each variable es) i (omega arith)
 
-    pub els_said_end : els.count ≤ i → vars_from (each variable (els_in s els)) i ≡ []
-    els_said_end b = let n = els_said in vars_end (each variable (els_in s els)) i (omega arith)
+pub variables_many : (variable : ℕ → ℕ) (es : List ℕ) {count : ℕ} → count ≡ length es → length (each variable es) ≡ count
+variables_many variable es q = rw q (length_each variable es)

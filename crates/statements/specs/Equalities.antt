@@ -1,15 +1,12 @@
 -- Equalities of the variables of keys.
 use Rattle.std.specs.Prelude.{List, [], ◌∷◌, ◌++◌, ℕ, ◌≤◌, ◌<◌, length, get_or}
-use Rattle.definition.specs.Base.{each, joined}
+use Rattle.definition.specs.Base.{each, joined, ◌∈◌}
 use Rattle.definition.specs.Letters.{equality}
 use Rattle.definition.specs.Group.{Statement}
+use Rattle.definition.specs.Kinds.{Side, variable_in}
 use Rattle.definition.specs.Limits.{field_limit}
-use Rattle.definition.specs.Names.{numbers_of, fiber}
+use Rattle.definition.specs.Names.{fiber}
 use Rattle.definition.specs.Rule.{Pair}
-use Rattle.rule.specs.MapFields.{pairs_in, KeysIn}
-use Rattle.rule.specs.declared.maps.Map.{Map}
-use Rattle.rule.specs.Structures.{structure_in}
-use Rattle.naming.specs.Variables.{GivenOut}
 
 -- The Equality of two variables; its type is the first one's.
 unfoldable pub equality_of : List ℕ → ℕ → ℕ → Statement
@@ -29,7 +26,6 @@ pub record TypedVars (vars : List ℕ) (size : ℕ) : Type 0 where
   pub few : length vars ≤ field_limit
   pub below : (i : ℕ) → i < length vars → get_or vars i 0 < size
 
--- A map's keys are elements of its source, whose variables have places in that table.
-pub record KeysGiven (s : List ℕ) (src : ℕ) (m : Map) (row : List ℕ) (size : ℕ) : Type 0 where
-  pub keys : KeysIn (numbers_of (structure_in s src)) (pairs_in s m)
-  pub given : GivenOut (structure_in s src) row size
+-- The variables of a map's keys have places in that table.
+pub record KeysTyped (source : Side) (pairs : List Pair) (size : ℕ) : Type 0 where
+  pub below : (p : Pair) → p ∈ pairs → variable_in source p.key < size

@@ -1,9 +1,14 @@
--- A structure of an accepted rule, as its index has it.
+-- A structure with the variables of its elements.
 use Rattle.std.specs.Prelude.{List, ℕ}
 use Rattle.definition.specs.Kinds.{Side}
-use Rattle.rule.specs.Structures.{structure_in}
+use Rattle.definition.specs.Rule.{Structure}
 use Rattle.naming.specs.Variables.{variables_in}
+use Rattle.statements.specs.declared.numbered.Numbered.{Numbered}
 
--- A structure with the variables of its elements, which stand in a row.
-abbrev pub side_in : List ℕ → ℕ → List ℕ → Side
-side_in s k row = record { structure = structure_in s k; variables = variables_in (structure_in s k) row }
+-- By a row that has the variables at its front.
+abbrev pub side_of : Structure → List ℕ → Side
+side_of st row = record { structure = st; variables = variables_in st row }
+
+-- By the struct.
+abbrev pub side_from : Numbered → Side
+side_from x = record { structure = x.structure.now.structure; variables = x.vars.now }

@@ -5,5 +5,6 @@ pub mod equalities;
 pub mod lengths;
 pub mod masks;
 pub mod members;
+pub mod numbered;
 pub mod sections;
 pub mod writer;

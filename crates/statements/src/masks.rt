@@ -1,10 +1,13 @@
-// Which rows, members and elements of a structure are meant, a flag for each place.
+// Which rows, members and elements of a structure are meant, a flag for each place, and what its rows are said as.
 ghost use Rattle.std.specs.Prelude.{◌≡◌};
-ghost use Rattle.statements.specs.Parts.{Chooses, preds_by, funcs_by};
+ghost use Rattle.rows.specs.Table.{Short};
+ghost use Rattle.rule.specs.Row.{row_from, rows_left};
+ghost use Rattle.statements.specs.Parts.{rows_as, part_as};
 
 use flags::Mask;
-use rule::ids::{PLACE_A, PLACE_R};
-use signature::ids::{FUNCTION, PREDICATE};
+use rule::row::{Row, Rows};
+use rule::views::Structure;
+use signature::ids::{FuncId, Relation};
 
 // Those of a structure.
 #[derive(Clone, Copy)]
@@ -15,37 +18,39 @@ pub struct Masks {
     pub free: Mask,
 }
 
-// Rows of one letter: the place of the letter, and a flag for each. And what statements they become: the kind, and how many of a row's
-// last elements are left out, so that a function's row is also its domain.
+// What rows are said as: R rows as they are, and A rows as they are or, without their results, as domains.
 #[derive(Clone, Copy)]
-pub struct Chosen {
-    pub place: usize,
-    pub mask: Mask,
-    pub kind: u8,
-    pub omitted: usize,
+pub enum SaidAs {
+    Predicates,
+    Functions,
+    Domains,
 }
 
-// The flagged R rows, and the flagged A rows, each taken whole.
-pub fn flagged_preds(mask: Mask) -> Chosen
-    ensures value { result ≡ preds_by mask }
-    ensures chooses { Chooses result }
-{
-    Chosen {
-        place: PLACE_R,
-        mask,
-        kind: PREDICATE,
-        omitted: 0,
+impl SaidAs {
+    // The rows of a structure that are said so.
+    pub fn rows<'a>(self, st: &Structure<'a>) -> Rows<'a>
+        ensures value { rows_left result ≡ rows_as self st.now.structure }
+        ensures short { Short (rows_as self st.now.structure) }
+    {
+        // Looking into the structure tells the proof that it is sound.
+        let _ = &st.sig;
+        match self {
+            SaidAs::Predicates => st.pred_rows(),
+            SaidAs::Functions | SaidAs::Domains => st.func_rows(),
+        }
     }
-}
 
-pub fn flagged_funcs(mask: Mask) -> Chosen
-    ensures value { result ≡ funcs_by mask }
-    ensures chooses { Chooses result }
-{
-    Chosen {
-        place: PLACE_A,
-        mask,
-        kind: FUNCTION,
-        omitted: 0,
+    // What is said of a row: a domain is said of the function, without the result.
+    #[tactic(auto, using(crate::proofs::Rows::but_last_is))]
+    pub fn part<'a>(self, row: Row<'a>) -> Row<'a>
+        ensures { row_from result ≡ part_as self (row_from row.entry) }
+    {
+        match self {
+            SaidAs::Predicates | SaidAs::Functions => row,
+            SaidAs::Domains => Row {
+                relation: Relation::FuncDomain(FuncId(row.relation.number())),
+                els: row.els.first(row.els.count().saturating_sub(1)),
+            },
+        }
     }
 }

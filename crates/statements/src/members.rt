@@ -1,57 +1,47 @@
 // The elements of a structure as statements: member rows, and TypeSets.
-ghost use Rattle.std.specs.Prelude.{◌≤◌, ◌<◌, ◌∷◌, []};
+ghost use Rattle.std.specs.Prelude.{◌≤◌, ◌<◌, ◌∷◌, [], length, get_or};
+ghost use Rattle.definition.specs.Kinds.{variable_in};
+ghost use Rattle.definition.specs.Rows.{row_statement};
 ghost use Rattle.definition.specs.Writer.{statement_field, field_bytes};
-ghost use Rattle.records.specs.Buffer.{Put, count_limit};
-ghost use Rattle.rule.specs.Elements.{count_at};
-ghost use Rattle.rule.specs.ElementFields.{element_in};
-ghost use Rattle.rule.specs.Structures.{structure_in, Stands};
+ghost use Rattle.group.specs.Sections.{letter_of};
 ghost use Rattle.laws.specs.Bytes.{statement_bytes};
+ghost use Rattle.records.specs.Buffer.{Put, count_limit};
+ghost use Rattle.rows.specs.Members.{member_in};
+ghost use Rattle.rule.specs.Views.{no_element};
 ghost use Rattle.statements.specs.Said.{flagged};
-ghost use Rattle.statements.specs.Parts.{element_said, members_said, type_set_of, types_said};
+ghost use Rattle.statements.specs.Parts.{members_said, type_set_of, types_said};
+ghost use Rattle.statements.specs.Structures.{side_from};
 
-use crate::sections::vars_of;
+use crate::numbered::Numbered;
 use flags::{Mask, flag, none_set};
+use group::ids::Side;
 use group::statement::Statement;
 use group::write::{put_statement, put_statement_head};
 use records::write::{past, put_num};
 use rows::order::sorted_members;
-use rule::elements::{element_count, parents_of, read_element};
-use rule::ids::{FIELDS, RULE_INDEX};
-use signature::ids::{MEMBER, TYPE_SET, TypeId};
+use signature::ids::{Relation, TypeId};
 
 // How many variables a TypeSet has.
 const TYPE_SET_VARS: usize = 1;
 
-// An element as a statement of a kind: its type, its parents and itself.
-fn put_element(
-    out: &mut [u8],
-    from: usize,
-    letter: u8,
-    kind: u8,
-    s: &[u8],
-    index: &[u16; RULE_INDEX],
-    k: usize,
-    row: &[u16; FIELDS],
-    i: usize,
-) -> usize
-    requires from_le_count_limit { (from ≤ count_limit) × (i < count_at index.now k) }
-    requires stands { Stands s.now index.now k }
-    ensures { Put out.old out.new
-        (field_bytes (statement_field letter (element_said s.now index.now k row.now kind i))) from result }
+// The member row of an element: its type, its parents and itself.
+fn put_member(out: &mut [u8], from: usize, side: Side, numbered: Numbered<'_>, i: usize) -> usize
+    requires { (from ≤ count_limit) × (i < length numbered.structure.now.structure.elements) }
+    ensures { Put out.old out.new (field_bytes (statement_field (letter_of side)
+        (row_statement (variable_in (side_from numbered.entry)) (member_in numbered.entry.structure.now.structure i)))) from result }
 {
-    let e = read_element(s, index, k, i);
-    let parents = parents_of(e);
-    let mut vars = vars_of(s, index, k, row, parents);
-    vars[parents.count] = row[i];
+    let e = numbered.structure.element(i);
+    let parents = e.parents.count();
+    let mut vars = numbered.vars_of(e.parents);
+    vars[parents] = numbered.vars[i];
     put_statement(
         out,
         from,
-        letter,
+        side,
         Statement {
-            kind,
-            symbol: e.ty.0,
+            relation: Relation::Member(e.ty),
             vars,
-            count: parents.count + 1,
+            count: parents + 1,
         },
     )
 }
@@ -60,64 +50,48 @@ fn put_element(
 pub fn put_members(
     out: &mut [u8],
     from: usize,
-    letter: u8,
-    s: &[u8],
-    index: &[u16; RULE_INDEX],
-    k: usize,
-    row: &[u16; FIELDS],
+    side: Side,
+    numbered: Numbered<'_>,
     mask: Mask,
 ) -> usize
-    requires from_le_count_limit { from ≤ count_limit }
-    requires stands { Stands s.now index.now k }
-    ensures { Put out.old out.new (statement_bytes letter (members_said (structure_in s.now k) row.now mask))
-        from result }
+    requires { from ≤ count_limit }
+    ensures { Put out.old out.new (statement_bytes (letter_of side) (members_said (side_from numbered.entry) mask)) from result }
 {
     // No flag is set: nothing is said, and the members need not be sorted.
     if none_set(mask) {
         return from;
     }
-    let members = sorted_members(s, index, k);
+    let members = sorted_members(numbered.structure);
     let mut at = from;
     for place in &members.order[..members.count] {
         let i = usize::from(*place);
         if flag(mask, i) {
-            at = put_element(out, at, letter, MEMBER, s, index, k, row, i);
+            at = put_member(out, at, side, numbered, i);
         }
     }
     at
 }
 
 // A TypeSet at the front of a buffer.
-fn write_type_set(out: &mut [u8], letter: u8, ty: TypeId, v: u16) -> usize
-    ensures { Put out.old out.new (field_bytes (statement_field letter (type_set_of ty.0 v))) 0 result }
+fn write_type_set(out: &mut [u8], side: Side, ty: TypeId, v: u16) -> usize
+    ensures { Put out.old out.new (field_bytes (statement_field (letter_of side) (type_set_of ty.0 v))) 0 result }
 {
-    let at = put_statement_head(out, letter, TYPE_SET, ty.0, TYPE_SET_VARS);
+    let at = put_statement_head(out, side, Relation::TypeSet(ty), TYPE_SET_VARS);
     put_num(out, at, v)
 }
 
 // The TypeSet of an element, if it has no parents.
-fn put_type_set(
-    out: &mut [u8],
-    from: usize,
-    letter: u8,
-    s: &[u8],
-    index: &[u16; RULE_INDEX],
-    k: usize,
-    row: &[u16; FIELDS],
-    i: usize,
-) -> usize
-    requires from_le_count_limit { (from ≤ count_limit) × (i < count_at index.now k) }
-    requires stands { Stands s.now index.now k }
-    ensures { Put out.old out.new
-        (statement_bytes letter (types_said (structure_in s.now k) row.now (element_in s.now index.now k i ∷ [])))
-        from result }
+fn put_type_set(out: &mut [u8], from: usize, side: Side, numbered: Numbered<'_>, i: usize) -> usize
+    requires { (from ≤ count_limit) × (i < length numbered.structure.now.structure.elements) }
+    ensures { Put out.old out.new (statement_bytes (letter_of side) (types_said (side_from numbered.entry)
+        (get_or numbered.entry.structure.now.structure.elements i no_element ∷ []))) from result }
 {
-    let e = read_element(s, index, k, i);
-    if e.parents != 0 {
+    let e = numbered.structure.element(i);
+    if e.parents.count() != 0 {
         return from;
     }
     let rest = from.min(out.len());
-    let len = write_type_set(&mut out[rest..], letter, e.ty, row[i]);
+    let len = write_type_set(&mut out[rest..], side, e.ty, numbered.vars[i]);
     past(from, len)
 }
 
@@ -125,27 +99,22 @@ fn put_type_set(
 pub fn put_type_sets(
     out: &mut [u8],
     from: usize,
-    letter: u8,
-    s: &[u8],
-    index: &[u16; RULE_INDEX],
-    k: usize,
-    row: &[u16; FIELDS],
+    side: Side,
+    numbered: Numbered<'_>,
     mask: Mask,
 ) -> usize
-    requires from_le_count_limit { from ≤ count_limit }
-    requires stands { Stands s.now index.now k }
-    ensures { Put out.old out.new
-        (statement_bytes letter (types_said (structure_in s.now k) row.now (flagged mask (structure_in s.now k).elements)))
-        from result }
+    requires { from ≤ count_limit }
+    ensures { Put out.old out.new (statement_bytes (letter_of side) (types_said (side_from numbered.entry)
+        (flagged mask numbered.entry.structure.now.structure.elements))) from result }
 {
     // No flag is set: nothing is said, and the elements need not be gone along.
     if none_set(mask) {
         return from;
     }
     let mut at = from;
-    for i in 0..element_count(index, k) {
+    for i in 0..numbered.structure.element_count() {
         if flag(mask, i) {
-            at = put_type_set(out, at, letter, s, index, k, row, i);
+            at = put_type_set(out, at, side, numbered, i);
         }
     }
     at

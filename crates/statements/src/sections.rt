@@ -1,178 +1,92 @@
 // The rows of a structure as statements.
-ghost use Rattle.std.specs.Prelude.{◌≡◌, ◌≤◌, take};
-ghost use Rattle.definition.specs.Base.{each, ◌∈◌};
+ghost use Rattle.std.specs.Prelude.{◌≤◌, length};
+ghost use Rattle.definition.specs.Kinds.{variable_in};
 ghost use Rattle.definition.specs.Limits.{column_limit};
-ghost use Rattle.definition.specs.Names.{numbers_of};
+ghost use Rattle.definition.specs.Rows.{row_statement};
 ghost use Rattle.definition.specs.Writer.{statement_field, field_bytes};
-ghost use Rattle.records.specs.Buffer.{Put, count_limit};
-ghost use Rattle.rule.specs.Lists.{els_in, ElsInside};
-ghost use Rattle.rule.specs.Structures.{structure_in, Laid, Stands};
+ghost use Rattle.group.specs.Sections.{letter_of};
 ghost use Rattle.laws.specs.Bytes.{statement_bytes};
-ghost use Rattle.statements.specs.Parts.{variable_by, NamedIn, row_said, chosen_statements, Chooses};
+ghost use Rattle.records.specs.Buffer.{Put, count_limit};
+ghost use Rattle.rule.specs.Els.{els_in};
+ghost use Rattle.rule.specs.Row.{row_from};
+ghost use Rattle.statements.specs.Parts.{rows_said};
+ghost use Rattle.statements.specs.Structures.{side_from};
 
 use crate::lengths::rows_length;
-use crate::masks::Chosen;
-use flags::{flag, none_set};
+use crate::masks::SaidAs;
+use crate::numbered::Numbered;
+use flags::{Mask, flag, none_set};
+use group::ids::Side;
 use group::write::put_statement_head;
-use naming::variables::NO_VAR;
 use records::write::{past, put_num};
-use rule::elements::find_element;
-use rule::ids::{ElId, FIELDS, RULE_INDEX};
-use rule::lists::{Els, el_at, first};
-use rule::rows::read_row;
-use rule::sections::section_of;
-use signature::ids::COLUMNS;
-
-// The variable of an element of a structure; `row` has those of all its elements, by their places.
-pub fn var_of(s: &[u8], index: &[u16; RULE_INDEX], k: usize, row: &[u16; FIELDS], e: ElId) -> u16
-    requires laid { Laid s.now index.now k }
-    requires named { e.0 ∈ numbers_of (structure_in s.now k) }
-    ensures { result ≡ variable_by (structure_in s.now k) row.now e.0 }
-{
-    let Some(i) = find_element(s, index, k, e) else {
-        return NO_VAR;
-    };
-    row[i]
-}
-
-// The variables of several, in their order.
-pub fn vars_of(
-    s: &[u8],
-    index: &[u16; RULE_INDEX],
-    k: usize,
-    row: &[u16; FIELDS],
-    els: Els,
-) -> [u16; COLUMNS]
-    requires laid { Laid s.now index.now k }
-    requires els_inside { ElsInside s.now els × (els.count ≤ column_limit) }
-    requires named_in { NamedIn (structure_in s.now k) (els_in s.now els) }
-    ensures { take els.count result ≡ each (variable_by (structure_in s.now k) row.now) (els_in s.now els) }
-{
-    let mut vars = [0u16; COLUMNS];
-    for i in 0..els.count {
-        vars[i] = var_of(s, index, k, row, el_at(s, els, i));
-    }
-    vars
-}
+use rule::row::Row;
 
 // A row as a statement at the front of a buffer, each variable written as it is found.
-fn write_row(
-    out: &mut [u8],
-    letter: u8,
-    kind: u8,
-    s: &[u8],
-    index: &[u16; RULE_INDEX],
-    k: usize,
-    row: &[u16; FIELDS],
-    symbol: u16,
-    els: Els,
-) -> usize
-    requires els_inside { ElsInside s.now els × (els.count ≤ column_limit) }
-    requires laid { Laid s.now index.now k }
-    requires named_in { NamedIn (structure_in s.now k) (els_in s.now els) }
-    ensures { Put out.old out.new
-        (field_bytes (statement_field letter (row_said s.now k row.now kind symbol els))) 0 result }
+fn write_row(out: &mut [u8], side: Side, numbered: Numbered<'_>, row: Row<'_>) -> usize
+    requires { length (els_in row.els) ≤ column_limit }
+    ensures { Put out.old out.new (field_bytes (statement_field (letter_of side)
+        (row_statement (variable_in (side_from numbered.entry)) (row_from row.entry)))) 0 result }
 {
-    let mut at = put_statement_head(out, letter, kind, symbol, els.count);
-    for i in 0..els.count {
-        at = put_num(out, at, var_of(s, index, k, row, el_at(s, els, i)));
+    let els = row.els;
+    let count = els.count();
+    let mut at = put_statement_head(out, side, row.relation, count);
+    for i in 0..count {
+        at = put_num(out, at, numbered.var_of(els.at(i)));
     }
     at
 }
 
-// A row as a statement of a kind: its symbol, and those of its elements that are said.
-fn put_row(
-    out: &mut [u8],
-    from: usize,
-    letter: u8,
-    kind: u8,
-    s: &[u8],
-    index: &[u16; RULE_INDEX],
-    k: usize,
-    row: &[u16; FIELDS],
-    symbol: u16,
-    els: Els,
-) -> usize
-    requires from_le_count_limit { (from ≤ count_limit) × ElsInside s.now els × (els.count ≤ column_limit) }
-    requires laid { Laid s.now index.now k }
-    requires named_in { NamedIn (structure_in s.now k) (els_in s.now els) }
-    ensures { Put out.old out.new
-        (field_bytes (statement_field letter (row_said s.now k row.now kind symbol els))) from result }
+// The same, from a position on.
+fn put_row(out: &mut [u8], from: usize, side: Side, numbered: Numbered<'_>, row: Row<'_>) -> usize
+    requires { (from ≤ count_limit) × (length (els_in row.els) ≤ column_limit) }
+    ensures { Put out.old out.new (field_bytes (statement_field (letter_of side)
+        (row_statement (variable_in (side_from numbered.entry)) (row_from row.entry)))) from result }
 {
     let rest = from.min(out.len());
-    let len = write_row(
-        &mut out[rest..],
-        letter,
-        kind,
-        s,
-        index,
-        k,
-        row,
-        symbol,
-        els,
-    );
+    let len = write_row(&mut out[rest..], side, numbered, row);
     past(from, len)
 }
 
-// The chosen rows of a structure, along their section.
+// The flagged rows of a structure, along their section.
 fn put_section(
     out: &mut [u8],
     from: usize,
-    letter: u8,
-    s: &[u8],
-    index: &[u16; RULE_INDEX],
-    k: usize,
-    row: &[u16; FIELDS],
-    chosen: Chosen,
+    side: Side,
+    numbered: Numbered<'_>,
+    said: SaidAs,
+    mask: Mask,
 ) -> usize
-    requires from_le_count_limit { (from ≤ count_limit) × Chooses chosen }
-    requires stands { Stands s.now index.now k }
-    ensures { Put out.old out.new
-        (statement_bytes letter (chosen_statements (structure_in s.now k) row.now chosen)) from result }
+    requires { from ≤ count_limit }
+    ensures { Put out.old out.new (statement_bytes (letter_of side) (rows_said (side_from numbered.entry) said mask)) from result }
 {
-    let section = section_of(index, k, chosen.place);
-    let end = section.to;
-    let mut field = section.from;
     let mut at = from;
-    let mut i: usize = 0;
-    // A while: the cursor moves by what each row says.
-    while field < end {
-        let r = read_row(s, field);
-        if flag(chosen.mask, i) {
-            let kind = chosen.kind;
-            let symbol = r.symbol;
-            let said = first(s, r.els, r.els.count - chosen.omitted);
-            at = put_row(out, at, letter, kind, s, index, k, row, symbol, said);
+    for (i, row) in said.rows(numbered.structure).enumerate() {
+        if flag(mask, i) {
+            at = put_row(out, at, side, numbered, said.part(row));
         }
-        i += 1;
-        field = r.next;
     }
     at
 }
 
-// The chosen rows of a structure.
+// The flagged rows of a structure.
 pub fn put_rows(
     out: &mut [u8],
     from: usize,
-    letter: u8,
-    s: &[u8],
-    index: &[u16; RULE_INDEX],
-    k: usize,
-    row: &[u16; FIELDS],
-    chosen: Chosen,
+    side: Side,
+    numbered: Numbered<'_>,
+    said: SaidAs,
+    mask: Mask,
 ) -> usize
-    requires from_le_count_limit { (from ≤ count_limit) × Chooses chosen }
-    requires stands { Stands s.now index.now k }
-    ensures { Put out.old out.new
-        (statement_bytes letter (chosen_statements (structure_in s.now k) row.now chosen)) from result }
+    requires { from ≤ count_limit }
+    ensures { Put out.old out.new (statement_bytes (letter_of side) (rows_said (side_from numbered.entry) said mask)) from result }
 {
     // Nothing of them fits: their length is enough.
     if out.len() <= from {
-        return rows_length(from, s, index, k, chosen);
+        return rows_length(from, numbered.structure, said, mask);
     }
     // No flag is set: nothing is said, and the section need not be gone along.
-    if none_set(chosen.mask) {
+    if none_set(mask) {
         return from;
     }
-    put_section(out, from, letter, s, index, k, row, chosen)
+    put_section(out, from, side, numbered, said, mask)
 }

@@ -6,18 +6,18 @@ use mathlib.Core.List.{List, [], ◌++◌}
 use lib.ListN.{length, set, get_or-append}
 use lib.Seq.{get_or-set_same, get_or-set_other}
 use Rattle.definition.specs.Base.{◌∈◌}
-use Rattle.definition.specs.Rule.{Pair}
+use Rattle.definition.specs.Rule.{Rule, Pair}
 use Rattle.definition.specs.Group.{Variable}
-use Rattle.definition.specs.Signature.{Signature}
 use Rattle.definition.specs.Kinds.{Side, variable_in, type_in, kernel_variables, equalities}
-use Rattle.definition.specs.Walk.{Reached}
+use Rattle.definition.specs.Walk.{Reached, structure_at}
 use Rattle.laws.proofs.Lists.{mem_each}
 use Rattle.laws.proofs.Fibers.{kernel_in}
-use Rattle.rule.specs.Structures.{structure_in}
 use Rattle.naming.specs.Variables.{GivenOut}
-use Rattle.walk.specs.Tables.{Tables, unreached, source_at, row_at, masks_of, masks_at, merged_at, pairs_on, Keyed, reached_by, equalities_at, said_at}
-use Rattle.walk.specs.Tables.{domains_at, own_at, concluded_at, statements_of, statements_at, before, mask_in}
-use Rattle.flags.specs.Flags.{Held}
+use Rattle.walk.specs.declared.tables.Tables.{Tables}
+use Rattle.walk.specs.declared.tables.StructureMasks.{StructureMasks}
+use Rattle.walk.specs.Tables.{source_by, source_at, row_at, no_masks, masks_at, merged_at, pairs_on, Keyed, reached_by, equalities_at, said_at}
+use Rattle.walk.specs.Tables.{domains_at, own_at, concluded_at, statements_of, statements_at, before}
+use Rattle.std.specs.Prelude.{Some, None}
 use Rattle.laws.proofs.Choices.{each_alike}
 
 -- The type of a variable stays when others are given out.
@@ -26,11 +26,11 @@ unfolding type_in
 type_stays table news v h = ap (λ (x : Variable). x.type) (get_or-append table news (record { type = 0; name = [] }) v h)
 
 -- Equalities stay.
-pub equalities_stay : (sig : Signature) (table news : List Variable) (source target : Side) (pairs : List Pair)
+pub equalities_stay : (table news : List Variable) (source target : Side) (pairs : List Pair)
     → ((p : Pair) → p ∈ pairs → variable_in source p.key < length table)
     → equalities (table ++ news) source target pairs ≡ equalities table source target pairs
 unfolding equalities kernel_variables
-equalities_stay sig table news source target pairs h =
+equalities_stay table news source target pairs h =
     each_alike _ _ (kernel_variables source target pairs)
     (λ p m.
     let r = mem_each (λ (q : Pair). record { key = variable_in source q.key; image = variable_in source q.image }) _ m in
@@ -40,13 +40,13 @@ equalities_stay sig table news source target pairs h =
     rw (type_stays table news p.key l))
 
 -- The tables with a structure more.
-abbrev pub grown : Tables → ℕ → ℕ → List Held → List ℕ → Tables
-grown tb target source ms row = record { sources = set tb.sources target source; masks = set tb.masks target ms; vars = set tb.vars target row }
+abbrev pub grown : Tables → ℕ → ℕ → StructureMasks → List ℕ → Tables
+grown tb target source ms row = record { sources = set tb.sources target (Some source); masks = set tb.masks target ms; vars = set tb.vars target row }
 
-module _ (tb : Tables) (target source : ℕ) (ms : List Held) (row : List ℕ) where
+module _ (tb : Tables) (target source : ℕ) (ms : StructureMasks) (row : List ℕ) where
   pub source_other : (k : ℕ) → (k ≡ target → ⊥) → source_at (grown tb target source ms row) k ≡ source_at tb k
   unfolding source_at
-  source_other k d = get_or-set_other tb.sources target k source unreached d
+  source_other k d = ap source_by (get_or-set_other tb.sources target k (Some source) None d)
 
   pub row_other : (k : ℕ) → (k ≡ target → ⊥) → row_at (grown tb target source ms row) k ≡ row_at tb k
   unfolding row_at
@@ -54,63 +54,63 @@ module _ (tb : Tables) (target source : ℕ) (ms : List Held) (row : List ℕ) w
 
   pub masks_other : (k : ℕ) → (k ≡ target → ⊥) → masks_at (grown tb target source ms row) k ≡ masks_at tb k
   unfolding masks_at
-  masks_other k d = ap masks_of (get_or-set_other tb.masks target k ms [] d)
+  masks_other k d = ap (λ (m : StructureMasks). m.said) (get_or-set_other tb.masks target k ms no_masks d)
 
   pub merged_other : (k : ℕ) → (k ≡ target → ⊥) → merged_at (grown tb target source ms row) k ≡ merged_at tb k
   unfolding merged_at
-  merged_other k d = ap (λ (r : List Held). mask_in r 4) (get_or-set_other tb.masks target k ms [] d)
+  merged_other k d = ap (λ (m : StructureMasks). m.merged) (get_or-set_other tb.masks target k ms no_masks d)
 
   pub source_same : target < length tb.sources → source_at (grown tb target source ms row) target ≡ source
   unfolding source_at
-  source_same h = get_or-set_same tb.sources target source unreached h
+  source_same h = ap source_by (get_or-set_same tb.sources target (Some source) None h)
 
   pub row_same : target < length tb.vars → row_at (grown tb target source ms row) target ≡ row
   unfolding row_at
   row_same h = get_or-set_same tb.vars target row [] h
 
-  pub masks_same : target < length tb.masks → masks_at (grown tb target source ms row) target ≡ masks_of ms
+  pub masks_same : target < length tb.masks → masks_at (grown tb target source ms row) target ≡ ms.said
   unfolding masks_at
-  masks_same h = ap masks_of (get_or-set_same tb.masks target ms [] h)
+  masks_same h = ap (λ (m : StructureMasks). m.said) (get_or-set_same tb.masks target ms no_masks h)
 
-  pub merged_same : target < length tb.masks → merged_at (grown tb target source ms row) target ≡ mask_in ms 4
+  pub merged_same : target < length tb.masks → merged_at (grown tb target source ms row) target ≡ ms.merged
   unfolding merged_at
-  merged_same h = ap (λ (r : List Held). mask_in r 4) (get_or-set_same tb.masks target ms [] h)
+  merged_same h = ap (λ (m : StructureMasks). m.merged) (get_or-set_same tb.masks target ms no_masks h)
 
 -- A structure reached before stays as it was.
-module _ (sig : Signature) (s : List ℕ) (keyed : Keyed s) (table news : List Variable) (tb : Tables) (target source : ℕ) (ms : List Held) (row : List ℕ) (k : ℕ)
+module _ (rule : Rule) (keyed : Keyed rule) (table news : List Variable) (tb : Tables) (target source : ℕ) (ms : StructureMasks) (row : List ℕ) (k : ℕ)
     (d : k ≡ target → ⊥) (e : source_at tb k ≡ target → ⊥)
-    (given : GivenOut (structure_in s (source_at tb k)) (row_at tb (source_at tb k)) (length table)) where
+    (given : GivenOut (structure_at rule (source_at tb k)) (row_at tb (source_at tb k)) (length table)) where
   abbrev more : Tables
   more = grown tb target source ms row
 
-  said_stays : said_at s more k ≡ said_at s tb k
+  said_stays : said_at rule more k ≡ said_at rule tb k
   unfolding said_at
   said_stays = rw (row_other tb target source ms row k d, masks_other tb target source ms row k d)
 
-  domains_stay : domains_at s more k ≡ domains_at s tb k
+  domains_stay : domains_at rule more k ≡ domains_at rule tb k
   unfolding domains_at
   domains_stay = rw (row_other tb target source ms row k d, masks_other tb target source ms row k d)
 
-  kind_stays : reached_by s more k ≡ reached_by s tb k
+  kind_stays : reached_by rule more k ≡ reached_by rule tb k
   unfolding reached_by
   kind_stays = rw (source_other tb target source ms row k d)
 
-  equalities_at_lem : equalities_at sig (table ++ news) s more k ≡ equalities_at sig table s tb k
+  equalities_at_lem : equalities_at (table ++ news) rule more k ≡ equalities_at table rule tb k
   unfolding equalities_at
   equalities_at_lem =
       rw (source_other tb target source ms row k d, row_other tb target source ms row k d, row_other tb target source ms row (source_at tb k) e)
-      (equalities_stay sig table news _ _ (pairs_on s (source_at tb k) k) (λ p m. given.below p.key (keyed (source_at tb k) k p m)))
+      (equalities_stay table news _ _ (pairs_on rule (source_at tb k) k) (λ p m. given.below p.key (keyed (source_at tb k) k p m)))
 
-  pub own_stays : own_at sig (table ++ news) s more k ≡ own_at sig table s tb k
+  pub own_stays : own_at (table ++ news) rule more k ≡ own_at table rule tb k
   unfolding own_at
   own_stays = rw (kind_stays, equalities_at_lem, said_stays)
 
-  pub concluded_stays : concluded_at sig (table ++ news) s more k ≡ concluded_at sig table s tb k
+  pub concluded_stays : concluded_at (table ++ news) rule more k ≡ concluded_at table rule tb k
   unfolding concluded_at
   concluded_stays = rw (kind_stays, equalities_at_lem, said_stays, domains_stay, masks_other tb target source ms row k d)
 
 -- The statements of another slot.
-module _ (slots : List (Option Reached)) (tb : Tables) (target source : ℕ) (ms : List Held) (row : List ℕ) (r : Reached) where
+module _ (slots : List (Option Reached)) (tb : Tables) (target source : ℕ) (ms : StructureMasks) (row : List ℕ) (r : Reached) where
   pub statements_other : (k : ℕ) → (k ≡ target → ⊥) → statements_at (set slots target (some r)) k ≡ statements_at slots k
   unfolding statements_at
   statements_other k d = ap statements_of (get_or-set_other slots target k (some r) none d)

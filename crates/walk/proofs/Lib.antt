@@ -1,3 +1,4 @@
+-- Laws behind the walk.
 pub mod Doing
 pub mod Ending
 pub mod Folding
@@ -8,6 +9,7 @@ pub mod Mapping
 pub mod Meeting
 pub mod Numbers
 pub mod Reaching
+pub mod Sources
 pub mod Starting
 pub mod Stepping
 pub mod Walkable

@@ -13,34 +13,33 @@ use Rattle.definition.specs.Base.{each, place_from, ◌∈◌}
 use Rattle.definition.specs.Limits.{structure_limit, field_limit}
 use Rattle.definition.specs.Rule.{Structure, Rule}
 use Rattle.definition.specs.Group.{Variable, Statement}
-use Rattle.definition.specs.Signature.{Signature}
 use Rattle.definition.specs.Names.{numbers_of, variable_at, numbered, new_variables}
-use Rattle.definition.specs.Kinds.{Emitted, Step, equalities}
+use Rattle.definition.specs.Kinds.{Side, Emitted, Step, equalities}
 use Rattle.definition.specs.Walk.{Reached, State, group_name, named_rules, reach, structure_at}
 use Rattle.laws.proofs.Lists.{trichotomy, mem_at}
 use Rattle.laws.proofs.Numbering.{numbered_some, numbered_none, fresh_below, fresh_few, new_length, place_in}
 use Rattle.laws.proofs.ByteForm.{named_append, named_length}
-use Rattle.rule.specs.Lookup.{rule_at}
 use Rattle.rows.specs.Kernel.{Merged}
-use Rattle.rows.specs.Morphisms.{pairs_by}
-use Rattle.rule.specs.Structures.{structure_in}
-use Rattle.flags.specs.Flags.{Held}
+use Rattle.rows.specs.Morphisms.{MorphismBy, Between}
+use Rattle.rows.proofs.Places.{numbers_many}
+use Rattle.rule.specs.Views.{RuleBy}
 use Rattle.naming.specs.Variables.{row_of, variables_in, GivenOut, new_in}
 use Rattle.naming.specs.Maps.{taken_over}
 use Rattle.naming.proofs.Whole.{TakenBelow, take_row, length_numbered}
 use Rattle.naming.proofs.Carrying.{length_carried, taken_below}
 use Rattle.naming.proofs.News.{types_of}
-use Rattle.naming.proofs.Placed.{length_numbers_of, element_few}
 use Rattle.naming.proofs.Reached.{new_row, types_more}
 use Rattle.statements.specs.Said.{said_by, domains_by}
-use Rattle.statements.specs.Structures.{side_in}
+use Rattle.statements.specs.Structures.{side_of}
 use Rattle.laws.specs.Numbering.{fresh}
 use Rattle.laws.specs.Steps.{emitted}
-use Rattle.walk.specs.Tables.{Tables, unreached, source_at, row_at, masks_of, masks_at, merged_at, kind_on, own_by, concluded_by, reached_by}
+use Rattle.walk.specs.declared.tables.Tables.{Tables}
+use Rattle.walk.specs.declared.tables.StructureMasks.{StructureMasks}
+use Rattle.walk.specs.Tables.{unreached, source_at, row_at, masks_at, merged_at, kind_on, pairs_on, own_by, concluded_by, reached_by}
 use Rattle.walk.specs.Tables.{equalities_at, said_at, domains_at, own_at, concluded_at, statements_of, statements_at, before, news_to, emitted_to}
-use Rattle.walk.specs.Tables.{mask_in}
 use Rattle.walk.specs.Walks.{ReachedAt, Walking}
-use Rattle.walk.specs.declared.walk.Visit.{Visit}
+use Rattle.walk.specs.Went.{Visit, map_on}
+use Rattle.walk.proofs.Grounds.{elements_few}
 use Rattle.walk.proofs.Walkable.{Walkable}
 use Rattle.walk.proofs.Growing.{grown, source_other, source_same, row_other, row_same, masks_same, merged_same, statements_other, equalities_stay}
 use Rattle.walk.proofs.Reaching.{is_reached, ties_grow, news_none, emitted_none, news_grown, emitted_grown}
@@ -62,7 +61,7 @@ numbered_given st {n} cs t long = record {
   below = λ e m.
       let l : length (numbered n cs) ≡ length st.elements = length_numbered n cs ∙ long in
       let p = place_in e (numbers_of st) m in
-      let q = length_numbers_of st in
+      let q = numbers_many st in
       rw (take_row (numbered n cs) l) (entry_below cs t (place_from 0 e (numbers_of st)) (omega arith));
 }
 
@@ -77,29 +76,39 @@ unfolding reach
 reach_form rule state t taken step n e = rw e
 
 -- A map that can be walked.
-module _ {sig : Signature} {s index : List ℕ} {tb : Tables} {types : List ℕ} {v : Visit} (o : Walkable sig s index tb types v) where
+module _ {x : RuleBy} {tb : Tables} {types : List ℕ} {v : Visit} (o : Walkable x tb types v) where
+  abbrev rule : Rule
+  rule = x.rule
+
   abbrev source : ℕ
-  source = v.morphism.source
+  source = v.source
 
   abbrev target : ℕ
-  target = v.morphism.target
+  target = v.target
 
   abbrev next : ℕ
   next = v.first
 
+  -- The map as the definition has it.
+  abbrev pub m : MorphismBy
+  m = map_on x source target o.met.merged
+
+  pub between : Between m
+  between = rw o.met.morphism at o.between
+
   abbrev state : State
   state = o.going.state
 
-  abbrev w : Walking sig s tb types next target state
+  abbrev w : Walking rule tb types next target state
   w = o.going.walking
 
-  pub source_slot : (r : Reached) × (get_or state.slots source none ≡ some r) × ReachedAt sig state.variables s tb state.slots source r
+  pub source_slot : (r : Reached) × (get_or state.slots source none ≡ some r) × ReachedAt state.variables rule tb state.slots source r
   source_slot = is_reached w.ties source o.reached
 
   abbrev pub origin : Reached
   origin = source_slot.0
 
-  pub source_given : GivenOut (structure_in s source) (row_at tb source) next
+  pub source_given : GivenOut (structure_at rule source) (row_at tb source) next
   source_given = rw w.next_is source_slot.2.given
 
   pub apart : source ≡ target → ⊥
@@ -109,7 +118,7 @@ module _ {sig : Signature} {s index : List ℕ} {tb : Tables} {types : List ℕ}
   first e = let q : source_at tb 0 ≡ unreached = rw e at o.free in let f = w.first_reached in omega arith
 
   in_limit : target < structure_limit
-  in_limit = let i = o.met.target_in in let f = o.ground.few in omega arith
+  in_limit = let i = o.met.kinded.target_in in let f = o.sound.sound.structures_few in omega arith
 
   down : source < target
   down = go (trichotomy source target)
@@ -122,42 +131,52 @@ module _ {sig : Signature} {s index : List ℕ} {tb : Tables} {types : List ℕ}
   lower : source < unreached
   lower = let l = down in let i = in_limit in omega arith
 
-  so_far : news_to s tb target ≡ state.variables
-  so_far = sym (w.variables ∙ news_none s tb target o.free)
+  so_far : news_to rule tb target ≡ state.variables
+  so_far = sym (w.variables ∙ news_none rule tb target o.free)
 
   abbrev rules_before : List Emitted
-  rules_before = emitted_to sig state.variables s tb state.slots target
+  rules_before = emitted_to state.variables rule tb state.slots target
 
-  rules_far : state.rules ≡ named_rules (group_name (rule_at s)) 0 rules_before
-  rules_far = w.rules ∙ ap (named_rules (group_name (rule_at s)) 0) (emitted_none sig s tb state target o.free)
+  rules_far : state.rules ≡ named_rules (group_name rule) 0 rules_before
+  rules_far = w.rules ∙ ap (named_rules (group_name rule) 0) (emitted_none rule tb state target o.free)
 
   -- The state behind it.
   abbrev pub taken : List (Option ℕ)
-  taken = taken_over s (row_at tb source) source target v.morphism.map
+  taken = taken_over (row_at tb source) m
 
   abbrev pub row : List ℕ
   row = row_of (numbered next taken)
 
   abbrev news : List Variable
-  news = new_variables (structure_in s target) next (structure_in s target).elements taken
+  news = new_variables (structure_at rule target) next (structure_at rule target).elements taken
 
-  pub long : length taken ≡ length (structure_in s target).elements
-  long = length_carried (structure_in s source) (structure_in s target) (variables_in (structure_in s source) (row_at tb source)) (pairs_by s v.morphism)
+  pub long : length taken ≡ length (structure_at rule target).elements
+  long = length_carried m.source m.target (variables_in m.source (row_at tb source)) m.pairs
 
   pub below : TakenBelow next taken
-  below = taken_below o.met.between.joins source_given
+  below = taken_below m between.keys source_given
+
+  pub new_few : fresh taken ≤ field_limit
+  new_few = let k = fresh_few taken in let l = long in let e = elements_few o.sound target o.met.kinded.target_in in omega arith
 
   count_news : length news ≡ fresh taken
-  count_news = new_length (structure_in s target) next (structure_in s target).elements taken (sym long)
+  count_news = new_length (structure_at rule target) next (structure_at rule target).elements taken (sym long)
 
-  new_is : new_in (structure_in s target) next row ≡ news
-  new_is = new_row (structure_in s target) below long
+  new_is : new_in (structure_at rule target) next row ≡ news
+  new_is = new_row (structure_at rule target) below long
+
+  -- Its two sides.
+  abbrev pub from_side : Side
+  from_side = side_of (structure_at rule source) (row_at tb source)
+
+  abbrev pub to_side : Side
+  to_side = side_of (structure_at rule target) row
 
   abbrev pub eqs : List Statement
-  eqs = equalities state.variables (side_in s source (row_at tb source)) (side_in s target row) (pairs_by s v.morphism)
+  eqs = equalities state.variables from_side to_side m.pairs
 
   -- With the masks of what it adds.
-  module _ (ms : List Held) where
+  module _ (ms : StructureMasks) where
     abbrev more : Tables
     more = grown tb target source ms row
 
@@ -167,50 +186,50 @@ module _ {sig : Signature} {s index : List ℕ} {tb : Tables} {types : List ℕ}
     row_is : row_at more target ≡ row
     row_is = let a = w.ties.vars_long in let i = in_limit in row_same tb target source ms row (omega arith)
 
-    masks_are : masks_at more target ≡ masks_of ms
+    masks_are : masks_at more target ≡ ms.said
     masks_are = let a = w.ties.masks_long in let i = in_limit in masks_same tb target source ms row (omega arith)
 
-    merged_is : merged_at more target ≡ mask_in ms 4
+    merged_is : merged_at more target ≡ ms.merged
     merged_is = let a = w.ties.masks_long in let i = in_limit in merged_same tb target source ms row (omega arith)
 
     abbrev pub said : List Statement
-    said = said_by (structure_in s target) (variables_in (structure_in s target) row) (masks_of ms)
+    said = said_by (structure_at rule target) (variables_in (structure_at rule target) row) (ms.said)
 
     abbrev pub domains : List Statement
-    domains = domains_by (structure_in s target) (variables_in (structure_in s target) row) (masks_of ms).funcs
+    domains = domains_by (structure_at rule target) (variables_in (structure_at rule target) row) ms.said.funcs
 
-    equalities_are : equalities_at sig (state.variables ++ news) s more target ≡ eqs
+    equalities_are : equalities_at (state.variables ++ news) rule more target ≡ eqs
     unfolding equalities_at
     equalities_are =
-        rw (source_is, row_is, row_other tb target source ms row source apart, ← o.met.same)
-        (equalities_stay sig state.variables news (side_in s source (row_at tb source)) (side_in s target row) (pairs_by s v.morphism)
-        (λ q i. source_slot.2.given.below q.key (o.met.between.joins.keys.named q i)))
+        rw (source_is, row_is, row_other tb target source ms row source apart)
+        (equalities_stay state.variables news from_side to_side m.pairs
+        (λ q i. source_slot.2.given.below q.key (between.keys.named q i)))
 
-    said_is : said_at s more target ≡ said
+    said_is : said_at rule more target ≡ said
     unfolding said_at
     said_is = rw (row_is, masks_are)
 
-    domains_are : domains_at s more target ≡ domains
+    domains_are : domains_at rule more target ≡ domains
     unfolding domains_at
     domains_are = rw (row_is, masks_are)
 
-    kind_is : reached_by s more target ≡ kind_on s source target
+    kind_is : reached_by rule more target ≡ kind_on rule source target
     unfolding reached_by
     kind_is = rw (source_is, ne_eqb target 0 first)
 
-    own_is : own_at sig (state.variables ++ news) s more target ≡ own_by (kind_on s source target) eqs said
+    own_is : own_at (state.variables ++ news) rule more target ≡ own_by (kind_on rule source target) eqs said
     unfolding own_at
     own_is = rw (kind_is, equalities_are, said_is)
 
     abbrev pub concluded : List (List Statement)
-    concluded = concluded_by (kind_on s source target) (masks_of ms).funcs eqs said domains
+    concluded = concluded_by (kind_on rule source target) ms.said.funcs eqs said domains
 
-    concluded_is : concluded_at sig (state.variables ++ news) s more target ≡ concluded
+    concluded_is : concluded_at (state.variables ++ news) rule more target ≡ concluded
     unfolding concluded_at
     concluded_is = rw (kind_is, equalities_are, said_is, domains_are, masks_are)
 
     abbrev after : Reached
-    after = record { variables = numbered next taken; statements = origin.statements ++ own_by (kind_on s source target) eqs said }
+    after = record { variables = numbered next taken; statements = origin.statements ++ own_by (kind_on rule source target) eqs said }
 
     abbrev slots' : List (Option Reached)
     slots' = set state.slots target (some after)
@@ -224,15 +243,15 @@ module _ {sig : Signature} {s index : List ℕ} {tb : Tables} {types : List ℕ}
     counted : next + fresh taken ≡ length (state.variables ++ news)
     counted = let z = w.next_is in rw (length-append, count_news) (omega arith)
 
-    new_one : Merged (mask_in ms 4) (structure_in s target) (pairs_by s v.morphism) → ReachedAt sig (state.variables ++ news) s more slots' target after
+    new_one : Merged (ms.merged) (structure_at rule target) (pairs_on rule source target) → ReachedAt (state.variables ++ news) rule more slots' target after
     new_one g = record {
       source_in = rw source_is lower;
       source_down = λ h. rw source_is down;
       source_reached = rw (source_is, source_other tb target source ms row source apart) o.reached;
       row_long = length_numbered next taken ∙ long;
       variables = rw row_is (sym (take_row (numbered next taken) (length_numbered next taken ∙ long)));
-      given = rw (row_is, ← counted) (numbered_given (structure_in s target) taken below long);
-      merged = λ h. rw (source_is, merged_is, ← o.met.same) g;
+      given = rw (row_is, ← counted) (numbered_given (structure_at rule target) taken below long);
+      merged = λ h. rw (source_is, merged_is) g;
       statements = rw (before_is, own_is);
     }
 
@@ -241,31 +260,30 @@ module _ {sig : Signature} {s index : List ℕ} {tb : Tables} {types : List ℕ}
     state' = record {
       slots = slots';
       variables = state.variables ++ news;
-      rules = state.rules ++ named_rules (group_name (rule_at s)) (length state.rules) (each (emitted origin.statements) concluded);
+      rules = state.rules ++ named_rules (group_name rule) (length state.rules) (each (emitted origin.statements) concluded);
     }
 
-    variables_are : state.variables ++ news ≡ news_to s more (suc target)
+    variables_are : state.variables ++ news ≡ news_to rule more (suc target)
     variables_are = sym (news_grown o news ms row after in_limit lower ∙ rw (so_far, ← w.next_is, new_is))
 
-    rules_are : state'.rules ≡ named_rules (group_name (rule_at s)) 0 (emitted_to sig (state.variables ++ news) s more slots' (suc target))
+    rules_are : state'.rules ≡ named_rules (group_name rule) 0 (emitted_to (state.variables ++ news) rule more slots' (suc target))
     rules_are =
         let g = emitted_grown o news ms row after in_limit lower in
-        let l : length state.rules ≡ length rules_before = ap length rules_far ∙ named_length (group_name (rule_at s)) 0 rules_before in
-        let a = named_append (group_name (rule_at s)) 0 rules_before (each (emitted origin.statements) concluded) in
+        let l : length state.rules ≡ length rules_before = ap length rules_far ∙ named_length (group_name rule) 0 rules_before in
+        let a = named_append (group_name rule) 0 rules_before (each (emitted origin.statements) concluded) in
         rw (g, before_is, concluded_is, a, zero-add, ← l, ← rules_far)
 
-    pub stepped : Merged (mask_in ms 4) (structure_in s target) (pairs_by s v.morphism) → {next' : ℕ} {types' : List ℕ} → next'
-        ≡ next + fresh taken → types' ≡ sets types next (types_of (new_in (structure_in s target) next row))
-        → Walking sig s more types' next' target state'
+    pub stepped : Merged (ms.merged) (structure_at rule target) (pairs_on rule source target) → {next' : ℕ} {types' : List ℕ} → next'
+        ≡ next + fresh taken → types' ≡ sets types next (types_of (new_in (structure_at rule target) next row))
+        → Walking rule more types' next' target state'
     stepped g e f =
         let z = w.next_is in let c = counted in
-        let k = fresh_few taken in let l = long in let b = w.fewer o.free in
-        let y : length (structure_in s target).elements ≤ field_limit = element_few (o.ground.sounds target o.met.target_in).laid in
-        let q = w.types_long in let i = o.met.target_in in
+        let k = new_few in let b = w.fewer o.free in
+        let q = w.types_long in let i = o.met.kinded.target_in in
         let r : length state.variables + length news ≤ length types = rw count_news (omega arith) in
         let y' : sets types next (types_of news) ≡ sets types (length state.variables) (types_of news) = ap (λ (i : ℕ). sets types i (types_of news)) z in
         record {
-          ties = ties_grow o news ms row after (new_one g);
+          ties = ties_grow o news ms row after lower (new_one g);
           first_reached = rw (source_other tb target source ms row 0 (λ x. first (sym x))) w.first_reached;
           above = λ j h. source_other tb target source ms row j (λ x. omega arith) ∙ w.above j h;
           variables = variables_are;
@@ -274,11 +292,10 @@ module _ {sig : Signature} {s index : List ℕ} {tb : Tables} {types : List ℕ}
           few = omega arith;
           fewer = λ x. let y = source_is in let l = lower in absurd (omega arith);
           types_are = rw (f, new_is, y') (types_more w.types_are news r);
-          types_long = rw (f, length-sets types next (types_of (new_in (structure_in s target) next row))) q;
+          types_long = rw (f, length-sets types next (types_of (new_in (structure_at rule target) next row))) q;
         }
 
     -- It is what the definition reaches.
-    pub reach_is : (own : List Statement) (concl : List (List Statement)) → own ≡ own_by (kind_on s source target) eqs said → concl ≡ concluded
-        → reach (rule_at s) state target taken (record { statements = origin.statements ++ own; emitted = each (emitted origin.statements) concl }) ≡ state'
-    unfolding structure_in
-    reach_is own concl a b = reach_form (rule_at s) state target taken _ next w.next_is ∙ rw (a, b)
+    pub reach_is : (own : List Statement) (concl : List (List Statement)) → own ≡ own_by (kind_on rule source target) eqs said → concl ≡ concluded
+        → reach rule state target taken (record { statements = origin.statements ++ own; emitted = each (emitted origin.statements) concl }) ≡ state'
+    reach_is own concl a b = reach_form rule state target taken _ next w.next_is ∙ rw (a, b)

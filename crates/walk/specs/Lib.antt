@@ -4,3 +4,4 @@ pub mod Walks
 pub mod Left
 pub mod Ended
 pub mod Went
+pub mod Walked

@@ -3,3 +3,4 @@
 
 pub mod tables;
 pub mod walk;
+pub mod walked;

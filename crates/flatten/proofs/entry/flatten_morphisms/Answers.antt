@@ -1,60 +1,58 @@
 -- Both loops keep that the walk is under way (`Going`): at each pair it is passed by (`skip`) or walked (`went_further`), and behind the
 -- last one of a target comes the next (`next_target`). Behind the last target the tables are those of the walk's end.
 use Rattle.std.proofs.Common.{arith}
-use Rattle.std.proofs.lemmas.Result.{err_from_is_err_and}
-use Rattle.walk.proofs.Grounds.{first_laid, byte_types}
-use Rattle.walk.proofs.Ending.{Standing, skip, kinded, going_from, went_further, next_target, ended_walk, begin_walk}
-use Rattle.flatten.proofs.Writing.{refused_at_once, walk_stopped, ending, ended_writes}
-use Rattle.flatten.proofs.entry.flatten_morphisms.Goals.{In-loop-source, in-Some+in_ok-m, in_default}
+use mathlib.Core.Path.{refl}
+use Rattle.records.proofs.Results.{passed_on}
+use Rattle.walk.proofs.Ending.{Standing, skip, kinded, went_further, next_target, ended_walk, begin_walk}
+use Rattle.flatten.proofs.Writing.{refused_at_once, walk_stopped, ended_outcome}
+use Rattle.flatten.proofs.entry.flatten_morphisms.Goals.{In-loop-source, in-Some+in_ok-next, in_default}
 use Rattle.flatten.proofs.entry.flatten_morphisms.Goals as goal
 
 -- Where the walk stands.
-stands : (c : In-loop-source)
-    → (let a = c.args in Standing a.sig.now a.s.now a.index.now a.kinds.now a.n c.loop-target.target c.loop-source.source)
-stands c = record {
-  ground = c.requires.ground;
-  counted = c.requires.n_value.0;
-  tabled = c.requires.n_value.1;
+stands : (c : In-loop-source) → Standing c.args.plan.now c.structures-structures.result c.loop-target.target c.loop-source.source
+stands c = let k = c.rule-rule.ensures.value in let s = c.structures-structures.ensures in record {
+  sound = rw k at s.sound;
+  counted = rw k at s.count_value;
   target_in = c.loop-target-test.true;
   source_in = c.loop-source-test.true;
 }
 
-pub first_row-requires-clause-laid : goal.first_row-requires-clause-laid
-first_row-requires-clause-laid c = let g = c.requires.ground in (first_laid g, byte_types g _ g.some_one)
-
 pub loop-target-init : goal.loop-target-init
 loop-target-init c =
-    let u = c.requires.untyped in let g = c.requires.ground in
-    rw (c.initial_matching_stmts.ensures, u.1)
-    (begin_walk g u.0.size u.0.zeros c.requires.n_value.0 u.0.enough c.first_row.ensures.value c.first_row.ensures.types_after c.element_count-next.ensures)
+    let k = c.rule-rule.ensures.value in
+    let f = c.structure-first.ensures in
+    let r = c.first_row.ensures in
+    let e = c.element_count-next.ensures in
+    rw (c.no_tables-tables.ensures, c.initial_matching_stmts.ensures)
+    (begin_walk (rw k at c.structures-structures.ensures.sound) (rw (f, k) at e.sound) c.requires.size c.requires.zeros refl c.requires.enough
+    (rw (f, k) at r.value) (rw (f, k) at r.types_after) (rw (f, k) at e.count_value))
 
-pub meet_map-v-requires : goal.meet_map-v-requires
-meet_map-v-requires c = kinded (stands (goal.at.meet_map-v-requires c).In-loop-source) c.in-Some.is
+pub walk_map-requires-clause-sound : goal.walk_map-requires-clause-sound
+walk_map-requires-clause-sound c = rw c.rule-rule.ensures.value at c.structures-structures.ensures.sound
 
-pub returns-in_err-m : goal.returns-in_err-m
-returns-in_err-m c =
-    let p = err_from_is_err_and c.from_residual.result c.from_residual.ensures.1 in
-    rw (p.1, p.2) (refused_at_once _ (walk_stopped _ _ _ (c.in_err-m.ensures (going_from c.meet_map-v.ensures.source_value c.loop-source.invariant))))
+pub walk_map-requires-clause-kinded : goal.walk_map-requires-clause-kinded
+walk_map-requires-clause-kinded c = kinded (stands (goal.at.walk_map-requires-clause-kinded c).In-loop-source) c.kind.ensures c.in-Some.is
+
+pub returns-in_err-next : goal.returns-in_err-next
+returns-in_err-next c = rw (passed_on c.from_residual.ensures) (refused_at_once _ (walk_stopped _ _ c.in_err-next.ensures))
 
 pub loop-source-preserved : goal.loop-source-preserved
-unfolding going_from
-loop-source-preserved c = elim c.match-kinds-source.branch [
-  | in-Some+in_ok-m w ↦ let e = w.meet_map-v.ensures.source_value in let l = c.loop-source in
-      rw (w.types-is, w.vars-is, w.sources-is, w.masks-is, w.next-is)
-      (went_further l.vars _ e.0 e.1 (w.in_ok-m.ensures (going_from e l.invariant)))
-  | in_default w ↦ rw (w.types-is, w.vars-is, w.sources-is, w.masks-is, w.next-is)
-      (skip (stands (goal.at.loop-source-preserved c).In-loop-source) w.in_default.is c.loop-source.invariant)
+loop-source-preserved c = elim c.match-kind.branch [
+  | in-Some+in_ok-next w ↦ rw (w.types-is, w.tables-is, w.next-is) (went_further refl refl w.in_ok-next.ensures)
+  | in_default w ↦ rw (w.types-is, w.tables-is, w.next-is)
+      (skip (stands (goal.at.loop-source-preserved c).In-loop-source) c.kind.ensures w.in_default.is c.loop-source.invariant)
 ]
 
 pub loop-target-preserved : goal.loop-target-preserved
-loop-target-preserved c = next_target c.requires.n_value.0 c.loop-target-test.true (omega arith) c.loop-source.invariant
+loop-target-preserved c =
+    next_target (rw c.rule-rule.ensures.value at c.structures-structures.ensures.count_value) c.loop-target-test.true (omega arith) c.loop-source.invariant
 
-pub write_group-requires-clause-ended : goal.write_group-requires-clause-ended
-write_group-requires-clause-ended c =
-    let g = c.requires.ground in
-    ending (ended_walk g c.requires.n_value.0 (omega arith) c.loop-target.invariant) g c.requires.n_value.1
+pub invariant_of-w : goal.invariant_of-w
+invariant_of-w c =
+    let k = c.rule-rule.ensures.value in let s = c.structures-structures.ensures in
+    (ended_walk (rw k at s.sound) (rw k at s.count_value) (omega arith) c.loop-target.invariant).1
 
 pub returns : goal.returns
 returns c =
-    let g = c.requires.ground in
-    ended_writes _ _ _ (ended_walk g c.requires.n_value.0 (omega arith) c.loop-target.invariant) g c.requires.n_value.1 c.write_group.ensures
+    let k = c.rule-rule.ensures.value in let s = c.structures-structures.ensures in
+    rw (ended_outcome _ _ (ended_walk (rw k at s.sound) (rw k at s.count_value) (omega arith) c.loop-target.invariant).0) c.write_group.ensures

@@ -1,29 +1,17 @@
-use mathlib.Core.Path.{sym, ◌∙◌}
-use Rattle.walk.proofs.Grounds.{ground, counted}
-use Rattle.flatten.proofs.Writing.{refused_at_once, refused_21, refused_22, walked_on}
+use mathlib.Core.Path.{refl, ◌∙◌}
+use Rattle.records.proofs.Results.{passed_on}
 use Rattle.plan.proofs.TableLaws.{empty_table_lem}
+use Rattle.flatten.proofs.Writing.{refused_at_once, planned, same_rule}
 use Rattle.flatten.proofs.entry.flatten_rule.Goals as goal
 
-pub returns-then-unmapped_auxiliary : goal.returns-then-unmapped_auxiliary
-returns-then-unmapped_auxiliary c = refused_at_once _ (refused_21 _ _ _ (sym c.unmapped_auxiliary.ensures ∙ c.if-unmapped_auxiliary.true))
+pub new-requires : goal.new-requires
+new-requires c = empty_table_lem
 
-pub returns-then-unmapped_kind : goal.returns-then-unmapped_kind
-returns-then-unmapped_kind c =
-    refused_at_once _ (refused_22 _ _ _
-    (sym c.unmapped_auxiliary.ensures ∙ c.if-unmapped_auxiliary.false) (sym c.unmapped_kind.ensures ∙ c.if-unmapped_kind.true))
+pub returns-in_err-plan : goal.returns-in_err-plan
+returns-in_err-plan c = rw (passed_on c.from_residual.ensures) (refused_at_once _ (planned _ _ ∙ rw (← c.in_err-plan.ensures) refl))
 
-pub kind_table-requires-clause-tabled : goal.kind_table-requires-clause-tabled
-kind_table-requires-clause-tabled c = empty_table_lem
-
-pub flatten_morphisms-requires-clause-ground : goal.flatten_morphisms-requires-clause-ground
-flatten_morphisms-requires-clause-ground c =
-    ground c.requires.readable
-    (sym c.unmapped_auxiliary.ensures ∙ c.if-unmapped_auxiliary.false, sym c.unmapped_kind.ensures ∙ c.if-unmapped_kind.false)
-
-pub flatten_morphisms-requires-clause-n_value : goal.flatten_morphisms-requires-clause-n_value
-flatten_morphisms-requires-clause-n_value c = (counted c.requires.readable, c.kind_table.ensures)
+pub flatten_morphisms-requires : goal.flatten_morphisms-requires
+flatten_morphisms-requires c = rw (same_rule c.args.rule.now c.in_ok-plan.ensures) c.requires
 
 pub returns : goal.returns
-returns c =
-    rw (walked_on _ _ _ (sym c.unmapped_auxiliary.ensures ∙ c.if-unmapped_auxiliary.false, sym c.unmapped_kind.ensures ∙ c.if-unmapped_kind.false))
-    c.flatten_morphisms.ensures
+returns c = rw (planned c.args.rule.now, ← c.in_ok-plan.ensures) c.flatten_morphisms.ensures

@@ -1,9 +1,13 @@
-use mathlib.Core.Path.{sym, ◌∙◌}
-use Rattle.kinds.proofs.New.{no_rows}
+use Rattle.rows.proofs.TableLaws.{images_few}
+use Rattle.kinds.proofs.New.{no_rows, rows_new}
 use Rattle.kinds.proofs.added.new_section.Goals as goal
 
-pub returns-then-new : goal.returns-then-new
-returns-then-new c =
-    λ kind columns fs gs r q a b.
-    let d = c.section_of-old.ensures in let e = c.section_of-new.ensures in
-    no_rows kind r (sym d.0 ∙ c.if-old.true ∙ d.1) q (sym e.0 ∙ c.if-new.true ∙ e.1)
+pub returns-then-is_empty-2 : goal.returns-then-is_empty-2
+returns-then-is_empty-2 c =
+    λ kind columns a b. no_rows (c.is_empty.ensures c.if-is_empty.true) (c.is_empty-then-is_empty.ensures c.if-is_empty-2.true)
+
+pub new_rows-requires : goal.new_rows-requires
+new_rows-requires c = (images_few c.in_ok-mapped_rel_apps.ensures c.requires.short.few, c.requires.short_2)
+
+pub returns : goal.returns
+returns c = λ kind columns a b. rows_new c.in_ok-mapped_rel_apps.ensures a (λ h. c.new_rows.ensures kind columns _ _ h b)

@@ -1,9 +1,6 @@
-use Rattle.std.proofs.Common.{◌-◌}
+use Rattle.rule.specs.Row.{rows_left}
 use Rattle.kinds.proofs.Seeking.{Sought}
 use Rattle.kinds.proofs.yielding.yielding_row.Given as goal
 
-abbrev pub invariant-loop-at : goal.invariant-loop-at
-invariant-loop-at l = Sought l.s l.from l.end l.e.0 l.at l.place
-
-abbrev pub decreases-loop-at : goal.decreases-loop-at
-decreases-loop-at l = l.end - l.at
+abbrev pub invariant-loop-place : goal.invariant-loop-place
+invariant-loop-place l = Sought l.e.0 (rows_left l.rows) (rows_left l.place-iterator.iter) l.place-iterator.count

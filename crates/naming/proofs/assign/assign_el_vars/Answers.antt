@@ -1,9 +1,8 @@
-use Rattle.naming.proofs.Carrying.{assigned}
-use borrow.Author.Rules.{rules}
+use Rattle.naming.specs.Variables.{taken_in}
 use Rattle.naming.proofs.assign.assign_el_vars.Goals as goal
 
 pub returns : goal.returns
+unfolding taken_in
 returns c =
-    assigned c.requires.laid.1 c.requires.map_in.1
-    c.requires.given_out (search rules) c.element_count.ensures c.carried-taken.ensures
-    c.assign_structure_el_vars.ensures
+    let n = rw c.target.ensures.value at c.element_count.ensures.count_value in
+    rw (← c.carried-taken.ensures, ← n) c.assign_structure_el_vars.ensures

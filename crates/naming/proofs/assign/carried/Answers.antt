@@ -1,42 +1,41 @@
--- The row is what the target takes over by the first p pairs (`Carrying`). Keys and images are elements, so both are found, and the two
+-- What the target takes over by the first p pairs is known (`Carrying`). Keys and images are elements, so both are found, and the two
 -- early returns are never reached (`not_absent`). The p-th pair puts its key's variable at its image's place, over that of an earlier key
--- (`carry`); after all pairs the row is `taken_over` (`carry_end`).
-use Rattle.naming.proofs.Carrying.{carrying, carry, carry_end, not_absent}
-use Rattle.naming.proofs.Placed.{found_few}
-use native.Mathlib.Omega.{arith}
+-- (`carry`); after all pairs it is `taken_over` (`carry_end`).
+use Rattle.std.proofs.Common.{◌<◌, length, arith}
+use Rattle.rows.proofs.Places.{found_place}
+use Rattle.naming.proofs.Carrying.{carrying, carry, not_absent}
 use Rattle.naming.proofs.assign.carried.Goals as goal
 
 pub loop-p-init : goal.loop-p-init
-loop-p-init c = carrying c.requires.laid.0 c.requires.laid.1 c.requires.map_in.0 _
+loop-p-init c = carrying _ _ (rw c.target-target.ensures.value at c.target-target.ensures.sound)
 
 pub returns-in_default : goal.returns-in_default
 returns-in_default c =
-    (not_absent c.requires.laid.0 c.requires.laid.1 c.requires.map_in.0 c.requires.map_in.1 c.loop-p-test.true).0
-    (rw c.pair_key.ensures at c.in_default.ensures)
+    let h : c.loop-p.p < length c.args.m.now.pairs = rw c.map-map.ensures.value at (rw c.count-p-end.ensures.count_value at c.loop-p-test.true) in
+    (not_absent c.args.m.now c.map-map.ensures.between h).0
+    (rw (c.key.ensures, c.source-source.ensures.value, c.map-map.ensures.value) at c.in_default.ensures)
 
-pub returns-in_default-to : goal.returns-in_default-to
-returns-in_default-to c =
-    (not_absent c.requires.laid.0 c.requires.laid.1 c.requires.map_in.0 c.requires.map_in.1 c.loop-p-test.true).1
-    (rw c.pair_image.ensures at c.in_default-to.ensures)
-
-pub offset_bounds-vars-i : goal.offset_bounds-vars-i
-offset_bounds-vars-i c = let f = found_few c.requires.laid.0 c.in-Some.ensures in omega arith
-
-pub bounds-vars-i : goal.bounds-vars-i
-bounds-vars-i c = found_few c.requires.laid.0 c.in-Some.ensures
-
-pub offset_bounds-row-j : goal.offset_bounds-row-j
-offset_bounds-row-j c = let f = found_few c.requires.laid.1 c.in-Some-to.ensures in omega arith
-
-pub bounds-row-j : goal.bounds-row-j
-bounds-row-j c = found_few c.requires.laid.1 c.in-Some-to.ensures
+pub returns-in_default-find_element : goal.returns-in_default-find_element
+returns-in_default-find_element c =
+    let h : c.loop-p.p < length c.args.m.now.pairs = rw c.map-map.ensures.value at (rw c.count-p-end.ensures.count_value at c.loop-p-test.true) in
+    (not_absent c.args.m.now c.map-map.ensures.between h).1
+    (rw (c.image.ensures, c.target-target.ensures.value, c.map-map.ensures.value) at c.in_default-find_element.ensures)
 
 pub loop-p-preserved : goal.loop-p-preserved
 loop-p-preserved c =
-    carry c.requires.laid.0 c.requires.laid.1 c.requires.map_in.0 _ c.loop-p.invariant c.loop-p-test.true
-    (rw c.pair_key.ensures at c.in-Some.ensures) (rw c.pair_image.ensures at c.in-Some-to.ensures)
+    let h : c.loop-p.p < length c.args.m.now.pairs = rw c.map-map.ensures.value at (rw c.count-p-end.ensures.count_value at c.loop-p-test.true) in
+    carry _ _ (rw c.target-target.ensures.value at c.target-target.ensures.sound) c.loop-p.invariant h
+    (rw (c.key.ensures, c.source-source.ensures.value, c.map-map.ensures.value) at c.in-Some.ensures)
+    (rw (c.image.ensures, c.target-target.ensures.value, c.map-map.ensures.value) at c.in-Some-find_element.ensures)
 
-pub returns : goal.returns
-returns c =
-    carry_end c.requires.laid.0 c.requires.laid.1 c.requires.map_in.0 _
-    c.loop-p.invariant (omega arith)
+pub offset_bounds-row-i : goal.offset_bounds-row-i
+offset_bounds-row-i c = let f = found_place c.source-source.ensures.sound c.in-Some.ensures in omega arith
+
+pub bounds-row-i : goal.bounds-row-i
+bounds-row-i c = found_place c.source-source.ensures.sound c.in-Some.ensures
+
+pub offset_bounds-taken-j : goal.offset_bounds-taken-j
+offset_bounds-taken-j c = let f = found_place c.target-target.ensures.sound c.in-Some-find_element.ensures in omega arith
+
+pub bounds-taken-j : goal.bounds-taken-j
+bounds-taken-j c = found_place c.target-target.ensures.sound c.in-Some-find_element.ensures

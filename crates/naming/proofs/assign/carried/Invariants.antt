@@ -2,4 +2,4 @@ use Rattle.naming.proofs.Carrying.{Carrying}
 use Rattle.naming.proofs.assign.carried.Given as goal
 
 abbrev pub invariant-loop-p : goal.invariant-loop-p
-invariant-loop-p l = Carrying l.s l.vars l.source l.target l.m l.row l.p
+invariant-loop-p l = Carrying l.row l.fn.m l.taken l.p

@@ -1,5 +1,7 @@
-use Rattle.naming.proofs.Carrying.{assigned_first}
+use Rattle.naming.specs.Variables.{taken_in}
+use Rattle.naming.proofs.Carrying.{none_taken}
 use Rattle.naming.proofs.assign.initial_el_vars.Goals as goal
 
 pub returns : goal.returns
-returns c = assigned_first c.requires c.element_count.ensures c.assign_structure_el_vars.ensures
+unfolding taken_in
+returns c = rw (← (none_taken c.element_count.ensures.sound), ← c.element_count.ensures.count_value) c.assign_structure_el_vars.ensures

@@ -1,10 +1,11 @@
-use Rattle.naming.proofs.Seeking.{first_name, Seeking}
-use Rattle.rule.specs.Structures.{structure_in, names_of}
-use Prim.Native.Nat.{◌-◌}
+use Rattle.std.proofs.Common.{◌≡◌}
+use Rattle.definition.specs.Base.{first_of}
+use Rattle.definition.specs.Names.{name_for}
+use Rattle.rule.specs.Name.{names_left, numbers_before}
+use Rattle.rule.specs.Structures.{names_of}
 use Rattle.naming.proofs.bases.first_name.Given as goal
 
-abbrev pub invariant-loop-at : goal.invariant-loop-at
-invariant-loop-at l = Seeking l.s l.numbers l.e.0 l.at l.names.to (first_name l.e.0 (names_of (structure_in l.s l.k) l.numbers))
-
-abbrev pub decreases-loop-at : goal.decreases-loop-at
-decreases-loop-at l = l.names.to - l.at
+abbrev pub invariant-loop-named : goal.invariant-loop-named
+invariant-loop-named l =
+    (goal.iterator-loop-named).can_next l.named-iterator × (goal.iterator-loop-named).is_finite l.named-iterator
+    × (first_of (name_for l.e.0) (names_left l.named-iterator) ≡ first_of (name_for l.e.0) (names_of l.st.structure (numbers_before l.fn.kind)))

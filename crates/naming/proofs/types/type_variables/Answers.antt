@@ -1,30 +1,28 @@
-use Rattle.naming.proofs.News.{typing, type_on, type_pass, type_end}
-use Rattle.naming.proofs.Placed.{below_count, past_count, element_few, type_read, type_byte}
-use Rattle.std.proofs.Common.{◌≤◌, length}
-use Rattle.rule.specs.Structures.{structure_in}
-use borrow.Author.Rules.{rules}
-use native.Mathlib.Omega.{arith}
-use Rattle.naming.proofs.types.type_variables.Goals.{else-first-row, then-first-row}
+use Rattle.std.proofs.Common.{rules, ap, arith}
+use Rattle.definition.specs.Rule.{Element}
+use Rattle.rule.proofs.NameSoundness.{type_small}
+use Rattle.naming.proofs.Entries.{entries_long}
+use Rattle.naming.proofs.News.{type_on, type_pass, type_end, new_all}
+use Rattle.naming.proofs.types.type_variables.Goals.{then-first-var, else-first-var}
 use Rattle.naming.proofs.types.type_variables.Goals as goal
-
-pub loop-i-init : goal.loop-i-init
-loop-i-init c = rw c.from-number.ensures (typing _ _ _ _)
 
 pub overflow_cast-types : goal.overflow_cast-types
 overflow_cast-types c =
-    let h = type_byte c.requires.laid c.requires.byte_types c.read_element-e.result _ (search rules) c.read_element-e.ensures.result_value in search rules
+    let l = entries_long c.element_count.ensures.sound c.element_count.ensures.count_value c.args.row.now (omega arith) in
+    let small = type_small c.element_count.ensures.sound c.loop-i.i (omega arith) in
+    let is = ap (λ (e : Element). e.type) c.element.ensures.value in
+    search rules
 
 pub loop-i-preserved : goal.loop-i-preserved
 loop-i-preserved c =
-    let f = element_few c.requires.laid in
-    let few : length (structure_in c.args.s.now c.args.k).elements ≤ length c.args.row = omega arith in
-    let h = below_count c.requires.laid c.element_count-i-end.ensures c.loop-i-test.true in elim c.if-first-row.branch [
-      | then-first-row w ↦ rw (w.types-is, w.number-is) (type_on c.loop-i.invariant few h w.if-first-row.true
-          (type_read c.requires.laid w.read_element-e.result _ (search rules) w.read_element-e.ensures.result_value))
-      | else-first-row w ↦ rw (w.types-is, w.number-is) (type_pass c.loop-i.invariant few h w.if-first-row.false)
+    let l = entries_long c.element_count.ensures.sound c.element_count.ensures.count_value c.args.row.now (omega arith) in
+    elim c.if-first-var.branch [
+      | then-first-var w ↦ rw (w.types-is, w.number-is)
+          (type_on c.loop-i.invariant l c.loop-i-test.true w.if-first-var.true (ap (λ (e : Element). e.type) w.element.ensures.value))
+      | else-first-var w ↦ rw (w.types-is, w.number-is) (type_pass c.loop-i.invariant l c.loop-i-test.true (omega arith))
     ]
 
 pub returns : goal.returns
 returns c =
-    type_end c.loop-i.invariant (let f = element_few c.requires.laid in omega arith)
-    (past_count c.requires.laid c.element_count-i-end.ensures c.loop-i-test.false)
+    let l = entries_long c.element_count.ensures.sound c.element_count.ensures.count_value c.args.row.now (omega arith) in
+    rw (new_all, ← c.element_count.ensures.count_value) (type_end c.loop-i.invariant l c.loop-i-test.false)

@@ -1,19 +1,13 @@
-use lib.Seq.{set-get_or}
-use Rattle.naming.proofs.Entries.{numbering, number_new, number_kept, number_end}
-use Rattle.naming.proofs.variables.assign_structure_el_vars.Goals.{then-var, else-var}
-use Rattle.naming.specs.Variables.{taken_in}
+use Rattle.std.proofs.Common.{arith}
+use Rattle.naming.proofs.Entries.{number_some, number_none, number_end}
+use Rattle.naming.proofs.variables.assign_structure_el_vars.Goals.{in-Some, in-None}
 use Rattle.naming.proofs.variables.assign_structure_el_vars.Goals as goal
 
-pub loop-var-init : goal.loop-var-init
-loop-var-init c = numbering _ _
-
-pub loop-var-preserved : goal.loop-var-preserved
-loop-var-preserved c =
-    elim c.if-var.branch [
-      | then-var w ↦ rw (w.var-items-is, w.number-is) (number_new c.loop-var.invariant c.loop-var-test.true w.if-var.true)
-      | else-var w ↦ rw (w.var-items-is, w.number-is, set-get_or) (number_kept c.loop-var.invariant c.loop-var-test.true w.if-var.false)
-    ]
+pub loop-i-preserved : goal.loop-i-preserved
+loop-i-preserved c = elim c.match-own.branch [
+  | in-Some w ↦ rw (w.vars-is, w.number-is) (number_some c.loop-i.invariant c.requires.0 c.loop-i-test.true w.in-Some.is)
+  | in-None w ↦ rw (w.vars-is, w.number-is) (number_none c.loop-i.invariant c.requires.0 c.loop-i-test.true w.in-None.is)
+]
 
 pub returns : goal.returns
-unfolding taken_in
-returns c = rw (← (number_end c.loop-var.invariant c.loop-var-test.false))
+returns c = number_end c.loop-i.invariant c.requires.0 (omega arith)

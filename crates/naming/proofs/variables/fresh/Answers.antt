@@ -5,4 +5,4 @@ use Rattle.naming.proofs.variables.fresh.Goals as goal
 
 pub returns : goal.returns
 unfolding kept_in
-returns c = rw (c.loop-var.invariant, take_all _ _ c.loop-var-test.false) (fresh_counted _ _)
+returns c = rw (← c.element_count.ensures.count_value) (rw (c.loop-var.invariant, take_all _ _ c.loop-var-test.false) (fresh_counted _ _))

@@ -6,4 +6,7 @@ use Rattle.naming.proofs.variables.image_els.Goals as goal
 
 pub returns : goal.returns
 unfolding kept_in
-returns c = images_flagged _ _ _ (length-take-le _ _ (omega arith)) (omega arith) c.loop-i-test.false c.loop-i.invariant.flagged
+returns c =
+    let few = c.element_count.ensures.sound.sound.elements_few in
+    rw (← c.element_count.ensures.count_value)
+    (images_flagged _ _ _ (length-take-le _ _ (omega arith)) (omega arith) c.loop-i-test.false c.loop-i.invariant.flagged)

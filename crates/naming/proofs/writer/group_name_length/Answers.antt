@@ -1,13 +1,14 @@
-use Rattle.naming.proofs.Printing.{unnamed_length, named_length}
-use native.Mathlib.Omega.{arith}
+use Rattle.std.proofs.Common.{◌≡◌, length, rules, arith}
+use lib.ListN.{length-append}
+use Rattle.naming.proofs.Printing.{group_unnamed, group_named}
 use Rattle.naming.proofs.writer.group_name_length.Goals as goal
 
-pub returns-then-bytes-eq0 : goal.returns-then-bytes-eq0
-returns-then-bytes-eq0 c =
-    let name = c.rule_name-name.ensures in
-    (rw (unnamed_length name.result_value name.name_inside c.rule_index.ensures c.if-bytes-eq0.true) (omega arith), omega arith)
+pub returns-then-is_empty : goal.returns-then-is_empty
+returns-then-is_empty c =
+    let h : length c.args.rule.now.rule.name ≡ 0 = search rules in
+    (rw (group_unnamed c.args.rule.now.rule h, length-append, ← c.unnamed_index.ensures) (omega arith), omega arith)
 
 pub returns : goal.returns
 returns c =
-    let name = c.rule_name-name.ensures in
-    (rw (named_length name.result_value name.name_inside c.if-bytes-eq0.false) (omega arith), omega (arith, name.name_inside.short))
+    let h : length c.args.rule.now.rule.name ≡ 0 → ⊥ = search rules in
+    (rw (group_named c.args.rule.now.rule h, ← c.name-name.ensures.value), c.name-name.ensures.short)

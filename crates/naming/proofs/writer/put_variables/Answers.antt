@@ -1,22 +1,25 @@
-use Rattle.naming.proofs.Printing.{printing, printing_on, printing_pass, printing_end, printing_count}
-use Rattle.naming.proofs.writer.put_variables.Goals.{else-first-row, then-first-row}
+use Rattle.std.proofs.Common.{arith}
+use Rattle.naming.proofs.Entries.{entries_long}
+use Rattle.naming.proofs.News.{new_all}
+use Rattle.naming.proofs.Printing.{printing_on, printing_pass, printing_end, printing_count}
+use Rattle.naming.proofs.writer.put_variables.Goals.{then-first-var, else-first-var}
 use Rattle.naming.proofs.writer.put_variables.Goals as goal
-
-pub loop-i-init : goal.loop-i-init
-loop-i-init c = printing _ _ _ _ _ c.requires.from_le_count_limit
 
 pub loop-i-preserved : goal.loop-i-preserved
 loop-i-preserved c =
-    let n = c.element_count-i-end.ensures in let h = c.loop-i-test.true in let w = c.loop-i.invariant in elim c.if-first-row.branch [
-      | then-first-row v ↦ rw (v.out-is, v.at-is, v.number-is)
-          (printing_on c.requires.laid n c.requires.field_limit_bound.1 w h v.if-first-row.true v.put_new_variable-at.ensures)
-      | else-first-row v ↦ rw (v.out-is, v.at-is, v.number-is)
-          (printing_pass c.requires.laid n c.requires.field_limit_bound.1 w h v.if-first-row.false)
+    let l = entries_long c.element_count.ensures.sound c.element_count.ensures.count_value c.args.row.now (omega arith) in
+    elim c.if-first-var.branch [
+      | then-first-var w ↦ rw (w.out-is, w.at-is, w.number-is)
+          (printing_on c.loop-i.invariant l c.loop-i-test.true w.if-first-var.true w.put_new_variable-at.ensures)
+      | else-first-var w ↦ rw (w.out-is, w.at-is, w.number-is) (printing_pass c.loop-i.invariant l c.loop-i-test.true (omega arith))
     ]
 
-pub returns : goal.returns
-returns c =
-    let n = c.element_count-i-end.ensures in let w = c.loop-i.invariant in let h = c.loop-i-test.false in record {
-      put = printing_end c.requires.laid n c.requires.field_limit_bound.1 w h;
-      next_after = printing_count c.requires.laid n c.requires.field_limit_bound.1 w h;
-    }
+pub returns-clause-put : goal.returns-clause-put
+returns-clause-put c =
+    let l = entries_long c.element_count.ensures.sound c.element_count.ensures.count_value c.args.row.now (omega arith) in
+    rw (new_all, ← c.element_count.ensures.count_value) (printing_end c.loop-i.invariant l c.loop-i-test.false)
+
+pub returns-clause-next_after : goal.returns-clause-next_after
+returns-clause-next_after c =
+    let l = entries_long c.element_count.ensures.sound c.element_count.ensures.count_value c.args.row.now (omega arith) in
+    rw (new_all, ← c.element_count.ensures.count_value) (printing_count c.loop-i.invariant l c.loop-i-test.false)

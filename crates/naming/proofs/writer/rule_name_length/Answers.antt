@@ -1,7 +1,6 @@
 use lib.ListN.{length-append}
-use Rattle.naming.proofs.Printing.{group_short}
 use native.Mathlib.Omega.{arith}
 use Rattle.naming.proofs.writer.rule_name_length.Goals as goal
 
 pub returns : goal.returns
-returns c = (rw length-append (omega arith), omega (arith, group_short c.requires))
+returns c = (rw length-append (omega arith), omega arith)

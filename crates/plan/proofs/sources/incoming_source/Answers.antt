@@ -1,35 +1,21 @@
-use Rattle.plan.proofs.SourceLaws.{source_here, source_behind, source_none}
-use Rattle.plan.proofs.Scanning.{asking, asked_end, answered, passed, maps_from, values_bad, values_inside, values_long}
-use mathlib.Core.Path.{◌∙◌, sym}
+-- The map that is found is the first that leads to the structure.
+use borrow.Author.Rules.{rules}
+use lib.Dec.{eqb}
+use mathlib.Core.Path.{◌≡◌, ◌∙◌, ap}
+use mathlib.Core.Option.{some}
+use Rattle.definition.specs.Rule.{Map, map_of}
+use Rattle.definition.specs.Walk.{incoming_source}
+use Rattle.plan.proofs.Chains.{found_told, taken}
 use Rattle.plan.proofs.sources.incoming_source.Goals as goal
+use Rattle.plan.proofs.sources.incoming_source.Goals.{After-find}
 
-pub loop-at-init : goal.loop-at-init
-loop-at-init c = asking _ (maps_from c.requires c.section_behind-maps.ensures)
+told : (c : After-find) → taken (λ x. (map_of x).source) c.find.result ≡ incoming_source c.args.rule.now.rule.maps c.args.target
+unfolding incoming_source
+told c = rw c.maps.ensures.value at
+    (found_told map_of (λ m. eqb m.target c.args.target) (λ m. m.source) (λ x b h k. search rules) _ _ c.find.ensures.ran)
 
-pub returns-in_default : goal.returns-in_default
-returns-in_default c =
-    values_bad c.loop-at.invariant.values c.loop-at-test.true
-    (sym c.read_field.ensures.value ∙ c.in_default.is)
-
-pub target_at-requires : goal.target_at-requires
-target_at-requires c =
-    let g = sym c.read_field.ensures.value ∙ c.in-Some.is in
-    (values_inside c.loop-at.invariant.values c.loop-at-test.true g, values_long c.loop-at.invariant.values c.loop-at-test.true g)
-
-pub source_at-requires : goal.source_at-requires
-source_at-requires c =
-    let g = sym c.read_field.ensures.value ∙ c.in-Some.is in
-    (values_inside c.loop-at.invariant.values c.loop-at-test.true g, values_long c.loop-at.invariant.values c.loop-at-test.true g)
-
-pub returns-then-target_at-target : goal.returns-then-target_at-target
-returns-then-target_at-target c =
-    sym (answered c.loop-at.invariant c.loop-at-test.true (sym c.read_field.ensures.value ∙ c.in-Some.is)
-    (source_here _ _ (c.target_at.ensures.by_index _) (c.source_at.ensures.by_index _) c.if-target_at-target.true))
-
-pub loop-at-preserved : goal.loop-at-preserved
-loop-at-preserved c =
-    passed c.loop-at.invariant c.loop-at-test.true (sym c.read_field.ensures.value ∙ c.in-Some.is)
-    (source_behind _ _ (c.target_at.ensures.by_index _) c.if-target_at-target.false)
+pub returns-in_err-m : goal.returns-in_err-m
+returns-in_err-m c = rw c.from_residual.ensures (rw c.in_err-m.was at (told (goal.at.returns-in_err-m c).After-find))
 
 pub returns : goal.returns
-returns c = sym (asked_end c.loop-at.invariant c.loop-at-test.false ∙ source_none _)
+returns c = ap (λ (m : Map). some m.source) (c.read_map.ensures.says c.in_ok-m.m.letter) ∙ (rw c.in_ok-m.was at (told (goal.at.returns c).After-find))

@@ -1,9 +1,10 @@
+use Rattle.definition.specs.Base.{each}
+use Rattle.definition.specs.Rule.{kind_of}
+use Rattle.records.specs.Iter.{fields_left}
 use Rattle.plan.proofs.Storing.{Storing}
-use Prim.Native.Nat.{◌-◌}
 use Rattle.plan.proofs.table.stored.Given as goal
 
-abbrev pub invariant-loop-at : goal.invariant-loop-at
-invariant-loop-at l = Storing l.s l.kinds.to l.at l.table
-
-abbrev pub decreases-loop-at : goal.decreases-loop-at
-decreases-loop-at l = l.kinds.to - l.at
+abbrev pub invariant-loop-f : goal.invariant-loop-f
+invariant-loop-f l =
+    (goal.iterator-loop-f).can_next l.f-iterator × (goal.iterator-loop-f).is_finite l.f-iterator
+    × Storing l.rule.rule.kinds (each kind_of (fields_left l.f-iterator)) l.table

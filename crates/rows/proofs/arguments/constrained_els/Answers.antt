@@ -1,11 +1,11 @@
 use mathlib.Core.List.{[]}
+use Rattle.rule.proofs.Soundness.{sound_seen}
 use Rattle.rows.proofs.ArgumentLaws.{marks_none, constrained_say}
+use Rattle.rows.proofs.Places.{few_places}
 use Rattle.rows.proofs.arguments.constrained_els.Goals as goal
 
 pub returns : goal.returns
 returns c =
-    λ st fs gs r q n p f. let els = c.requires.elements in let d = c.section_of-preds.ensures in
-    let e = c.section_of-funcs.ensures in
-    constrained_say els _ st
-    (c.mark_rows-2.ensures.by_index _ gs (rw (e.0, e.1) q) (c.mark_rows.ensures.by_index [] fs (rw (d.0, d.1) r) (marks_none els)))
-    c.mark_rows-2.ensures.flags_len n p f
+    let few = few_places (sound_seen c.st.invariant c.st.view_is) in
+    let marks = rw (c.pred_rows.ensures, c.func_rows.ensures) at (c.mark_rows-2.ensures _ (c.mark_rows.ensures [] (marks_none _ few))) in
+    constrained_say _ _ marks (rw c.mark_rows-2.array_long few)

@@ -1,40 +1,27 @@
--- The loop along a section: after each row its arguments are marked with those of the rows before it.
+-- The loop along rows: after each row its arguments are marked with those of the rows before it.
 use mathlib.Core.Path.{◌∙◌, ap}
-use lib.ListN.{length}
-use Rattle.rule.proofs.RowReading.{row_stands}
-use Rattle.rows.proofs.ArgumentLaws.{along_start, along_next, known_here, marking_start, marking_next, marking_end}
+use Rattle.definition.specs.Rows.{arguments}
+use Rattle.rule.specs.Row.{row_from}
+use Rattle.rule.specs.Views.{StructureBy}
+use Rattle.rule.proofs.Soundness.{sound_seen}
+use Rattle.rows.proofs.ArgumentLaws.{listed_first, marking_next, marking_end}
 use Rattle.rows.proofs.arguments.mark_rows.Goals as goal
 
-pub loop-at-init : goal.loop-at-init
-loop-at-init c = (c.requires.k_lt_structure_limit.1, λ fs r. along_start r, λ seen fs r m. marking_start r m)
+pub arguments-requires : goal.arguments-requires
+arguments-requires c = rw (← c.st.view_is) at (listed_first c.loop-row.invariant.2 c.in-Some.ensures.steps).0
 
-pub loop-at-preserved : goal.loop-at-preserved
-loop-at-preserved c =
-    let q = c.read_row-row.ensures in
-    let h = c.loop-at-test.true in let v = c.loop-at.invariant in
-    let p = c.row_parents-parents.ensures ∙ ap length (c.symbol_of.ensures.result_value c.args.sig.now) in
-    let b = c.behind in (
-      c.mark.ensures.flags_len,
-      λ fs r. along_next (v.1 fs r) h q,
-      λ seen fs r m. marking_next (v.2 seen fs r m) b.result h q p b.ensures.result_value c.mark.ensures.by_index,
+pub mark-requires : goal.mark-requires
+mark-requires c = sound_seen c.st.invariant c.st.view_is
+
+pub loop-row-preserved : goal.loop-row-preserved
+loop-row-preserved c =
+    let step = c.in-Some.ensures.steps in
+    let own = c.arguments.ensures ∙ ap (λ (x : StructureBy). arguments x.sig (row_from c.in-Some.row)) c.st.view_is in (
+      tt,
+      tt,
+      (listed_first c.loop-row.invariant.2 step).1,
+      λ seen m. marking_next c.args.st.now.sig (c.loop-row.invariant.3 seen m) step own c.mark.ensures,
     )
 
-pub read_row-row-requires : goal.read_row-row-requires
-read_row-row-requires c =
-    let k = c.requires.rows_known.rows in
-    row_stands k (c.loop-at.invariant.1 _ k.run).passed c.loop-at-test.true
-
-pub row_parents-parents-requires : goal.row_parents-parents-requires
-row_parents-parents-requires c =
-    let k = c.requires.rows_known in
-    let h = known_here k (c.loop-at.invariant.1 _ k.rows.run) c.loop-at-test.true c.read_row-row.ensures in
-    record { declared = c.symbol_of.ensures.declared c.args.sig.now h.named }
-
-pub behind-requires-clause-n_le_count : goal.behind-requires-clause-n_le_count
-behind-requires-clause-n_le_count c =
-    let k = c.requires.rows_known in
-    let h = known_here k (c.loop-at.invariant.1 _ k.rows.run) c.loop-at-test.true c.read_row-row.ensures in
-    rw (c.row_parents-parents.ensures, c.symbol_of.ensures.result_value) h.parents
-
-pub returns-clause-by_index : goal.returns-clause-by_index
-returns-clause-by_index c = λ seen fs r m. marking_end (c.loop-at.invariant.2 seen fs r m) c.loop-at-test.false
+pub returns : goal.returns
+returns c = λ seen m. marking_end c.args.st.now.sig (c.loop-row.invariant.3 seen m) c.in-None.ensures.steps.0

@@ -7,4 +7,4 @@ use Rattle.rows.proofs.kernel.clashes_later.Given as goal
 
 abbrev pub invariant-loop-q : goal.invariant-loop-q
 invariant-loop-q l =
-    (type : Pair → ℕ) → KeyTypes l.s l.m l.vars l.types type → later_from type l.s l.m l.p (l.p + 1) ≡ later_from type l.s l.m l.p l.q
+    (type : Pair → ℕ) → KeyTypes l.m l.vars l.types type → later_from type l.m l.p (l.p + 1) ≡ later_from type l.m l.p l.q

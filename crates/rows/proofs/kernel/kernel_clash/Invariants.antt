@@ -6,4 +6,4 @@ use Rattle.rows.proofs.KernelLaws.{keys_from}
 use Rattle.rows.proofs.kernel.kernel_clash.Given as goal
 
 abbrev pub invariant-loop-p : goal.invariant-loop-p
-invariant-loop-p l = (type : Pair → ℕ) → KeyTypes l.s l.m l.vars l.types type → keys_from type l.s l.m 0 ≡ keys_from type l.s l.m l.p
+invariant-loop-p l = (type : Pair → ℕ) → KeyTypes l.m l.vars l.types type → keys_from type l.m 0 ≡ keys_from type l.m l.p

@@ -1,16 +1,18 @@
 use mathlib.Core.Path.{sym, ◌∙◌}
-use Rattle.rows.proofs.MemberLaws.{some_here, some_later, some_end}
+use borrow.Author.Rules.{rules}
+use Rattle.rule.specs.Element.{element_from}
+use Rattle.rows.proofs.MemberLaws.{with_parents, without_parents, some_here, some_later, some_end}
 use Rattle.rows.proofs.members.has_members.Goals as goal
 
-pub returns-then-read_element-ne0 : goal.returns-then-read_element-ne0
-returns-then-read_element-ne0 c =
-    let e = c.read_element.ensures in
-    sym (c.loop-i.invariant ∙ some_here e.within _ _ _ e.result_value (rw c.element_count-i-end.ensures at c.loop-i-test.true) c.if-read_element-ne0.true)
+pub returns-then-count-ne0 : goal.returns-then-count-ne0
+returns-then-count-ne0 c =
+    let some = with_parents (element_from c.element.result) c.count.ensures c.if-count-ne0.true in
+    sym (c.loop-i.invariant ∙ some_here c.args.st.now.structure.elements c.loop-i.i (search rules) c.element.ensures.value some)
 
 pub loop-i-preserved : goal.loop-i-preserved
 loop-i-preserved c =
-    let e = c.read_element.ensures in
-    c.loop-i.invariant ∙ some_later e.within _ _ _ e.result_value (rw c.element_count-i-end.ensures at c.loop-i-test.true) c.if-read_element-ne0.false
+    let none = without_parents (element_from c.element.result) c.count.ensures c.if-count-ne0.false in
+    c.loop-i.invariant ∙ some_later c.args.st.now.structure.elements c.loop-i.i (search rules) c.element.ensures.value none
 
 pub returns : goal.returns
-returns c = sym (c.loop-i.invariant ∙ some_end _ _ _ _ c.element_count-i-end.ensures c.loop-i-test.false)
+returns c = sym (c.loop-i.invariant ∙ some_end c.args.st.now.structure.elements c.loop-i.i (search rules))

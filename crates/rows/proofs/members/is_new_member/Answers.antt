@@ -1,14 +1,17 @@
 use borrow.Author.Tests.{eq-eqb}
-use mathlib.Core.Path.{sym, ◌∙◌}
-use Rattle.laws.proofs.Lists.{length_each}
-use Rattle.rows.proofs.MemberLaws.{not_new, new_by_images}
-use Rattle.rows.proofs.Turns.{alike_images}
+use Rattle.rule.specs.Element.{element_from}
+use Rattle.rows.proofs.MemberLaws.{with_parents, without_parents, not_new, new_by_images, member_short, found_member}
 use Rattle.rows.proofs.members.is_new_member.Goals as goal
 
-pub returns-then-e-ne0 : goal.returns-then-e-ne0
-returns-then-e-ne0 c =
-    λ columns pairs sources h d. new_by_images c.requires.within pairs sources c.if-e-ne0.true
-    (c.is_member_image.ensures columns _ h.held (h.count ∙ sym (length_each _ _)) (alike_images pairs h.alike) (d c.if-e-ne0.true))
+pub is_image-requires : goal.is_image-requires
+is_image-requires c = (c.requires.0, member_short _ c.requires.1 c.member_line.ensures)
 
-pub returns-else-e-ne0 : goal.returns-else-e-ne0
-returns-else-e-ne0 c = λ columns pairs sources h d. rw (eq-eqb _ _ c.if-e-ne0.false) (not_new c.requires.within pairs sources c.if-e-ne0.false)
+pub returns-then-count-ne0 : goal.returns-then-count-ne0
+returns-then-count-ne0 c =
+    λ columns pairs sources h n. new_by_images _ pairs sources (with_parents (element_from c.args.e) c.count.ensures c.if-count-ne0.true)
+    (found_member _ c.member_line.ensures c.is_image.ensures h n)
+
+pub returns-else-count-ne0 : goal.returns-else-count-ne0
+returns-else-count-ne0 c =
+    λ columns pairs sources h n. rw (eq-eqb _ _ c.if-count-ne0.false)
+    (not_new _ pairs sources (without_parents (element_from c.args.e) c.count.ensures c.if-count-ne0.false))

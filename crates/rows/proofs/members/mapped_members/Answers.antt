@@ -1,42 +1,42 @@
--- Of the first i elements n have parents, and the images of their member rows are the table's first n rows (`Filling`). An element without
--- parents has no member row (`filling_skip`); a row whose images are all there is the next (`filling_next`); one that lacks an image
--- answers (`filling_stop`). As n ≤ i, there is room. After all elements the table has all images (`filling_end`).
-use mathlib.Core.Path.{◌∙◌}
-use lib.ListN.{length-set}
+-- The images of the member rows of the first i elements are in the table; as these rows are at most i, there is room for another.
+use Prim.Native.Nat.{◌<◌}
+use native.Mathlib.Omega.{arith}
+use mathlib.Core.Path.{refl}
 use borrow.Author.Rules.{rules}
-use Rattle.std.proofs.lemmas.Result.{err_from_is_err_and}
-use Rattle.rows.proofs.MemberLaws.{filling_start, filling_skip, filling_next, filling_stop, filling_end}
+use lib.ListN.{length}
+use Rattle.laws.proofs.Lists.{any_mem}
+use Rattle.records.proofs.Results.{passed_on}
+use Rattle.rule.specs.Element.{element_from}
+use Rattle.rows.specs.Table.{row_lacks}
+use Rattle.rows.proofs.TableLaws.{filled_none, filled_more}
+use Rattle.rows.proofs.MemberLaws.{with_parents, without_parents, member_skip, member_next, member_mem, member_short, no_rows}
 use Rattle.rows.proofs.members.mapped_members.Goals as goal
 
 pub loop-i-init : goal.loop-i-init
-loop-i-init c = (c.requires.symbols_len.0, c.requires.symbols_len.1, search rules, filling_start _ _ _ _ _ _)
+loop-i-init c = (omega arith, rw no_rows (filled_none _ refl))
 
-pub loop-i-preserved-then-e-eq0 : goal.loop-i-preserved-then-e-eq0
-loop-i-preserved-then-e-eq0 c =
-    let e = c.read_element-e.ensures in
-    let inside = rw c.element_count-i-end.ensures at c.loop-i-test.true in
-    let inv = c.loop-i.invariant in
-    (inv.0, inv.1, search rules, filling_skip inv.3 e.within e.result_value inside c.if-e-eq0.true)
+pub loop-i-preserved-then-count-eq0 : goal.loop-i-preserved-then-count-eq0
+loop-i-preserved-then-count-eq0 c =
+    let none = without_parents (element_from c.element-e.result) c.count.ensures c.if-count-eq0.true in
+    (search rules, rw (member_skip c.args.st.now.structure.elements c.loop-i.i (search rules) c.element-e.ensures.value none) c.loop-i.invariant.1)
 
-pub returns-in_err-map_member-clause-imaged : goal.returns-in_err-map_member-clause-imaged
-returns-in_err-map_member-clause-imaged c =
-    let e = c.read_element-e.ensures in
-    let m = c.in_err-map_member.ensures in
-    let inside = rw c.element_count-i-end.ensures at c.loop-i-test.true in
-    let p = err_from_is_err_and c.from_residual.result c.from_residual.ensures.1 in
-    rw (p.1, p.2) (record { is = (m.is.0, filling_stop c.loop-i.invariant.3 e.within e.result_value inside c.if-e-eq0.false m) })
+pub add_image-requires : goal.add_image-requires
+add_image-requires c =
+    let few = c.element_count-i-end.ensures.sound.sound.elements_few in
+    let below : c.loop-i.i < length c.args.st.now.structure.elements = search rules in
+    (omega (arith, c.loop-i.invariant.0), member_short _ c.element-e.ensures.few c.member_line.ensures)
+
+pub returns-in_err-add_image : goal.returns-in_err-add_image
+returns-in_err-add_image c =
+    let some = with_parents (element_from c.element-e.result) c.count.ensures c.if-count-eq0.false in
+    let mem = member_mem c.args.st.now.structure.elements c.loop-i.i (search rules) c.element-e.ensures.value some in
+    let lacks = c.in_err-add_image.ensures.is in
+    rw (passed_on c.from_residual.ensures)
+    (record { is = (lacks.0, any_mem (row_lacks c.args.m.now) _ mem (rw c.member_line.ensures.elements at lacks.1)) })
 
 pub loop-i-preserved : goal.loop-i-preserved
 loop-i-preserved c =
-    let e = c.read_element-e.ensures in
-    let m = c.in_ok-map_member.ensures in
-    let inside = rw c.element_count-i-end.ensures at c.loop-i-test.true in
-    let inv = c.loop-i.invariant in (
-      rw length-set inv.0,
-      m.long ∙ inv.1,
-      search rules,
-      filling_next inv.3 e.within e.result_value inside c.if-e-eq0.false (search rules) (search rules) m,
-    )
-
-pub returns-clause-imaged : goal.returns-clause-imaged
-returns-clause-imaged c = filling_end c.loop-i.invariant.3 c.element_count-i-end.ensures c.loop-i-test.false
+    let some = with_parents (element_from c.element-e.result) c.count.ensures c.if-count-eq0.false in
+    let added = c.in_ok-add_image.ensures.is in
+    let next = member_next c.args.st.now.structure.elements c.loop-i.i (search rules) c.element-e.ensures.value some in
+    (omega (arith, c.loop-i.invariant.0, added.1.count), rw next (filled_more c.loop-i.invariant.1 c.member_line.ensures added.0 added.1))

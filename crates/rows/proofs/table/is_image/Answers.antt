@@ -1,23 +1,24 @@
-use Rattle.rows.proofs.TableLaws.{search_other, search_differs, search_hit, search_end}
-use Rattle.rows.proofs.table.is_image.Goals.{else-symbols-i-via-else-symbols-i, else-symbols-i-via-then-symbols-i+else-same_elements}
+use mathlib.Core.Path.{sym, ◌∙◌}
+use borrow.Author.Rules.{rules}
+use Rattle.rows.proofs.TableLaws.{search_other, search_same, search_end}
+use Rattle.rows.proofs.table.is_image.Goals.{else-images-i-via-else-images-i, else-images-i-via-then-images-i+else-same_line}
 use Rattle.rows.proofs.table.is_image.Goals as goal
 
-pub returns-then-same_elements : goal.returns-then-same_elements
-returns-then-same_elements c =
-    λ kind columns qs h n a e.
-    let t = c.loop-i.invariant kind columns qs h n a e in
-    let f = c.same_elements.ensures in
-    search_hit t c.loop-i-test.true c.if-symbols-i.true e f c.if-same_elements.true
+pub returns-then-same_line : goal.returns-then-same_line
+returns-then-same_line c =
+    λ columns r qs of h a n. let many = h.count in
+    sym (c.loop-i.invariant columns r qs of h a n
+    ∙ search_same h r a _ (search rules) (c.if-images-i.true ∙ of.symbol) n (rw of.elements at c.same_line.ensures) ∙ rw c.if-same_line.true)
 
 pub loop-i-preserved : goal.loop-i-preserved
 loop-i-preserved c =
-    λ kind columns qs h n a e.
-    let t = c.loop-i.invariant kind columns qs h n a e in
-    let l = c.loop-i-test.true in
-    elim c.else-symbols-i.branch [
-      | else-symbols-i-via-then-symbols-i+else-same_elements w ↦ search_differs t l w.if-symbols-i.true e w.same_elements.ensures w.if-same_elements.false
-      | else-symbols-i-via-else-symbols-i w ↦ search_other t l w.if-symbols-i.false
+    λ columns r qs of h a n. let many = h.count in
+    c.loop-i.invariant columns r qs of h a n
+    ∙ elim c.else-images-i.branch [
+      | else-images-i-via-then-images-i+else-same_line w ↦
+          search_same h r a _ (search rules) (w.if-images-i.true ∙ of.symbol) n (rw of.elements at w.same_line.ensures) ∙ rw w.if-same_line.false
+      | else-images-i-via-else-images-i w ↦ search_other h r a _ (search rules) (λ e. w.if-images-i.false (e ∙ sym of.symbol))
     ]
 
 pub returns : goal.returns
-returns c = λ kind columns qs h n a e. search_end (c.loop-i.invariant kind columns qs h n a e) c.loop-i-test.false
+returns c = λ columns r qs of h a n. let many = h.count in sym (c.loop-i.invariant columns r qs of h a n ∙ search_end h r a _ (search rules))

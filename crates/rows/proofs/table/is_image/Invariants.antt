@@ -1,14 +1,15 @@
 use Prim.Native.Nat.{ℕ}
 use mathlib.Core.List.{List}
 use mathlib.Core.Path.{◌≡◌}
-use lib.ListN.{length}
+use lib.ListN.{length, drop}
+use Rattle.definition.specs.Base.{any}
 use Rattle.definition.specs.Rule.{Row}
-use Rattle.rule.specs.Rows.{row_from, Alike}
-use Rattle.rows.specs.Table.{Held}
-use Rattle.rows.proofs.TableLaws.{Searching}
+use Rattle.definition.specs.Rows.{same_row}
+use Rattle.rule.specs.Rows.{Alike}
+use Rattle.rows.specs.Table.{Held, LineOf}
 use Rattle.rows.proofs.table.is_image.Given as goal
 
 abbrev pub invariant-loop-i : goal.invariant-loop-i
 invariant-loop-i l =
-    (kind : ℕ) (columns : ℕ → ℕ) (qs : List Row) → Held l.symbols l.els 0 qs → l.images ≡ length qs → Alike kind columns qs
-    → l.row.els.count ≡ columns l.row.symbol → Searching columns (row_from l.s kind l.row) qs l.symbols l.els l.i l.images
+    (columns : ℕ → ℕ) (r : Row) (qs : List Row) → LineOf l.line r → Held l.images qs → Alike r.kind columns qs → length r.elements ≡ columns r.symbol
+    → any (same_row r) qs ≡ any (same_row r) (drop l.i qs)

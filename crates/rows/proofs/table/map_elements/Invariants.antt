@@ -1,7 +1,9 @@
-use Rattle.rule.specs.MapFields.{pairs_in}
+use mathlib.Core.Path.{◌≡◌}
+use lib.ListN.{length}
+use Rattle.definition.specs.Limits.{column_limit}
+use Rattle.rule.specs.Els.{els_in}
 use Rattle.rows.proofs.TableLaws.{Mapping}
-use Rattle.rule.specs.Lists.{els_in}
 use Rattle.rows.proofs.table.map_elements.Given as goal
 
 abbrev pub invariant-loop-j : goal.invariant-loop-j
-invariant-loop-j l = Mapping (pairs_in l.s l.m) (els_in l.s l.l) l.initial.els l.els l.at l.j
+invariant-loop-j l = (length l.places ≡ column_limit) × Mapping l.m (els_in l.l) l.places l.j

@@ -1,50 +1,37 @@
--- The loop along a section: the images of the first i rows are in the table, each in its eight places.
-use Prim.Native.Nat.{◌<◌}
-use native.Mathlib.Omega.{arith}
-use mathlib.Core.Path.{◌∙◌}
-use lib.ListN.{length-set}
-use Rattle.std.proofs.lemmas.Result.{err_from_is_err_and}
-use Rattle.definition.specs.Limits.{field_limit}
-use Rattle.rows.proofs.Turns.{row_fits, rows_next, rows_stop, rows_end, rows_start}
-use Rattle.rule.proofs.RowFields.{passed_start}
-use Rattle.rule.proofs.RowReading.{row_stands, next_row}
+-- The loop along rows: the images of the first ones are in the table (`Filled`), the others are left to the iterator.
+use Prim.Native.Nat.{ℕ}
+use mathlib.Core.Path.{refl, ◌∙◌, ap}
+use lib.ListN.{take}
+use Rattle.laws.proofs.Lists.{any_mem}
+use Rattle.records.proofs.Parts.{apart, took_all, drop_mem}
+use Rattle.records.proofs.Results.{passed_on}
+use Rattle.rule.specs.Row.{rows_left}
+use Rattle.rows.specs.Table.{row_lacks}
+use Rattle.rows.proofs.TableLaws.{filled_none, filled_more, row_fits}
 use Rattle.rows.proofs.table.mapped_rel_apps.Goals as goal
 
-pub loop-at-init : goal.loop-at-init
-loop-at-init c = (c.requires.symbols_len.0, c.requires.symbols_len.1, λ fs r. passed_start r, λ kind fs r. rows_start _ kind fs _ _)
+pub loop-row-init : goal.loop-row-init
+loop-row-init c = (tt, tt, rw c.into_iter-row-iterator.ensures.into_iter_gives refl, filled_none _ refl)
 
-pub read_row-row-requires : goal.read_row-row-requires
-read_row-row-requires c = let w = c.requires.rows_from in row_stands w (c.loop-at.invariant.2 _ w.run) c.loop-at-test.true
+pub add_image-requires : goal.add_image-requires
+add_image-requires c = row_fits c.requires _ (c.loop-row.invariant.2 ∙ c.in-Some.ensures.steps) c.row_line.ensures
 
-pub bounds-symbols-i : goal.bounds-symbols-i
-bounds-symbols-i c = let w = c.requires.rows_from in row_fits w (c.loop-at.invariant.2 _ w.run) c.loop-at-test.true c.read_row-row.ensures
+pub loop-row-preserved : goal.loop-row-preserved
+loop-row-preserved c =
+    let all = rows_left c.args.rows in
+    let a = apart all c.loop-row.images.count (c.loop-row.invariant.2 ∙ c.in-Some.ensures.steps) in
+    let added = c.in_ok-add_image.ensures.is in
+    let took = ap (λ (n : ℕ). take n all) added.1.count ∙ a.took in
+    (tt, tt, rw added.1.count a.left, rw took (filled_more c.loop-row.invariant.3 c.row_line.ensures added.0 added.1))
 
-pub loop-at-preserved : goal.loop-at-preserved
-loop-at-preserved c =
-    let w = c.requires.rows_from in
-    let q = c.read_row-row.ensures in
-    let h = c.loop-at-test.true in
-    let v = c.loop-at.invariant in
-    let m = c.in_ok-map_elements.ensures in (
-      rw length-set v.0,
-      m.long ∙ v.1,
-      λ fs r. (next_row (v.2 fs r) h q).passed,
-      λ kind fs r. rows_next (next_row (v.2 fs r) h q) kind q (row_fits w (v.2 _ w.run) h q) (v.3 kind fs r) v.0 v.1 m,
-    )
+pub returns-in_err-add_image : goal.returns-in_err-add_image
+returns-in_err-add_image c =
+    let e = c.loop-row.invariant.2 ∙ c.in-Some.ensures.steps in
+    let lacks = c.in_err-add_image.ensures.is in
+    rw (passed_on c.from_residual.ensures)
+    (record { is = (lacks.0, any_mem (row_lacks c.args.m.now) _ (drop_mem _ _ e) (rw c.row_line.ensures.elements at lacks.1)) })
 
-pub map_elements-requires-clause-count_bound : goal.map_elements-requires-clause-count_bound
-map_elements-requires-clause-count_bound c =
-    let w = c.requires.rows_from in
-    let q = c.read_row-row.ensures in
-    let l : c.loop-at.i < field_limit = row_fits w (c.loop-at.invariant.2 _ w.run) c.loop-at-test.true q in
-    (omega (arith, q.few), c.loop-at.invariant.1)
-
-pub returns-in_err-map_elements-clause-by_index : goal.returns-in_err-map_elements-clause-by_index
-returns-in_err-map_elements-clause-by_index c =
-    let m = c.in_err-map_elements.ensures in
-    let p = err_from_is_err_and c.from_residual.result c.from_residual.ensures.1 in
-    λ kind fs r. rw (p.1, p.2)
-    (record { is = (m.is.0, rows_stop (next_row (c.loop-at.invariant.2 fs r) c.loop-at-test.true c.read_row-row.ensures) kind _ m.is.1) })
-
-pub returns-clause-by_index : goal.returns-clause-by_index
-returns-clause-by_index c = let v = c.loop-at.invariant in λ kind fs r. rows_end (v.2 fs r) c.loop-at-test.false kind (v.3 kind fs r)
+pub returns : goal.returns
+returns c =
+    let all = took_all (rows_left c.args.rows) c.loop-row.images.count (c.loop-row.invariant.2 ∙ c.in-None.ensures.steps.0) in
+    let f = rw all at c.loop-row.invariant.3 in record { is = (f.fine, f.held) }

@@ -1,50 +1,60 @@
--- The loop along a section: the first i flags tell which rows are new, and no flag stands above them.
+-- The loop along rows: the first i flags tell which rows are new, and no flag stands above them.
 use Prim.Native.Nat.{◌<◌}
+use native.Mathlib.Omega.{arith}
 use mathlib.Core.Bool.{not}
-use mathlib.Core.Path.{sym, ◌∙◌, ap}
-use Rattle.laws.proofs.Lists.{length_each}
+use mathlib.Core.Path.{refl, ◌∙◌, ap}
+use borrow.Author.Rules.{rules}
 use Rattle.flags.specs.Flags.{places}
-use Rattle.flags.proofs.Words.{above_set, above_clear, flags_set, flags_clear}
-use Rattle.rows.proofs.Turns.{row_fits, new_at, row_columns, flags_end, alike_images}
-use Rattle.rule.proofs.RowReading.{row_stands, next_row}
-use Rattle.rows.proofs.table.new_rows.Goals.{else-not-is_image, then-not-is_image}
+use Rattle.flags.proofs.Words.{above_none, above_set, above_clear, flags_start, flags_set, flags_clear}
+use Rattle.records.proofs.Parts.{apart, none_left}
+use Rattle.rule.specs.Row.{rows_left}
+use Rattle.rows.proofs.TableLaws.{row_fits, new_at}
 use Rattle.rows.proofs.table.new_rows.Goals as goal
 
-pub read_row-row-requires : goal.read_row-row-requires
-read_row-row-requires c = let w = c.requires.rows_from in row_stands w (c.loop-at.invariant.1 _ w.run) c.loop-at-test.true
+pub loop-i-init : goal.loop-i-init
+loop-i-init c = rw (c.into_iter-i-iterator.ensures.into_iter_gives, c.enumerate-i-items.ensures.count, c.enumerate-i-items.ensures.source)
+    (refl, omega arith, above_none _, λ kind columns pairs sources h a. record { flags = flags_start _ })
 
-pub with_flag-mask-requires : goal.with_flag-mask-requires
-with_flag-mask-requires c =
-    let w = c.requires.rows_from in
-    (row_fits w (c.loop-at.invariant.1 _ w.run) c.loop-at-test.true c.read_row-row.ensures, c.loop-at.invariant.0)
+pub loop-i-init-derived : goal.loop-i-init-derived
+loop-i-init-derived c = let few = c.requires.1.few in search rules
 
-pub loop-at-preserved : goal.loop-at-preserved
-loop-at-preserved c =
-    let w = c.requires.rows_from in
-    let q = c.read_row-row.ensures in
-    let g = c.loop-at-test.true in
-    let v = c.loop-at.invariant in
-    let l : c.loop-at.i < places = row_fits w (v.1 _ w.run) g q in (
-      elim c.if-not-is_image.branch [
-        | then-not-is_image w ↦ rw (w.mask-is, w.with_flag-mask.ensures) (above_set _ _ l v.0)
-        | else-not-is_image w ↦ rw w.mask-is (above_clear _ _ l v.0)
-      ],
-      λ fs r. (next_row (v.1 fs r) g q).passed,
-      λ kind columns pairs sources fs h r a.
-          let n = next_row (v.1 fs r) g q in
-          let f = (v.2 kind columns pairs sources fs h r a).flags in
-          let k = h.count ∙ sym (length_each _ _) in
-          let is = c.is_image.ensures kind columns _ h.held k (alike_images pairs h.alike) (row_columns n kind q a) in
-          let t = new_at n kind pairs sources is in
-          elim c.if-not-is_image.branch [
-            | then-not-is_image w ↦ rw (w.mask-is, w.with_flag-mask.ensures)
-                (record { flags = flags_set f l (t ∙ ap not w.if-not-is_image.true) })
-            | else-not-is_image w ↦ rw w.mask-is (record { flags = flags_clear f l (t ∙ ap not w.if-not-is_image.false) })
-          ],
+pub is_image-requires : goal.is_image-requires
+is_image-requires c = (c.requires.0, (row_fits c.requires.1 _ (c.loop-i.invariant.0 ∙ c.in-Some.ensures.steps.0) c.row_line.ensures).1)
+
+pub loop-i-preserved-then-not-is_image : goal.loop-i-preserved-then-not-is_image
+loop-i-preserved-then-not-is_image c =
+    let step = c.in-Some.ensures.steps in
+    let v = c.loop-i.invariant in
+    let e = v.0 ∙ step.0 in
+    let p = apart (rows_left c.args.rows) c.loop-i.i-iterator.count e in
+    let l : c.loop-i.i-iterator.count < places = (row_fits c.requires.1 _ e c.row_line.ensures).0 in (
+      rw step.2 p.left,
+      rw step.2 (omega (arith, p.inside)),
+      rw (c.with_flag-mask.ensures, step.1, step.2) (above_set _ _ l v.2),
+      λ kind columns pairs sources h a. rw (c.with_flag-mask.ensures, step.1, step.2) (record {
+        flags = flags_set (v.3 kind columns pairs sources h a).flags l
+            (new_at _ e c.row_line.ensures c.is_image.ensures h a ∙ ap not c.if-not-is_image.true);
+      }),
+    )
+
+pub loop-i-preserved : goal.loop-i-preserved
+loop-i-preserved c =
+    let step = c.in-Some.ensures.steps in
+    let v = c.loop-i.invariant in
+    let e = v.0 ∙ step.0 in
+    let p = apart (rows_left c.args.rows) c.loop-i.i-iterator.count e in
+    let l : c.loop-i.i-iterator.count < places = (row_fits c.requires.1 _ e c.row_line.ensures).0 in (
+      rw step.2 p.left,
+      rw step.2 (omega (arith, p.inside)),
+      rw step.2 (above_clear _ _ l v.2),
+      λ kind columns pairs sources h a. rw step.2 (record {
+        flags = flags_clear (v.3 kind columns pairs sources h a).flags l
+            (new_at _ e c.row_line.ensures c.is_image.ensures h a ∙ ap not c.if-not-is_image.false);
+      }),
     )
 
 pub returns : goal.returns
 returns c =
-    λ kind columns pairs sources fs h r a.
-    let v = c.loop-at.invariant in
-    flags_end (v.1 fs r) c.loop-at-test.false (v.2 kind columns pairs sources fs h r a)
+    let v = c.loop-i.invariant in
+    let n = none_left (rows_left c.args.rows) c.loop-i.i-iterator.count (v.0 ∙ c.in-None.ensures.steps.0.0) v.1 in
+    λ kind columns pairs sources h a. rw n at (v.3 kind columns pairs sources h a)

@@ -1,12 +1,11 @@
+use Rattle.std.proofs.Common.{◌≡◌, ◌-◌, length}
+use Rattle.records.specs.Iter.{EndOf, rest_of}
 use Rattle.rule.proofs.Passing.{Passing}
 use Rattle.rule.specs.Layout.{place_of, rule_index}
-use lib.ListN.{length}
-use mathlib.Core.Path.{◌≡◌}
-use Prim.Native.Nat.{◌-◌}
 use Rattle.rule.proofs.pass.pass.Given as goal
 
-abbrev pub invariant-loop-at : goal.invariant-loop-at
-invariant-loop-at l = (length l.index ≡ rule_index) × Passing l.s l.index l.at l.behind l.section l.structures × (l.behind ≡ place_of l.last)
-
-abbrev pub decreases-loop-at : goal.decreases-loop-at
-decreases-loop-at l = length l.s - l.at
+abbrev pub invariant-loop-f : goal.invariant-loop-f
+invariant-loop-f l =
+    (goal.iterator-loop-f).can_next l.fields × (goal.iterator-loop-f).is_finite l.fields
+    × (l.left ≡ rest_of l.fields) × EndOf l.s (rest_of l.fields) × (length l.index ≡ rule_index)
+    × Passing l.s l.index (length l.s - length (rest_of l.fields)) l.behind l.section l.structures × (l.behind ≡ place_of l.last)

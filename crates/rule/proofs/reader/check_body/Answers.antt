@@ -5,7 +5,7 @@ use Rattle.rule.proofs.reader.check_body.Goals as goal
 pub returns-in_err-check_elements-clause-result_value : goal.returns-in_err-check_elements-clause-result_value
 returns-in_err-check_elements-clause-result_value c =
     λ body b. rw (passed_on c.from_residual.ensures)
-    (body_e _ body (c.in_err-check_elements.ensures.elements_checked body (run_e b c.bound-from.ensures c.bound-to.ensures)))
+    (body_e _ body (c.in_err-check_elements.ensures.checked _ (run_e b c.section_at-section.ensures.0 c.section_at-section.ensures.1)))
 
 pub check_rest-requires-clause-known : goal.check_rest-requires-clause-known
 check_rest-requires-clause-known c =
@@ -14,17 +14,17 @@ check_rest-requires-clause-known c =
 pub returns-in_err-check_rest-clause-result_value : goal.returns-in_err-check_rest-clause-result_value
 returns-in_err-check_rest-clause-result_value c =
     λ body b. rw (passed_on c.from_residual-in_err-check_rest.ensures)
-    (let w = c.in_ok-check_elements.ensures in let r = run_e b c.bound-from.ensures c.bound-to.ensures in
-    body_rest _ body (w.elements_checked body r)
+    (let w = c.in_ok-check_elements.ensures in let r = run_e b c.section_at-section.ensures.0 c.section_at-section.ensures.1 in
+    body_rest _ body (w.checked _ r)
     (c.in_err-check_rest.ensures body (bodied_kept c.requires.k_lt_structure_limit w.stored.kept b)
-    (named_is body w.stored.known (w.elements_held body r).is)))
+    (named_is body w.stored.known (w.held _ r).is)))
 
 pub returns-clause-result_value : goal.returns-clause-result_value
 returns-clause-result_value c =
-    λ body b. (let w = c.in_ok-check_elements.ensures in let r = run_e b c.bound-from.ensures c.bound-to.ensures in
-    body_rest _ body (w.elements_checked body r)
+    λ body b. (let w = c.in_ok-check_elements.ensures in let r = run_e b c.section_at-section.ensures.0 c.section_at-section.ensures.1 in
+    body_rest _ body (w.checked _ r)
     (c.in_ok-check_rest.ensures body (bodied_kept c.requires.k_lt_structure_limit w.stored.kept b)
-    (named_is body w.stored.known (w.elements_held body r).is)))
+    (named_is body w.stored.known (w.held _ r).is)))
 
 pub returns-clause-holds : goal.returns-clause-holds
-returns-clause-holds c = λ body b. c.in_ok-check_elements.ensures.elements_held body (run_e b c.bound-from.ensures c.bound-to.ensures)
+returns-clause-holds c = λ body b. c.in_ok-check_elements.ensures.held _ (run_e b c.section_at-section.ensures.0 c.section_at-section.ensures.1)

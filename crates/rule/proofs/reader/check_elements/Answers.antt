@@ -1,41 +1,45 @@
--- Behind `count` E fields: the index holds these, the first fault of all is that of those left (`Listing`), and their numbers ascend
--- (`Storing`). A sound field fits: there is room for it, and its number is above the last (`list_next`, `store_next`); a faulty one answers
+-- Behind `count` E fields: the index holds these, the first fault of all is that of those left (`Checking`), and their numbers ascend
+-- (`Storing`). A sound field fits: there is room for it, and its number is above the last (`held_next`, `store_next`); a faulty one answers
 -- (`check_fault`). At the end all E fields are held, and their count is stored (`held_end`, `store_end`).
-use native.Mathlib.Omega.{arith}
-use mathlib.Core.Path.{sym, ◌∙◌}
-use Rattle.definition.specs.Letters.{letter_e}
-use Rattle.records.proofs.Results.{passed_on, was_some}
-use Rattle.rule.proofs.Storing.{store_start, store_next, store_end, held_end, list_start, list_next, list_end, room}
-use Rattle.rule.proofs.Checking.{check_fault, check_end}
+use Rattle.std.proofs.Common.{refl}
+use Rattle.records.specs.Held.{held_at}
+use Rattle.records.proofs.Results.{passed_on}
+use Rattle.rule.proofs.Checking.{check_start, check_fault, check_next, check_end}
+use Rattle.rule.proofs.Storing.{lies_turn, lies_found, store_start, store_next, store_end, held_next, held_end}
 use Rattle.rule.proofs.reader.check_elements.Goals as goal
 
-pub loop-at-init : goal.loop-at-init
-loop-at-init c = (record { is = tt }, store_start _ _ _ c.requires.index_len, λ body r. list_start body r)
+pub loop-f-init : goal.loop-f-init
+unfolding held_at
+loop-f-init c = rw c.new-fields.ensures (tt, tt, refl, c.part_of-part.ensures.lies, store_start _ _ _ c.requires.index_len, refl, check_start _)
 
-pub returns-in_err-element_fault-clause-elements_checked : goal.returns-in_err-element_fault-clause-elements_checked
-returns-in_err-element_fault-clause-elements_checked c =
-    λ body r. rw (passed_on c.from_residual-in_err-element_fault.ensures)
-    (check_fault (c.loop-at.invariant.2 body r).checking c.loop-at-test.true
-    (sym c.read_field.ensures.value ∙ was_some _ c.ok_or.ensures.value c.in_ok-f.was)
-    (c.in_err-element_fault.ensures.result_value body letter_e r))
+pub returns-in_err-element_fault-clause-checked : goal.returns-in_err-element_fault-clause-checked
+returns-in_err-element_fault-clause-checked c =
+    λ fs r. rw (passed_on c.from_residual.ensures, ← (c.part_of-part.ensures.fields fs r))
+    (check_fault c.loop-f.invariant.6 c.in-Some.f c.in-Some.ensures.steps.0 c.in_err-element_fault.ensures.result_value)
 
-pub loop-at-preserved : goal.loop-at-preserved
-loop-at-preserved c =
-    let g = sym c.read_field.ensures.value ∙ was_some _ c.ok_or.ensures.value c.in_ok-f.was in
-    let a = rw (was_some _ c.ok_or.ensures.value c.in_ok-f.was) at c.read_field.ensures.ahead in
-    let t = c.in_ok-element_fault.ensures.fits in (
-      record { is = omega arith },
-      store_next c.loop-at.invariant.1 c.requires.k_lt_structure_limit _ g t,
-      λ body r. list_next (c.loop-at.invariant.2 body r) c.loop-at-test.true g (c.in_ok-element_fault.ensures.result_value body letter_e r)
-          (room c.loop-at.invariant.1 c.requires.k_lt_structure_limit _ g t),
+pub loop-f-preserved : goal.loop-f-preserved
+loop-f-preserved c =
+    let inv = c.loop-f.invariant in
+    let stands = c.in-Some.ensures.steps.1 in
+    let fits = c.in_ok-element_fault.ensures.fits in
+    let found = lies_found inv.3 stands in
+    rw (c.rest-left.ensures, inv.2) (
+      tt,
+      tt,
+      refl,
+      lies_turn inv.3 stands,
+      store_next inv.4 c.requires.k_lt_structure_limit found fits,
+      held_next inv.4 c.requires.k_lt_structure_limit found fits _ (rw c.in-Some.ensures.steps.0 at inv.5),
+      check_next inv.6 c.in-Some.f c.in-Some.ensures.steps.0 c.in_ok-element_fault.ensures.result_value,
     )
 
-pub returns-clause-elements_checked : goal.returns-clause-elements_checked
-returns-clause-elements_checked c = λ body r. check_end (c.loop-at.invariant.2 body r).checking c.loop-at-test.false
+pub returns-clause-checked : goal.returns-clause-checked
+returns-clause-checked c = λ fs r. rw (← (c.part_of-part.ensures.fields fs r)) (check_end c.loop-f.invariant.6 c.in_default.ensures.steps.0)
 
-pub returns-clause-elements_held : goal.returns-clause-elements_held
-returns-clause-elements_held c =
-    λ body r. held_end c.loop-at.invariant.1 c.requires.k_lt_structure_limit body (list_end (c.loop-at.invariant.2 body r) c.loop-at-test.false)
+pub returns-clause-held : goal.returns-clause-held
+returns-clause-held c =
+    let inv = c.loop-f.invariant in
+    λ fs r. held_end inv.4 c.requires.k_lt_structure_limit fs (rw (c.part_of-part.ensures.fields fs r, c.in_default.ensures.steps.0) at inv.5)
 
 pub returns-clause-stored : goal.returns-clause-stored
-returns-clause-stored c = store_end c.loop-at.invariant.1 c.requires.k_lt_structure_limit
+returns-clause-stored c = store_end c.loop-f.invariant.4 c.requires.k_lt_structure_limit

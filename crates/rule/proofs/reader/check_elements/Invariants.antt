@@ -1,20 +1,19 @@
-use Rattle.rule.proofs.Storing.{Storing, Listing}
-use Rattle.rule.specs.Faults.{last_field, LastIn}
-use Rattle.records.specs.Places.{Run}
-use Rattle.definition.specs.Rule.{element_fault, named_elements}
-use Rattle.definition.specs.Records.{Field, with_letter}
-use Rattle.definition.specs.Letters.{letter_e}
-use lib.ListN.{length}
-use mathlib.Core.List.{List}
-use Prim.Native.Nat.{◌-◌}
+use Rattle.std.proofs.Common.{◌≡◌, ◌+◌, ◌*◌, ◌++◌}
+use Rattle.definition.specs.Limits.{field_limit}
+use Rattle.definition.specs.Rule.{element_fault}
+use Rattle.records.specs.Held.{held_at}
+use Rattle.records.specs.Iter.{rest_of, fields_in, fields_left}
+use Rattle.rule.specs.Elements.{Lies, named_by}
+use Rattle.rule.specs.Layout.{elements_from}
+use Rattle.rule.proofs.Checking.{Checking}
+use Rattle.rule.proofs.Storing.{Storing}
 use Rattle.rule.proofs.reader.check_elements.Given as goal
 
-abbrev pub invariant-loop-at : goal.invariant-loop-at
-invariant-loop-at l =
-    LastIn l.last (length l.s) × Storing l.s l.initial.index l.index l.k l.count l.last
-    × ((body : List Field) → Run l.s l.from l.to (with_letter letter_e body)
-    → Listing l.s l.index (element_fault l.sig (named_elements body))
-    l.to l.k body l.at l.count (last_field l.s letter_e l.last))
-
-abbrev pub decreases-loop-at : goal.decreases-loop-at
-decreases-loop-at l = l.to - l.at
+abbrev pub invariant-loop-f : goal.invariant-loop-f
+invariant-loop-f l =
+    (goal.iterator-loop-f).can_next l.fields × (goal.iterator-loop-f).is_finite l.fields
+    × (l.left ≡ rest_of l.fields)
+    × Lies l.s l.section.to (rest_of l.fields)
+    × Storing l.s l.initial.index l.index l.k l.count l.last
+    × (fields_in l.part ≡ held_at l.s l.index (elements_from + field_limit * l.k) l.count ++ fields_left l.fields)
+    × Checking (element_fault l.sig (named_by (fields_in l.part))) (fields_in l.part) (fields_left l.fields) l.count l.last

@@ -1,6 +1,7 @@
+use Rattle.std.proofs.Common.{ap, length}
+use Rattle.group.specs.Lookups.{Accepted}
 use Rattle.records.proofs.Results.{passed_on}
-use Rattle.group.proofs.View.{rule_says}
-use Rattle.scope.proofs.Whole.{signature_refused, group_refused, no_rule, rule_answer, usable_group, owners_stand}
+use Rattle.scope.proofs.Whole.{signature_refused, group_refused, no_rule, rule_answer, owners_stand}
 use Rattle.scope.proofs.infer.scope.Goals as goal
 
 pub returns-in_err-signature-clause-result_value : goal.returns-in_err-signature-clause-result_value
@@ -10,20 +11,20 @@ returns-in_err-signature-clause-result_value c =
 pub returns-in_err-found-clause-result_value : goal.returns-in_err-found-clause-result_value
 returns-in_err-found-clause-result_value c =
     rw (passed_on c.from_residual-in_err-found.ensures)
-    (group_refused _ _ _ c.read_signature.ensures c.in_ok-signature.was c.read_group.ensures.result_value c.in_err-found.was)
+    (group_refused _ _ _ c.read_signature.ensures c.in_ok-signature.was c.read_group.ensures.value c.in_err-found.was)
 
-pub returns-then-found-position-clause-result_value : goal.returns-then-found-position-clause-result_value
-returns-then-found-position-clause-result_value c =
-    no_rule _ _ _ c.read_signature.ensures c.in_ok-signature.was c.read_group.ensures.result_value c.in_ok-found.was
-    (usable_group c.in_ok-found.was c.read_group.ensures.usable) c.if-found-position.true
+pub returns-then-rules-position-clause-result_value : goal.returns-then-rules-position-clause-result_value
+returns-then-rules-position-clause-result_value c =
+    no_rule _ _ _ c.read_signature.ensures c.in_ok-signature.was c.read_group.ensures.value c.in_ok-found.was
+    (rw c.rules.ensures at c.if-rules-position.true)
 
 pub returns-clause-result_value : goal.returns-clause-result_value
 returns-clause-result_value c =
-    rule_answer _ _ _ c.read_signature.ensures c.in_ok-signature.was c.read_group.ensures.result_value c.in_ok-found.was
-    (usable_group c.in_ok-found.was c.read_group.ensures.usable) c.if-found-position.false
-    (c.rule_scope.ensures.result_value _ (rule_says c.rule_sections-rule.ensures.sections_at))
+    rule_answer _ _ _ c.read_signature.ensures c.in_ok-signature.was c.read_group.ensures.value c.in_ok-found.was
+    (rw c.rules.ensures at c.if-rules-position.false) c.in_ok-found.ensures.read _
+    (rw c.of.ensures.group at (c.rule_scope.ensures.result_value _ c.of.ensures.says))
 
 pub returns-clause-owners_stand : goal.returns-clause-owners_stand
 returns-clause-owners_stand c =
-    owners_stand (usable_group c.in_ok-found.was c.read_group.ensures.usable) c.if-found-position.false c.rule_sections-rule.ensures.sections_at
-    c.rule_sections-rule.ensures.conclusions_value c.rule_scope.result c.rule_scope.ensures.owners_from
+    rw c.in_ok-found.ensures.read.1 at (owners_stand c.in_ok-found.found c.args.position c.of.result c.of.ensures.first c.rule_scope.result _
+    c.rule_scope.ensures.owners_from (ap (λ (g : Accepted). length g.bytes) c.of.ensures.group))

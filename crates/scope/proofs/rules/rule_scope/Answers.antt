@@ -1,21 +1,22 @@
-use mathlib.Core.Path.{◌∙◌}
-use Rattle.group.proofs.View.{statement_here, symbol_here, vars_here, statements_next}
-use Rattle.scope.proofs.InOrder.{no_conclusion, by_first}
+use mathlib.Core.Path.{sym, ◌∙◌}
+use Rattle.scope.proofs.InOrder.{no_conclusion, by_first, has_first, owners_from}
+use Rattle.group.proofs.Given.{stretch_behind}
 use Rattle.scope.proofs.rules.rule_scope.Goals as goal
 
-pub returns-then-rule-clause-result_value : goal.returns-then-rule-clause-result_value
-returns-then-rule-clause-result_value c = λ x w. no_conclusion _ w c.if-rule.true
+pub returns-in_default-clause-result_value : goal.returns-in_default-clause-result_value
+returns-in_default-clause-result_value c = λ x w. no_conclusion _ _ w (sym c.statements-conclusions.ensures.left ∙ c.in_default.ensures.steps.0)
 
-pub read_statement-first-requires : goal.read_statement-first-requires
-read_statement-first-requires c = statement_here c.requires.rule_stands.conclusion c.if-rule.false
-
-pub output_scope-requires-clause-sound : goal.output_scope-requires-clause-sound
-output_scope-requires-clause-sound c =
-    let w = c.requires.rule_stands.conclusion in
-    let l = c.if-rule.false in
-    let y = c.read_statement-first.ensures in record { symbol = symbol_here w l y; named = vars_here w l y }
+pub output_scope-requires-clause-stands : goal.output_scope-requires-clause-stands
+output_scope-requires-clause-stands c =
+    let step = c.in-Some.ensures.steps in
+    let from = c.statements-conclusions.ensures.from in
+    let rule = c.args.rule.stands in
+    rw (from, rule.same) at step.same ∙ stretch_behind _ _ _ _ _ (rw from at step.within)
 
 pub returns-clause-result_value : goal.returns-clause-result_value
 returns-clause-result_value c = λ x w.
-    c.output_scope.ensures.result_value x w
-    ∙ by_first _ w (statements_next c.requires.rule_stands.conclusion c.if-rule.false c.read_statement-first.ensures)
+    c.output_scope.ensures.result_value x w ∙ by_first _ _ w (sym c.statements-conclusions.ensures.left ∙ c.in-Some.ensures.steps.first)
+
+pub returns-clause-owners_from : goal.returns-clause-owners_from
+returns-clause-owners_from c =
+    owners_from c.args.rule _ (has_first c.args.rule (sym c.statements-conclusions.ensures.left ∙ c.in-Some.ensures.steps.first)) _ c.output_scope.ensures.leads

@@ -1,40 +1,39 @@
--- Invariant: what was passed, with its T counted, and the part from here on.
-use native.Mathlib.Omega.{arith}
-use mathlib.Core.Path.{sym, ◌∙◌}
+use Rattle.std.proofs.Common.{◌≡◌, ◌∙◌, ◌+◌, ◌-◌, length, sym, refl, arith}
 use borrow.Author.Tests.{eq-eqb, ne_eqb}
-use Rattle.signature.proofs.Passing.{pass_start, pass_next, pass_stop, pass_bad, pass_end}
+use lib.Dec.{eqb}
+use Rattle.definition.specs.Base.{pick}
+use Rattle.definition.specs.Letters.{letter_t}
+use Rattle.records.proofs.FieldsIn.{end_all, end_turn}
+use Rattle.signature.proofs.Passing.{pass_start, pass_turn, pass_stopped, pass_done}
+use Rattle.signature.proofs.reader.pass.Goals.{then-field-eq-LETTER_T, else-field-eq-LETTER_T, in-Some+then-not-may_follow, in_default}
 use Rattle.signature.proofs.reader.pass.Goals as goal
 
-pub loop-at-init : goal.loop-at-init
-loop-at-init c = pass_start _
+pub loop-field-init : goal.loop-field-init
+loop-field-init c =
+    let none : length c.args.s.now - length c.args.s.now ≡ 0 = omega arith in
+    rw (c.new-fields.ensures, none) (tt, tt, refl, end_all _, pass_start _)
 
-pub returns-in_default : goal.returns-in_default
-returns-in_default c =
-    let pair = pass_bad c.loop-at.invariant c.loop-at-test.true
-    (sym c.read_field.ensures.value ∙ c.in_default.is) in record { parted = pair.0; types_value = pair.1 }
+pub overflow_add-types : goal.overflow_add-types
+overflow_add-types c = omega (arith, c.loop-field.invariant.4.few)
 
-pub returns-then-not-may_follow : goal.returns-then-not-may_follow
-returns-then-not-may_follow c =
-    let pair = pass_stop c.loop-at.invariant (sym c.read_field.ensures.value ∙ c.in-Some.is)
-    (sym c.may_follow.ensures ∙ c.if-not-may_follow.true) in record { parted = pair.0; types_value = pair.1 }
-
-pub loop-at-smaller-then-letter-eq-LETTER_T : goal.loop-at-smaller-then-letter-eq-LETTER_T
-loop-at-smaller-then-letter-eq-LETTER_T c = let a = rw c.in-Some.is at c.read_field.ensures.ahead in omega arith
-
-pub loop-at-preserved-then-letter-eq-LETTER_T : goal.loop-at-preserved-then-letter-eq-LETTER_T
-loop-at-preserved-then-letter-eq-LETTER_T c =
-    rw (eq-eqb _ _ c.if-letter-eq-LETTER_T.true) at
-    (pass_next c.loop-at.invariant (sym c.read_field.ensures.value ∙ c.in-Some.is)
-    (sym c.may_follow.ensures ∙ c.if-not-may_follow.false))
-
-pub loop-at-smaller : goal.loop-at-smaller
-loop-at-smaller c = let a = rw c.in-Some.is at c.read_field.ensures.ahead in omega arith
-
-pub loop-at-preserved : goal.loop-at-preserved
-loop-at-preserved c =
-    rw (ne_eqb _ _ c.if-letter-eq-LETTER_T.false) at
-    (pass_next c.loop-at.invariant (sym c.read_field.ensures.value ∙ c.in-Some.is)
-    (sym c.may_follow.ensures ∙ c.if-not-may_follow.false))
+pub loop-field-preserved : goal.loop-field-preserved
+loop-field-preserved c =
+    let end = c.loop-field.invariant.3 in
+    let stands = c.in-Some.ensures.steps.1 in
+    let next = pass_turn end c.loop-field.invariant.4 stands (sym c.may_follow.ensures ∙ c.if-not-may_follow.false) in
+    let types : c.if-field-eq-LETTER_T.types ≡ pick (eqb c.in-Some.field.letter letter_t) (c.loop-field.types + 1) c.loop-field.types =
+    elim c.if-field-eq-LETTER_T.branch [
+      | then-field-eq-LETTER_T w ↦ w.types-is ∙ rw (eq-eqb _ _ w.if-field-eq-LETTER_T.true) refl
+      | else-field-eq-LETTER_T w ↦ w.types-is ∙ rw (ne_eqb _ _ w.if-field-eq-LETTER_T.false) refl
+    ] in
+    (tt, tt, c.rest-left.ensures, end_turn end stands, rw types next)
 
 pub returns : goal.returns
-returns c = let pair = pass_end c.loop-at.invariant c.loop-at-test.false in record { parted = pair.0; types_value = pair.1 }
+returns c =
+    let end = c.loop-field.invariant.3 in
+    let passing = c.loop-field.invariant.4 in
+    rw (c.split_at.ensures.front, c.loop-field.invariant.2) (elim c.match-next.branch [
+      | in-Some+then-not-may_follow w ↦
+          pass_stopped end passing w.in-Some.ensures.steps.1 (sym w.may_follow.ensures ∙ w.if-not-may_follow.true)
+      | in_default w ↦ pass_done end passing w.in_default.ensures.steps.0
+    ])

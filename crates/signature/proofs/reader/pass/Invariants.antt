@@ -1,10 +1,10 @@
-use Prim.Native.Nat.{◌-◌}
-use lib.ListN.{length}
+use Rattle.std.proofs.Common.{◌≡◌, ◌-◌, length}
+use Rattle.records.specs.Iter.{EndOf, rest_of}
 use Rattle.signature.proofs.Passing.{Passing}
 use Rattle.signature.proofs.reader.pass.Given as goal
 
-abbrev pub invariant-loop-at : goal.invariant-loop-at
-invariant-loop-at l = Passing l.s l.at l.behind l.types
-
-abbrev pub decreases-loop-at : goal.decreases-loop-at
-decreases-loop-at l = length l.s - l.at
+-- What was passed stands in front of what is left.
+abbrev pub invariant-loop-field : goal.invariant-loop-field
+invariant-loop-field l =
+    (goal.iterator-loop-field).can_next l.fields × (goal.iterator-loop-field).is_finite l.fields
+    × (l.left ≡ rest_of l.fields) × EndOf l.s (rest_of l.fields) × Passing l.s (length l.s - length (rest_of l.fields)) l.behind l.types

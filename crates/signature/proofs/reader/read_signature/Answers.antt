@@ -1,9 +1,8 @@
 -- No loop: the T, P and F fields are checked front to back. The first refusal is the record's first fault (`read_types`, `read_preds`,
 -- `read_funcs`). Without one, bytes that are left are 2 (`read_part_lem`); else it is accepted (`read_sound`), and the index holds its fields,
 -- as no check alters entries before its own (`read_indexed`). Each of these takes what the calls so far told.
-use borrow.Author.Tests.{not-true, not-false}
 use Rattle.records.proofs.Results.{passed_on}
-use Rattle.signature.proofs.Whole.{read_long, read_types, read_preds, read_funcs, read_part_lem, read_sound, read_indexed}
+use Rattle.signature.proofs.Whole.{read_long, read_types, read_preds, read_funcs, read_part_lem, read_sound, read_indexed, behind_types, behind_preds}
 use Rattle.signature.proofs.reader.read_signature.Goals as goal
 
 pub returns-then-s-gt-SIGNATURE_BYTES : goal.returns-then-s-gt-SIGNATURE_BYTES
@@ -12,35 +11,44 @@ returns-then-s-gt-SIGNATURE_BYTES c = read_long _ c.if-s-gt-SIGNATURE_BYTES.true
 pub returns-in_err-t : goal.returns-in_err-t
 returns-in_err-t c =
     rw (passed_on c.from_residual.ensures)
-    (read_types c.pass-p.ensures.parted c.pass-p.ensures.types_value c.if-s-gt-SIGNATURE_BYTES.false
-    c.check.ensures.checks_up_to c.in_err-t.was)
+    (read_types c.pass-types.ensures c.if-s-gt-SIGNATURE_BYTES.false c.new-all.result c.new-all.ensures c.check.ensures.checks_up_to c.in_err-t.was)
 
-pub returns-in_err-q : goal.returns-in_err-q
-returns-in_err-q c =
-    rw (passed_on c.from_residual-in_err-q.ensures)
-    (read_preds c.pass-p.ensures.parted c.pass-p.ensures.types_value c.if-s-gt-SIGNATURE_BYTES.false
-    c.check.ensures.checks_up_to c.in_ok-t.was c.check-2.ensures.checks_up_to c.in_err-q.was)
+pub check-requires-2-clause-end_of : goal.check-requires-2-clause-end_of
+check-requires-2-clause-end_of c =
+    behind_types c.pass-types.ensures c.if-s-gt-SIGNATURE_BYTES.false c.new-all.result c.new-all.ensures
+    c.check.ensures.checks_up_to c.in_ok-t.was
+
+pub returns-in_err-p : goal.returns-in_err-p
+returns-in_err-p c =
+    rw (passed_on c.from_residual-in_err-p.ensures)
+    (read_preds c.pass-types.ensures c.if-s-gt-SIGNATURE_BYTES.false c.new-all.result c.new-all.ensures
+    c.check.ensures.checks_up_to c.in_ok-t.was c.check-2.ensures.checks_up_to c.in_err-p.was)
+
+pub check-requires-3-clause-end_of : goal.check-requires-3-clause-end_of
+check-requires-3-clause-end_of c =
+    behind_preds c.pass-types.ensures c.if-s-gt-SIGNATURE_BYTES.false c.new-all.result c.new-all.ensures
+    c.check.ensures.checks_up_to c.in_ok-t.was c.check-2.ensures.checks_up_to c.in_ok-p.was
 
 pub returns-in_err-f : goal.returns-in_err-f
 returns-in_err-f c =
     rw (passed_on c.from_residual-in_err-f.ensures)
-    (read_funcs c.pass-p.ensures.parted c.pass-p.ensures.types_value c.if-s-gt-SIGNATURE_BYTES.false
-    c.check.ensures.checks_up_to c.in_ok-t.was c.check-2.ensures.checks_up_to c.in_ok-q.was c.check-3.ensures.checks_up_to c.in_err-f.was)
+    (read_funcs c.pass-types.ensures c.if-s-gt-SIGNATURE_BYTES.false c.new-all.result c.new-all.ensures
+    c.check.ensures.checks_up_to c.in_ok-t.was c.check-2.ensures.checks_up_to c.in_ok-p.was c.check-3.ensures.checks_up_to c.in_err-f.was)
 
-pub returns-then-not-p : goal.returns-then-not-p
-returns-then-not-p c =
-    read_part_lem c.pass-p.ensures.parted c.pass-p.ensures.types_value c.if-s-gt-SIGNATURE_BYTES.false
-    c.check.ensures.checks_up_to c.in_ok-t.was c.check-2.ensures.checks_up_to c.in_ok-q.was c.check-3.ensures.checks_up_to c.in_ok-f.was
-    (not-true _ c.if-not-p.true)
+pub returns-then-part-s : goal.returns-then-part-s
+returns-then-part-s c =
+    read_part_lem c.pass-types.ensures c.if-s-gt-SIGNATURE_BYTES.false c.new-all.result c.new-all.ensures
+    c.check.ensures.checks_up_to c.in_ok-t.was c.check-2.ensures.checks_up_to c.in_ok-p.was c.check-3.ensures.checks_up_to c.in_ok-f.was
+    c.if-part-s.true
 
 pub invariant_of-result : goal.invariant_of-result
 invariant_of-result c =
-    read_indexed c.pass-p.ensures.parted c.pass-p.ensures.types_value c.if-s-gt-SIGNATURE_BYTES.false
-    c.check.ensures.checks_up_to c.in_ok-t.was c.check-2.ensures.checks_up_to c.in_ok-q.was c.check-3.ensures.checks_up_to c.in_ok-f.was
-    c.check.ensures.stored c.check-2.ensures.stored c.check-3.ensures.stored
+    read_indexed c.pass-types.ensures c.if-s-gt-SIGNATURE_BYTES.false c.new-all.result c.new-all.ensures
+    c.check.ensures.checks_up_to c.in_ok-t.was c.check-2.ensures.checks_up_to c.in_ok-p.was c.check-3.ensures.checks_up_to c.in_ok-f.was
+    c.check.ensures.stored c.check-2.ensures.stored c.check-3.ensures.stored c.if-part-s.false
 
 pub returns : goal.returns
 returns c =
-    read_sound c.pass-p.ensures.parted c.pass-p.ensures.types_value c.if-s-gt-SIGNATURE_BYTES.false
-    c.check.ensures.checks_up_to c.in_ok-t.was c.check-2.ensures.checks_up_to c.in_ok-q.was c.check-3.ensures.checks_up_to c.in_ok-f.was
-    c.check.ensures.stored c.check-2.ensures.stored c.check-3.ensures.stored (not-false _ c.if-not-p.false)
+    read_sound c.pass-types.ensures c.if-s-gt-SIGNATURE_BYTES.false c.new-all.result c.new-all.ensures
+    c.check.ensures.checks_up_to c.in_ok-t.was c.check-2.ensures.checks_up_to c.in_ok-p.was c.check-3.ensures.checks_up_to c.in_ok-f.was
+    c.check.ensures.stored c.check-2.ensures.stored c.check-3.ensures.stored c.if-part-s.false

@@ -1,29 +1,50 @@
 -- Of the Equalities by image, those of the target's elements from the j-th on are left (`Writing`, `over_bytes`). For a flagged element its
 -- fiber's are put (`els_on`); one without a flag is the image of one key at most (`unflagged`), so it has none (`els_pass`). All of them
 -- together are the Equalities of the kernel pairs (`equalities_are`).
-use mathlib.Core.Path.{sym}
-use Rattle.records.proofs.Tail.{begin, wrote, passed, finish}
+use Prim.Native.Nat.{◌≤◌, ◌<◌}
+use native.Mathlib.Omega.{arith}
+use mathlib.Core.Path.{refl, sym, ◌∙◌, ap}
+use lib.ListN.{length, get_or}
+use Rattle.definition.specs.Kinds.{variable_in}
+use Rattle.definition.specs.Names.{numbers_of}
+use Rattle.records.proofs.Tail.{wrote, passed, finish}
+use Rattle.rows.proofs.Places.{numbers_many}
 use Rattle.rows.proofs.Several.{unflagged}
-use Rattle.statements.proofs.KernelPairs.{keys_given, equalities_are}
-use Rattle.statements.proofs.Fibers.{els_on, els_pass, els_end, over_bytes, place_in_numbers}
+use Rattle.rule.specs.Views.{StructureBy}
+use Rattle.statements.specs.Structures.{side_of}
+use Rattle.statements.proofs.KernelPairs.{keys_typed, equalities_are}
+use Rattle.statements.proofs.Fibers.{els_on, els_pass, els_end, over_bytes}
 use Rattle.statements.proofs.equalities.put_equalities.Goals.{else-flag, then-flag}
 use Rattle.statements.proofs.equalities.put_equalities.Goals as goal
 
-pub loop-j-init : goal.loop-j-init
-loop-j-init c = begin _ _ c.requires.from_le_count_limit
+pub put_fiber-at-requires-clause-keys_typed : goal.put_fiber-at-requires-clause-keys_typed
+put_fiber-at-requires-clause-keys_typed c =
+    let q = c.new-source.ensures ∙ ap (λ (x : StructureBy). side_of x.structure c.args.row.now) c.source.ensures.value in
+    rw c.map.ensures.value (keys_typed q c.source.ensures.between.keys c.requires.given_out)
 
 pub loop-j-preserved : goal.loop-j-preserved
 loop-j-preserved c =
-    let l = c.requires.between.target_at.laid in let n = c.element_count-j-end.ensures in let h = c.loop-j-test.true in
+    let m = c.args.m.now in
+    let q = c.new-source.ensures ∙ ap (λ (x : StructureBy). side_of x.structure c.args.row.now) c.source.ensures.value in
+    let to = c.target-target.ensures.value in
+    let k = c.element_count-j-end.ensures.count_value ∙ ap (λ (x : StructureBy). length x.structure.elements) to in
+    let n = numbers_many m.target in let l = c.loop-j-test.true in
+    let h : c.loop-j.j < length (numbers_of m.target) = omega arith in
     elim c.if-flag.branch [
-      | then-flag w ↦ rw (w.out-is, w.at-is)
-          (wrote c.loop-j.invariant (els_on _ _ l _ _ n h w.element_number-e.ensures) w.put_fiber-at.ensures)
+      | then-flag w ↦ rw (w.out-is, w.at-is) (wrote c.loop-j.invariant
+          (els_on _ _ _ _ _ _ h (w.element_number.ensures ∙ ap (λ (x : StructureBy). get_or (numbers_of x.structure) c.loop-j.j 0) to)
+          (ap variable_in q) w.map.ensures.value)
+          w.put_fiber-at.ensures)
       | else-flag w ↦ rw (w.out-is, w.at-is) (passed c.loop-j.invariant
-          (els_pass _ _ l _ _ n h (unflagged c.requires.between.merged _ (place_in_numbers l n h) (sym w.if-flag.ensures))))
+          (els_pass _ _ _ _ _ _ h (unflagged c.source.ensures.between.merged _ h (rw c.merged-merged.ensures.value at (sym w.if-flag.ensures)))))
     ]
 
 pub returns-clause-put : goal.returns-clause-put
 unfolding over_bytes
 returns-clause-put c =
-    let r = finish c.loop-j.invariant (els_end _ _ c.requires.between.target_at.laid _ _ c.element_count-j-end.ensures c.loop-j-test.false) in
-    λ sig table target t q. rw (equalities_are (keys_given c.requires.between.joins c.requires.given_out) t _ sig target q) r
+    let m = c.args.m.now in
+    let k = c.element_count-j-end.ensures.count_value ∙ ap (λ (x : StructureBy). length x.structure.elements) c.target-target.ensures.value in
+    let n = numbers_many m.target in let l = c.loop-j-test.false in
+    let h : length (numbers_of m.target) ≤ c.loop-j.j = omega arith in
+    let r = finish c.loop-j.invariant (els_end _ _ _ _ _ _ h) in
+    λ table target t q. rw (equalities_are (keys_typed refl c.source.ensures.between.keys c.requires.given_out) t target, q) r

@@ -1,9 +1,11 @@
-use Rattle.statements.proofs.Elements.{members_from}
-use Rattle.rule.specs.Structures.{structure_in}
+use Rattle.definition.specs.Kinds.{variable_in}
+use Rattle.group.specs.Sections.{letter_of}
 use Rattle.records.proofs.Tail.{Writing}
+use Rattle.statements.specs.Structures.{side_from}
+use Rattle.statements.proofs.Elements.{members_from}
 use Rattle.statements.proofs.members.put_members.Given as goal
 
 abbrev pub invariant-loop-place : goal.invariant-loop-place
 invariant-loop-place l =
-    Writing l.initial.out l.out l.from l.at (members_from l.letter (structure_in l.s l.k) l.row l.mask 0)
-    (members_from l.letter (structure_in l.s l.k) l.row l.mask l.place-index)
+    let bytes = members_from (letter_of l.side) l.numbered.structure.now.structure (variable_in (side_from l.numbered)) l.mask in
+    Writing l.initial.out l.out l.from l.at (bytes 0) (bytes l.place-index)

@@ -3,4 +3,4 @@ use Rattle.statements.proofs.Unsaid.{unsaid, rows_none}
 use Rattle.statements.proofs.sections.put_rows.Goals as goal
 
 pub returns-then-none_set : goal.returns-then-none_set
-returns-then-none_set c = unsaid _ _ (rows_none _ _ _ (sym c.if-none_set.ensures)) c.requires.from_le_count_limit.0
+returns-then-none_set c = unsaid _ _ (rows_none _ _ (sym c.if-none_set.ensures) _) c.requires

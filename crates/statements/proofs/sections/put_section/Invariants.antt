@@ -1,15 +1,15 @@
-use Prim.Native.Nat.{◌-◌}
+use Rattle.definition.specs.Kinds.{variable_in}
+use Rattle.group.specs.Sections.{letter_of}
 use Rattle.records.proofs.Tail.{Writing}
-use Rattle.rule.specs.Structures.{structure_in}
-use Rattle.statements.specs.Parts.{variable_by, rows_at}
+use Rattle.rule.specs.Row.{rows_left}
+use Rattle.statements.specs.Parts.{rows_as}
+use Rattle.statements.specs.Structures.{side_from}
 use Rattle.statements.proofs.Rows.{Rowing, rows_from}
 use Rattle.statements.proofs.sections.put_section.Given as goal
 
-abbrev pub invariant-loop-field : goal.invariant-loop-field
-invariant-loop-field l =
-    let rows = rows_at (structure_in l.s l.k) l.chosen.place in
-    let bytes = rows_from l.letter (variable_by (structure_in l.s l.k) l.row) l.chosen rows in
-    Rowing l.s (structure_in l.s l.k) rows l.chosen.omitted l.field l.end l.i × Writing l.initial.out l.out l.from l.at (bytes 0) (bytes l.i)
-
-abbrev pub decreases-loop-field : goal.decreases-loop-field
-decreases-loop-field l = l.end - l.field
+abbrev pub invariant-loop-i : goal.invariant-loop-i
+invariant-loop-i l =
+    let bytes = rows_from (letter_of l.side) (variable_in (side_from l.numbered)) l.said l.mask in
+    Rowing l.i-iterator.count (rows_left l.i-iterator.iter)
+    × Writing l.initial.out l.out l.from l.at (bytes 0 (rows_as l.said l.numbered.structure.now.structure))
+    (bytes l.i-iterator.count (rows_left l.i-iterator.iter))

@@ -1,23 +1,18 @@
 -- Behind the statement's head the loop has written the variables of the first i elements (Writing).
-use Rattle.records.proofs.Tail.{begin, wrote, finish}
-use Rattle.rule.proofs.ListLaws.{el_mem}
+use Rattle.records.proofs.Tail.{wrote, finish}
 use Rattle.group.proofs.Writing.{statement_put}
-use Rattle.statements.proofs.Variables.{els_said, els_said_on, els_said_end}
+use Rattle.statements.proofs.Variables.{variables_on, variables_end}
+use Rattle.statements.proofs.Rows.{part_many}
+use Rattle.definition.specs.Rows.{row_statement}
+use Rattle.rule.specs.Row.{row_from}
 use borrow.Author.Rules.{rules}
 use Rattle.statements.proofs.sections.write_row.Goals as goal
 
-pub loop-i-init : goal.loop-i-init
-loop-i-init c = begin _ _ (search rules)
-
-pub var_of-requires-clause-named : goal.var_of-requires-clause-named
-var_of-requires-clause-named c = c.requires.named_in.named _ (el_mem c.requires.els_inside.0 _ c.loop-i-test.true c.el_at.ensures)
-
 pub loop-i-preserved : goal.loop-i-preserved
-loop-i-preserved c =
-    wrote c.loop-i.invariant (els_said_on c.requires.els_inside.0 _ _ c.loop-i-test.true c.el_at.ensures c.var_of.ensures) c.put_num-at.ensures
+loop-i-preserved c = wrote c.loop-i.invariant (variables_on _ _ _ (search rules) (rw c.at.ensures at c.var_of.ensures)) c.put_num-at.ensures
 
 pub returns : goal.returns
+unfolding row_statement
 returns c =
-    let w = c.requires.els_inside.0 in
-    let rest = finish c.loop-i.invariant (els_said_end w _ _ c.loop-i-test.false) in
-    statement_put _ _ (els_said w _) c.put_statement_head-at.ensures rest
+    let rest = finish c.loop-i.invariant (variables_end _ _ _ (search rules)) in
+    statement_put _ _ (part_many _ (row_from c.args.row) c.count-count.ensures) c.put_statement_head-at.ensures rest

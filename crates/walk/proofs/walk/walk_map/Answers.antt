@@ -4,54 +4,42 @@
 use borrow.Author.Rules.{rules}
 use mathlib.Core.Path.{refl}
 use Rattle.std.proofs.lemmas.Result.{err_from_is_err_and}
-use Rattle.walk.proofs.Grounds.{byte_types}
-use Rattle.walk.proofs.Numbers.{count_small, fresh_room}
-use Rattle.walk.proofs.Going.{ends_stop, walkable, room, typed_room, target_laid, given_read, typed_read, reaches, went_refused, went_on}
+use Rattle.walk.proofs.Going.{ends_stop, walkable, room, typed_room, reaches, went_refused, new_small, went_on}
 use Rattle.walk.proofs.walk.walk_map.Goals as goal
 
 pub returns-in_err-ends : goal.returns-in_err-ends
 returns-in_err-ends c =
     let p = err_from_is_err_and c.from_residual.result c.from_residual.ensures.1 in
-    rw (p.1, p.2) (λ g. ends_stop c.requires.ground c.requires.met g.going c.in_err-ends.ensures)
+    rw (p.1, p.2) (ends_stop c.requires.sound c.requires.kinded c.meet_map-m.ensures c.requires.going c.in_err-ends.ensures)
 
-pub assign_el_vars-vars-requires-clause-given_out : goal.assign_el_vars-vars-requires-clause-given_out
-assign_el_vars-vars-requires-clause-given_out c =
-    let g = c.requires.going_from in given_read (walkable c.requires.ground c.requires.met g.going c.in_ok-ends.ensures) g.row
+pub assign_el_vars-vars-requires : goal.assign_el_vars-vars-requires
+assign_el_vars-vars-requires c =
+    room (walkable c.requires.sound c.requires.kinded c.meet_map-m.ensures c.requires.going c.merged-merged.ensures.between c.in_ok-ends.ensures)
 
-pub assign_el_vars-vars-requires-clause-field_limit_bound : goal.assign_el_vars-vars-requires-clause-field_limit_bound
-assign_el_vars-vars-requires-clause-field_limit_bound c =
-    room (walkable c.requires.ground c.requires.met c.requires.going_from.going c.in_ok-ends.ensures)
+pub flatten_map-requires : goal.flatten_map-requires
+flatten_map-requires c =
+    reaches (walkable c.requires.sound c.requires.kinded c.meet_map-m.ensures c.requires.going c.merged-merged.ensures.between c.in_ok-ends.ensures) refl
+    c.assign_el_vars-vars.ensures
 
-pub flatten_map-requires-clause-reaches : goal.flatten_map-requires-clause-reaches
-flatten_map-requires-clause-reaches c =
-    let g = c.requires.going_from in
-    reaches (walkable c.requires.ground c.requires.met g.going c.in_ok-ends.ensures) g.row c.assign_el_vars-vars.ensures
+pub returns-in_err-said : goal.returns-in_err-said
+returns-in_err-said c =
+    let p = err_from_is_err_and c.from_residual-in_err-said.result c.from_residual-in_err-said.ensures.1 in
+    rw (p.1, p.2) (went_refused
+    (walkable c.requires.sound c.requires.kinded c.meet_map-m.ensures c.requires.going c.merged-merged.ensures.between c.in_ok-ends.ensures) refl
+    c.assign_el_vars-vars.ensures c.in_err-said.ensures)
 
-pub flatten_map-requires-clause-given_out : goal.flatten_map-requires-clause-given_out
-flatten_map-requires-clause-given_out c =
-    let g = c.requires.going_from in typed_read (walkable c.requires.ground c.requires.met g.going c.in_ok-ends.ensures) g.row
+pub type_variables-requires : goal.type_variables-requires
+type_variables-requires c =
+    typed_room (walkable c.requires.sound c.requires.kinded c.meet_map-m.ensures c.requires.going c.merged-merged.ensures.between c.in_ok-ends.ensures)
 
-pub returns-in_err-added : goal.returns-in_err-added
-returns-in_err-added c =
-    let p = err_from_is_err_and c.from_residual-in_err-added.result c.from_residual-in_err-added.ensures.1 in
-    rw (p.1, p.2) (λ g. went_refused (walkable c.requires.ground c.requires.met g.going c.in_ok-ends.ensures) g.row c.assign_el_vars-vars.ensures
-    c.in_err-added.ensures)
-
-pub type_variables-requires-clause-byte_types : goal.type_variables-requires-clause-byte_types
-type_variables-requires-clause-byte_types c =
-    byte_types c.requires.ground _ c.requires.met.target_in
-
-pub type_variables-requires-clause-field_limit_in_bounds : goal.type_variables-requires-clause-field_limit_in_bounds
-type_variables-requires-clause-field_limit_in_bounds c =
-    typed_room (walkable c.requires.ground c.requires.met c.requires.going_from.going c.in_ok-ends.ensures)
-
-pub overflow_add-next : goal.overflow_add-next
-overflow_add-next c =
-    let can = walkable c.requires.ground c.requires.met c.requires.going_from.going c.in_ok-ends.ensures in
-    let h = fresh_room _ _ c.fresh.ensures (count_small (target_laid can) c.element_count.ensures) (room can) in search rules
+pub overflow_add-result : goal.overflow_add-result
+overflow_add-result c =
+    let can = walkable c.requires.sound c.requires.kinded c.meet_map-m.ensures c.requires.going c.merged-merged.ensures.between c.in_ok-ends.ensures in
+    let h = new_small can refl c.assign_el_vars-vars.ensures in rw (c.fresh.ensures, c.target-st.ensures.value) (search rules)
 
 pub returns : goal.returns
-returns c = λ g.
-    let can = walkable c.requires.ground c.requires.met g.going c.in_ok-ends.ensures in
-    went_on can g.row c.assign_el_vars-vars.ensures c.in_ok-added.ensures c.fresh.ensures
-    c.element_count.ensures c.type_variables.ensures refl (rw c.masks_row.ensures)
+returns c =
+    let can = walkable c.requires.sound c.requires.kinded c.meet_map-m.ensures c.requires.going c.merged-merged.ensures.between c.in_ok-ends.ensures in
+    rw (c.fresh.ensures, c.target-st.ensures.value)
+    (went_on can refl c.assign_el_vars-vars.ensures c.in_ok-said.ensures c.merged-merged.ensures.value
+    (rw c.target-st.ensures.value at c.type_variables.ensures) refl)

@@ -3,5 +3,5 @@ use Rattle.writer.proofs.lengths.body_length.Goals as goal
 
 pub returns-clause-put : goal.returns-clause-put
 returns-clause-put c =
-    λ e x b q. body_measured e c.requires.reaching x c.requires.from_le_count_limit.1.0 c.requires.from_le_count_limit.0
-    c.past.ensures b (c.put_conclusion.ensures.put e x q)
+    let f = c.requires.from_le_count_limit in
+    λ x p q. body_measured _ _ _ _ f.1.0 f.0 c.past.ensures p (c.put_conclusion.ensures.put x q)

@@ -1,20 +1,31 @@
-use mathlib.Core.Path.{◌≡◌}
 use borrow.Author.Rules.{rules}
-use Rattle.std.specs.Prelude.{Some}
-use Rattle.rule.specs.declared.lookup.MorphismKind.TheVariants as variant
+use mathlib.Core.Logic.{◌⊎◌}
+use mathlib.Core.Path.{◌≡◌}
+use Rattle.std.specs.Prelude.{Some, None}
+use Rattle.rule.specs.declared.tail.MorphismKind.TheVariants as variant
 use Rattle.writer.proofs.Ruling.{emits_surj, emits_rows, emits_none}
 use Rattle.writer.proofs.rules.emits.Goals as goal
 
-pub returns-then-eq : goal.returns-then-eq
-returns-then-eq c = let h : c.reached_by-kind.result ≡ Some variant.SurjThen = search rules in emits_surj c.reached_by-kind.ensures h
+pub returns-in-Some-SurjThen : goal.returns-in-Some-SurjThen
+returns-in-Some-SurjThen c =
+    let k : c.kind.result ≡ Some variant.SurjThen = search rules in emits_surj c.args.w.now _ (rw k at c.kind.ensures.kind)
 
-pub returns-then-eq-2 : goal.returns-then-eq-2
-returns-then-eq-2 c =
-    let h : c.reached_by-kind.result ≡ Some variant.NonSurjThen = search rules in
-    emits_rows c.reached_by-kind.ensures h (rw (c.none_set.ensures, c.mask_at.ensures))
+pub returns-in-Some-NonSurjThen : goal.returns-in-Some-NonSurjThen
+returns-in-Some-NonSurjThen c =
+    let k : c.kind.result ≡ Some variant.NonSurjThen = search rules in
+    rw (c.none_set.ensures, c.masks.ensures.said) (emits_rows c.args.w.now _ (rw k at c.kind.ensures.kind))
 
-pub returns-else-eq-2 : goal.returns-else-eq-2
-returns-else-eq-2 c =
-    let h : c.reached_by-kind.result ≡ Some variant.SurjThen → ⊥ = search rules in
-    let k : c.reached_by-kind.result ≡ Some variant.NonSurjThen → ⊥ = search rules in
-    let e = c.if-eq-2.false in rw e (emits_none c.reached_by-kind.ensures h k)
+pub returns-in-Some-If : goal.returns-in-Some-If
+returns-in-Some-If c =
+    let one : (c.kind.result ≡ Some variant.If) ⊎ ((c.kind.result ≡ Some variant.Noop) ⊎ (c.kind.result ≡ None)) = search rules in
+    emits_none c.args.w.now _ one c.kind.ensures.kind
+
+pub returns-in-Some-If-2 : goal.returns-in-Some-If-2
+returns-in-Some-If-2 c =
+    let one : (c.kind.result ≡ Some variant.If) ⊎ ((c.kind.result ≡ Some variant.Noop) ⊎ (c.kind.result ≡ None)) = search rules in
+    emits_none c.args.w.now _ one c.kind.ensures.kind
+
+pub returns-in-Some-If-3 : goal.returns-in-Some-If-3
+returns-in-Some-If-3 c =
+    let one : (c.kind.result ≡ Some variant.If) ⊎ ((c.kind.result ≡ Some variant.Noop) ⊎ (c.kind.result ≡ None)) = search rules in
+    emits_none c.args.w.now _ one c.kind.ensures.kind

@@ -1,28 +1,20 @@
-use Rattle.writer.proofs.Premises.{both_small, stands_at, surj_mapped}
-use Rattle.writer.proofs.Ruling.{surj_put, rows_put}
 use mathlib.Core.Path.{◌≡◌}
 use borrow.Author.Rules.{rules}
 use Rattle.std.specs.Prelude.{Some}
-use Rattle.rule.specs.declared.lookup.MorphismKind.TheVariants as variant
+use Rattle.rule.specs.declared.tail.MorphismKind.TheVariants as variant
+use Rattle.writer.proofs.Ruling.{surj_concludes, rows_conclude}
 use Rattle.writer.proofs.rules.put_conclusion.Goals as goal
 
-pub reached_by-kind-requires : goal.reached_by-kind-requires
-reached_by-kind-requires c = both_small c.requires.ended c.requires.reaching
-
-pub put_both-requires-clause-from_le_count_limit : goal.put_both-requires-clause-from_le_count_limit
-put_both-requires-clause-from_le_count_limit c =
-    let q : c.reached_by-kind.result ≡ Some variant.SurjThen = search rules in
-    (c.requires.from_le_count_limit, surj_mapped c.requires.ended c.requires.reaching c.reached_by-kind.ensures q)
+pub put_both-requires-clause-mapped : goal.put_both-requires-clause-mapped
+put_both-requires-clause-mapped c = let k : c.kind.result ≡ Some variant.SurjThen = search rules in c.kind.ensures.mapped (rw k)
 
 pub returns-then-eq-clause-put : goal.returns-then-eq-clause-put
 returns-then-eq-clause-put c =
-    let k : c.reached_by-kind.result ≡ Some variant.SurjThen = search rules in
-    λ e x q. surj_put e c.requires.reaching c.reached_by-kind.ensures k q (c.put_both.ensures.by_index_2 _ e)
-
-pub put_domains-requires-clause-stands : goal.put_domains-requires-clause-stands
-put_domains-requires-clause-stands c = stands_at c.requires.ended c.requires.reaching
+    let k : c.kind.result ≡ Some variant.SurjThen = search rules in
+    λ x q. rw (surj_concludes c.args.w.now _ x q (rw k at c.kind.ensures.kind)) c.put_both.ensures.put
 
 pub returns-clause-put : goal.returns-clause-put
 returns-clause-put c =
-    let k : c.reached_by-kind.result ≡ Some variant.SurjThen → ⊥ = search rules in
-    λ e x q. rows_put e c.requires.reaching c.reached_by-kind.ensures k q (rw c.mask_at-funcs.ensures at c.put_domains.ensures)
+    let k : c.kind.result ≡ Some variant.SurjThen → ⊥ = search rules in
+    let p = rw (c.masks.ensures.said, c.row.ensures.value, c.structure.ensures) at c.put_domains.ensures in
+    λ x q. rw (rows_conclude c.args.w.now _ x q k c.kind.ensures.kind) p

@@ -1,6 +1,5 @@
 use Rattle.writer.proofs.Ruling.{Ruling}
-use Rattle.walk.specs.Tables.{tables}
 use Rattle.writer.proofs.rules.put_rules.Given as goal
 
 abbrev pub invariant-loop-t : goal.invariant-loop-t
-invariant-loop-t l = Ruling l.initial.out l.out l.s l.index l.types l.kinds (tables l.sources l.masks l.vars) l.from l.at l.k l.t
+invariant-loop-t l = Ruling l.initial.out l.out l.w l.from l.at l.k l.t
