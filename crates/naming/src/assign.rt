@@ -1,5 +1,5 @@
 // The variables that the elements of a structure get when a map reaches it.
-ghost use Rattle.std.specs.Prelude.{◌≡◌, ◌+◌, ◌≤◌};
+ghost use Rattle.std.specs.Prelude.{None, ◌≡◌, ◌+◌, ◌≤◌, replicate};
 ghost use Rattle.definition.specs.Limits.{field_limit, variable_limit};
 ghost use Rattle.definition.specs.Names.{numbered};
 ghost use Rattle.definition.specs.Walk.{nothing_taken};
@@ -12,24 +12,24 @@ use rule::ids::FIELDS;
 use rule::views::Structure;
 
 // What each element of the target takes over: by ascending key, the image takes the key's variable, a later key replacing.
-// The variables are those of the source's elements. Keys and images are elements, so each of them is found.
-pub fn carried(row: &[u16; FIELDS], m: &Morphism<'_>) -> [Option<u16>; FIELDS]
-    ensures { taken_in m.now.target result ≡ taken_over row.now m.now }
+// The variables are those of the source's elements. Keys and images are elements, so each of them is found. The row is lent: handed back, it was
+// copied, and by a call of the C library.
+fn carried(row: &[u16; FIELDS], m: &Morphism<'_>, taken: &mut [Option<u16>; FIELDS])
+    requires { taken.old ≡ replicate field_limit None }
+    ensures { taken_in m.now.target taken.new ≡ taken_over row.now m.now }
 {
     let source = m.source();
     let target = m.target();
     let map = m.map();
-    let mut taken = [None; FIELDS];
     for p in 0..map.count() {
         let Some(i) = source.find_element(map.key(p)) else {
-            return taken;
+            continue;
         };
         let Some(j) = target.find_element(map.image(p)) else {
-            return taken;
+            continue;
         };
         taken[j] = Some(row[i]);
     }
-    taken
 }
 
 // The target's variables, by the source's row: those taken over, and the next numbers for the other elements.
@@ -37,7 +37,8 @@ pub fn assign_el_vars(row: &[u16; FIELDS], m: &Morphism<'_>, next: u16) -> [u16;
     requires { next + field_limit ≤ variable_limit }
     ensures { result ≡ row_of (numbered next (taken_over row.now m.now)) }
 {
-    let taken = carried(row, m);
+    let mut taken = [None; FIELDS];
+    carried(row, m, &mut taken);
     assign_structure_el_vars(&taken[..m.target().element_count()], next)
 }
 

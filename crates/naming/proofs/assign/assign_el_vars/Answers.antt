@@ -5,4 +5,4 @@ pub returns : goal.returns
 unfolding taken_in
 returns c =
     let n = rw c.target.ensures.value at c.element_count.ensures.count_value in
-    rw (← c.carried-taken.ensures, ← n) c.assign_structure_el_vars.ensures
+    rw (← c.carried.ensures, ← n) c.assign_structure_el_vars.ensures

@@ -1,5 +1,5 @@
 -- What the target takes over by the first p pairs is known (`Carrying`). Keys and images are elements, so both are found, and the two
--- early returns are never reached (`not_absent`). The p-th pair puts its key's variable at its image's place, over that of an earlier key
+-- early turns are never taken (`not_absent`). The p-th pair puts its key's variable at its image's place, over that of an earlier key
 -- (`carry`); after all pairs it is `taken_over` (`carry_end`).
 use Rattle.std.proofs.Common.{◌<◌, length, arith}
 use Rattle.rows.proofs.Places.{found_place}
@@ -7,16 +7,16 @@ use Rattle.naming.proofs.Carrying.{carrying, carry, not_absent}
 use Rattle.naming.proofs.assign.carried.Goals as goal
 
 pub loop-p-init : goal.loop-p-init
-loop-p-init c = carrying _ _ (rw c.target-target.ensures.value at c.target-target.ensures.sound)
+loop-p-init c = rw c.requires (carrying _ _ (rw c.target-target.ensures.value at c.target-target.ensures.sound))
 
-pub returns-in_default : goal.returns-in_default
-returns-in_default c =
+pub loop-p-preserved-in_default : goal.loop-p-preserved-in_default
+loop-p-preserved-in_default c =
     let h : c.loop-p.p < length c.args.m.now.pairs = rw c.map-map.ensures.value at (rw c.count-p-end.ensures.count_value at c.loop-p-test.true) in
     (not_absent c.args.m.now c.map-map.ensures.between h).0
     (rw (c.key.ensures, c.source-source.ensures.value, c.map-map.ensures.value) at c.in_default.ensures)
 
-pub returns-in_default-find_element : goal.returns-in_default-find_element
-returns-in_default-find_element c =
+pub loop-p-preserved-in_default-find_element : goal.loop-p-preserved-in_default-find_element
+loop-p-preserved-in_default-find_element c =
     let h : c.loop-p.p < length c.args.m.now.pairs = rw c.map-map.ensures.value at (rw c.count-p-end.ensures.count_value at c.loop-p-test.true) in
     (not_absent c.args.m.now c.map-map.ensures.between h).1
     (rw (c.image.ensures, c.target-target.ensures.value, c.map-map.ensures.value) at c.in_default-find_element.ensures)
