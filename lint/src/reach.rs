@@ -17,12 +17,13 @@ const KEYWORDS: [&str; 17] = [
     "ref", "return", "where", "while",
 ];
 
-/// What std has and our sources call: methods, functions of its types, macros that call nothing. They hold no division of ours to find; what
-/// is passed to them, a closure too, stands where it is passed.
-const STD: [&str; 23] = [
+/// What std has and our sources call: methods, functions of its types, macros that call nothing. None of them divides in std's own sources,
+/// nor does what it calls there (`as_chunks` and `to_be_bytes` do, so they aren't here). What is passed to them, a closure too, stands where it
+/// is passed. What std has for an operator isn't seen: of comparisons `==` and `!=` of slices and arrays divide there, so our sources have
+/// `same_bytes`.
+const STD: [&str; 21] = [
     ".all",
     ".any",
-    ".as_chunks",
     ".copy_within",
     ".enumerate",
     ".find",
@@ -36,7 +37,6 @@ const STD: [&str; 23] = [
     ".rev",
     ".saturating_sub",
     ".split_at",
-    ".to_be_bytes",
     ".unwrap_or",
     "matches!",
     "u16::from",

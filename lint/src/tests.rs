@@ -261,6 +261,22 @@ fn what_neither_we_nor_std_are_known_to_have_is_refused() {
     }
 }
 
+/// Std has these, but its own sources divide in them.
+#[test]
+fn what_divides_in_std_is_refused() {
+    for (body, name) in [
+        ("n.as_chunks::<2>()", ".as_chunks"),
+        (
+            "n.iter().all(|pairs| pairs.as_chunks::<2>().0.len() == 1)",
+            ".as_chunks",
+        ),
+        ("n.to_be_bytes()", ".to_be_bytes"),
+    ] {
+        let found = format!("a:4: {name} isn't found");
+        assert_eq!(said(body), Err(found), "{body}");
+    }
+}
+
 #[test]
 fn a_source_that_cannot_be_followed_is_refused() {
     for source in [

@@ -8,7 +8,7 @@ ghost use Rattle.group.specs.Index.{VariableAt, Indexed};
 ghost use Rattle.group.specs.Lookups.{Accepted, content, Named};
 
 use crate::ids::{BEFORE_NAME, FIELD_HEAD, GROUP_INDEX, GroupCounts, VARIABLES_FROM, VarId};
-use records::contents::number;
+use records::contents::{number, same_bytes};
 use records::fields::{num, two};
 use signature::ids::TypeId;
 use signature::lookup::Signature;
@@ -33,11 +33,36 @@ impl<'a> Model for Group<'a> {
 }
 
 impl<'a> Group<'a> {
+    // That of some bytes, by an index that holds its fields, and how many variables and rules there are.
+    pub fn of(
+        signature: &'a Signature<'a>,
+        bytes: &'a [u8],
+        index: &'a [u16; GROUP_INDEX],
+        counts: GroupCounts,
+    ) -> Group<'a>
+        requires { Indexed signature.now bytes.now index.now counts.variables counts.rules }
+        ensures { result ≡ record { signature = signature.now; bytes = bytes.now } }
+    {
+        Group {
+            signature,
+            bytes,
+            index,
+            counts,
+        }
+    }
+
     // The signature that it was read by.
     pub fn signature(&self) -> &'a Signature<'a>
         ensures { result.now ≡ self.now.signature }
     {
         self.signature
+    }
+
+    // How many variables it has.
+    pub fn variables(&self) -> usize
+        ensures { result ≡ length (content self.now).variables }
+    {
+        self.counts.variables
     }
 
     // How many rules it has.
@@ -78,13 +103,13 @@ impl<'a> Group<'a> {
     }
 
     // Are two variables the same, by name and type? Their numbers say nothing: `a1` at 2 and `a` at 12 both print `a12`.
-    #[tactic(auto, unfolding(definition::specs::Scope::same_variable), using(records::proofs::Slices::same_slices))]
+    #[tactic(auto, unfolding(definition::specs::Scope::same_variable))]
     pub fn same_variable(&self, v: VarId, w: VarId) -> bool
         requires { (v.0 < length (content self.now).variables) × (w.0 < length (content self.now).variables) }
         ensures { result ≡ same_variable (content self.now).variables v.0 w.0 }
     {
         self.variable_type(v) == self.variable_type(w)
-            && self.variable_name(v) == self.variable_name(w)
+            && same_bytes(self.variable_name(v), self.variable_name(w))
     }
 
     // Are the variables of two lists the same? Each is of two bytes.

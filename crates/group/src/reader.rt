@@ -5,13 +5,13 @@ ghost use Rattle.definition.specs.Limits.{group_bytes};
 ghost use Rattle.definition.specs.Records as definition;
 ghost use Rattle.definition.specs.Records.{follows};
 ghost use Rattle.definition.specs.Signature.{Signature};
-ghost use Rattle.definition.specs.Group.{group_grammar, group_part, read_group, title_fault, statement_fault};
+ghost use Rattle.definition.specs.Group.{group_grammar, group_of, group_part, read_group, title_fault, statement_fault};
 ghost use Rattle.records.specs.Places.{Run, Parted};
 ghost use Rattle.records.specs.Refusals.{outcome_by};
 ghost use Rattle.group.specs.Lookups.{content};
-ghost use Rattle.signature.specs.Index.{signature_at, Indexed};
+ghost use Rattle.group.specs.declared.ids.GroupCounts.{GroupCounts};
 ghost use Rattle.group.specs.Sections.{AtRule, letter_of, kinds_of};
-ghost use Rattle.group.specs.Index.{index_size};
+ghost use Rattle.group.specs.Index.{index_size, Indexed};
 ghost use Rattle.group.specs.Answers.{
   Onward,
   RuleOnward,
@@ -220,14 +220,17 @@ fn rules(
     Ok(Checked { count, next: at })
 }
 
-// The group, or why it is refused. The index is lent for as long as the group is used.
-pub fn read_group<'a>(
-    sig: &'a Signature<'a>,
-    s: &'a [u8],
-    index: &'a mut [u16; GROUP_INDEX],
-) -> Result<Group<'a>, Refusal>
-    ensures value { outcome_by content result ≡ read_group sig.now s.now }
-    ensures read { IfOk result (λ g. (g.signature ≡ sig.now) × (g.bytes ≡ s.now)) }
+// How many variables and rules the group has, or why it is refused; where it is accepted, the index holds the positions of its fields.
+// The index is lent for the call alone. Where the group is refused, the entries of the index are left free: any may have been written,
+// and only their number holds.
+pub fn index_group(
+    sig: &Signature<'_>,
+    s: &[u8],
+    index: &mut [u16; GROUP_INDEX],
+) -> Result<GroupCounts, Refusal>
+    ensures value { outcome_by (λ (counts : GroupCounts). group_of (group_part s.now).fields) result ≡ read_group sig.now s.now }
+    ensures usable { IfOk result (λ (counts : GroupCounts). Indexed sig.now s.now index.new counts.variables counts.rules) }
+    ensures index_len_unchanged { length index.new ≡ length index.old }
 {
     if GROUP_BYTES < s.len() {
         return Err(Refusal::TooLong);
@@ -242,14 +245,21 @@ pub fn read_group<'a>(
     if !p.whole {
         return Err(Refusal::BadFields);
     }
-    let counts = GroupCounts {
+    Ok(GroupCounts {
         variables: w.count,
         rules: u.count,
-    };
-    Ok(Group {
-        signature: sig,
-        bytes: s,
-        index,
-        counts,
     })
+}
+
+// The group, or why it is refused. The index is lent for as long as the group is used.
+pub fn read_group<'a>(
+    sig: &'a Signature<'a>,
+    s: &'a [u8],
+    index: &'a mut [u16; GROUP_INDEX],
+) -> Result<Group<'a>, Refusal>
+    ensures value { outcome_by content result ≡ read_group sig.now s.now }
+    ensures read { IfOk result (λ g. (g.signature ≡ sig.now) × (g.bytes ≡ s.now)) }
+{
+    let counts = index_group(sig, s, index)?;
+    Ok(Group::of(sig, s, index, counts))
 }

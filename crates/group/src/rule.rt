@@ -7,7 +7,9 @@ ghost use Rattle.records.specs.Iter.{fields_in};
 ghost use Rattle.group.specs.Index.{conclusions_at, no_block, Rules};
 ghost use Rattle.group.specs.Lookups.{Readable, AllSound, RuleStands, SectionsAt};
 
-use crate::ids::{CONCLUSIONS_FROM, FIELD_HEAD, GROUP_INDEX, RULES_FROM, Side, VARS_AT};
+use crate::ids::{
+    BEFORE_VARS, CONCLUSIONS_FROM, FIELD_HEAD, GROUP_INDEX, RULES_FROM, Side, VARS_AT,
+};
 use crate::lookup::Group;
 use records::fields::{num, two};
 use records::iter::{Field, Fields};
@@ -134,6 +136,13 @@ impl<'a> FlatRule<'a> {
             conclusions: &group.bytes[at.conclusions..at.end],
             from: at.conclusions,
         }
+    }
+
+    // Where the variables of its first conclusion start in the group.
+    pub fn first_variables(&self) -> usize
+        ensures { result ≡ self.now.from + 6 }
+    {
+        self.from + BEFORE_VARS
     }
 
     // The statements of a side.

@@ -1,17 +1,34 @@
-// The fields of a group as bytes: the head of a W field and its type, behind which the name follows, and statements whole.
+// The fields of a group as bytes: the heads of G, W and U fields, behind which a name follows, and statements whole.
 ghost use Rattle.std.specs.Prelude.{◌≡◌, ℕ, ◌+◌, ◌≤◌, ◌<◌, length};
 ghost use Rattle.definition.specs.Group as definition;
+ghost use Rattle.definition.specs.Letters.{letter_g, letter_u};
 ghost use Rattle.definition.specs.Limits.{column_limit};
 ghost use Rattle.definition.specs.Writer.{statement_field, field_bytes};
-ghost use Rattle.records.specs.Buffer.{Put, capped, count_limit};
+ghost use Rattle.records.specs.Buffer.{Put, capped, count_limit, head_bytes};
 ghost use Rattle.signature.specs.Relations.{kind_of, number_of};
 ghost use Rattle.group.specs.Sections.{letter_of};
 ghost use Rattle.group.specs.Written.{said, variable_head, statement_head};
 
-use crate::ids::{BEFORE_VARS, LETTER_W, NAME_AT, Side, VARS_AT};
+use crate::ids::{BEFORE_VARS, LETTER_G, LETTER_U, LETTER_W, NAME_AT, Side, VARS_AT};
 use crate::statement::Statement;
 use records::write::{past, put_byte, put_field_head, put_num};
 use signature::ids::{Relation, TypeId};
+
+// The head of a G field: a name of so many bytes follows.
+pub fn put_group_head(out: &mut [u8], from: usize, name: u16) -> usize
+    requires { from ≤ count_limit }
+    ensures { Put out.old out.new (head_bytes letter_g name) from result }
+{
+    put_field_head(out, from, LETTER_G, name)
+}
+
+// The head of a U field, behind which a name follows too.
+pub fn put_rule_head(out: &mut [u8], from: usize, name: u16) -> usize
+    requires { from ≤ count_limit }
+    ensures { Put out.old out.new (head_bytes letter_u name) from result }
+{
+    put_field_head(out, from, LETTER_U, name)
+}
 
 // The head of a W field and the variable's type; a name of so many bytes follows.
 pub fn put_variable_head(out: &mut [u8], from: usize, ty: TypeId, name: u16) -> usize

@@ -1,8 +1,10 @@
 // The rows and members of a map's target that are no images of the source's: a flag for each, or 26 where a row of the source has an
 // element without an image.
 ghost use Rattle.std.specs.Prelude.{ℕ};
+ghost use Rattle.rule.specs.Map.{pairs_from};
 ghost use Rattle.rule.specs.Row.{rows_left};
 ghost use Rattle.rule.specs.Rows.{Alike};
+ghost use Rattle.rows.specs.Morphism.{morphism_from};
 ghost use Rattle.rows.specs.Table.{Short};
 ghost use Rattle.kinds.specs.Added.{NewRows, NewMembers, AddsRows};
 
@@ -20,7 +22,7 @@ fn new_section(old: Rows<'_>, new: Rows<'_>, m: &Map<'_>) -> Result<Mask, Refusa
     requires short { Short (rows_left old) }
     requires short_2 { Short (rows_left new) }
     ensures { (kind : ℕ) (columns : ℕ → ℕ) → Alike kind columns (rows_left old.entry) → Alike kind columns (rows_left new.entry)
-        → NewRows result m.now (rows_left old.entry) (rows_left new.entry) }
+        → NewRows result (pairs_from m.now) (rows_left old.entry) (rows_left new.entry) }
 {
     if old.is_empty() && new.is_empty() {
         return Ok(NO_FLAGS);
@@ -32,22 +34,22 @@ fn new_section(old: Rows<'_>, new: Rows<'_>, m: &Map<'_>) -> Result<Mask, Refusa
 
 // Which elements of the target have a new member row and no mark. Here too no table is cleared where there are none on either side.
 fn new_unmarked(m: &Morphism<'_>, marks: &[bool; PLACES]) -> Result<Mask, Refusal>
-    ensures { NewMembers result m.now.source m.now.target m.now.pairs marks.now }
+    ensures { NewMembers result (morphism_from m.now).source (morphism_from m.now).target (morphism_from m.now).pairs marks.now }
 {
     let source = m.source();
     let target = m.target();
-    if !has_members(source) && !has_members(target) {
+    if !has_members(&source) && !has_members(&target) {
         return Ok(NO_FLAGS);
     }
     let mut images = no_images();
-    mapped_members(source, m.map(), &mut images)?;
-    let new = new_members(target, &images);
+    mapped_members(&source, m.map(), &mut images)?;
+    let new = new_members(&target, &images);
     Ok(packed_less(new, *marks, target.element_count()))
 }
 
 // 26, else the flags of the new rows, with the members that have no mark.
 pub fn added_rows(m: &Morphism<'_>, marks: &[bool; PLACES]) -> Result<Masks, Refusal>
-    ensures { AddsRows result m.now.source m.now.target m.now.pairs marks.now }
+    ensures { AddsRows result (morphism_from m.now).source (morphism_from m.now).target (morphism_from m.now).pairs marks.now }
 {
     let source = m.source();
     let target = m.target();

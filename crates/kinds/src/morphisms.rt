@@ -44,7 +44,7 @@ pub fn flatten_if_arbitrary(step: &Step<'_>) -> Result<Masks, Refusal>
     ensures { (table : List Variable) → TypesOf table step.now.types
         → IfDoes step.now table If result × IfDoes step.now table Noop result }
 {
-    let marks = constrained_els(step.target());
+    let marks = constrained_els(&step.target());
     let masks = new_masks(step, &marks)?;
     let free = step.free_els(&marks);
     Ok(Masks { free, ..masks })
@@ -71,7 +71,7 @@ fn yielding_step(step: &Step<'_>, i: usize) -> Result<Masks, Refusal>
     let target = step.target();
     let e = target.element_number(i);
     let y = yielding_row(target.func_rows(), e).ok_or(Refusal::NotYielded)?;
-    if !all_flagged(target, arguments(y.row), &step.image_els()) {
+    if !all_flagged(&target, arguments(y.row), &step.image_els()) {
         return Err(Refusal::UnmappedArgument);
     }
     Ok(Masks {

@@ -26,13 +26,14 @@ pub struct Step<'a> {
 
 impl<'a> Model for Step<'a> {
     ghost use Rattle.std.specs.Prelude.{length};
+    ghost use Rattle.rows.specs.Morphism.{morphism_from};
     ghost use Rattle.kinds.specs.Steps.{StepBy, step_by, Reaches};
 
     ghost Value = { StepBy };
 
-    ghost view = { λ x. step_by x.morphism.now x.sourcevars.now x.targetvars.now x.types.now };
+    ghost view = { λ x. step_by (morphism_from x.morphism.now) x.sourcevars.now x.targetvars.now x.types.now };
 
-    ghost invariant = { λ x. Reaches x.morphism.now x.sourcevars.now x.targetvars.now x.first (length x.types.now) };
+    ghost invariant = { λ x. Reaches (morphism_from x.morphism.now) x.sourcevars.now x.targetvars.now x.first (length x.types.now) };
 }
 
 impl<'a> Step<'a> {
@@ -41,6 +42,7 @@ impl<'a> Step<'a> {
     ghost use Rattle.definition.specs.Kinds.{kernel_clashes};
     ghost use Rattle.definition.specs.Rows.{in_image};
     ghost use Rattle.rows.specs.Kernel.{TypesOf};
+    ghost use Rattle.rows.specs.Morphism.{morphism_from};
     ghost use Rattle.kinds.specs.Elements.{FreeOf, News};
     ghost use Rattle.rule.specs.Views.{Sound};
     ghost use Rattle.kinds.specs.Steps.{Along, from_in, to_in, step_by, Reaches};
@@ -53,8 +55,8 @@ impl<'a> Step<'a> {
         first: u16,
         types: &'a [u8],
     ) -> Step<'a>
-        requires { Reaches morphism.now sourcevars.now targetvars.now first (length types.now) }
-        ensures { result ≡ step_by morphism.now sourcevars.now targetvars.now types.now }
+        requires { Reaches (morphism_from morphism.now) sourcevars.now targetvars.now first (length types.now) }
+        ensures { result ≡ step_by (morphism_from morphism.now) sourcevars.now targetvars.now types.now }
     {
         Step {
             morphism,
@@ -67,15 +69,15 @@ impl<'a> Step<'a> {
 
     // The map.
     pub fn morphism(&self) -> &'a Morphism<'a>
-        ensures { Along result.now self.now }
+        ensures { Along (morphism_from result.now) self.now }
     {
         self.morphism
     }
 
     // The structure that it goes to.
-    pub fn target(&self) -> &'a Structure<'a>
-        ensures value { result.now ≡ to_in self.now }
-        ensures sound { Sound result.now }
+    pub fn target(&self) -> Structure<'a>
+        ensures value { result ≡ to_in self.now }
+        ensures sound { Sound result }
     {
         let m = self.morphism;
         m.target()
@@ -93,7 +95,7 @@ impl<'a> Step<'a> {
         if none_set(m.merged()) {
             return false;
         }
-        let vars = key_vars(source, self.sourcevars, m.map());
+        let vars = key_vars(&source, self.sourcevars, m.map());
         kernel_clash(m.map(), &vars, self.types)
     }
 
@@ -103,7 +105,7 @@ impl<'a> Step<'a> {
         ensures sound { Sound (to_in self.now) }
     {
         let m = self.morphism;
-        new_elements(m.target(), self.targetvars, self.first)
+        new_elements(&m.target(), self.targetvars, self.first)
     }
 
     // Those that are new and have no mark.
@@ -113,7 +115,7 @@ impl<'a> Step<'a> {
             → FreeOf result (in_image self.now.pairs) marked (numbers_of self.now.target.structure) }
     {
         let m = self.morphism;
-        free_els(m.target(), self.targetvars, self.first, marks)
+        free_els(&m.target(), self.targetvars, self.first, marks)
     }
 
     // Those that are images.
@@ -122,6 +124,6 @@ impl<'a> Step<'a> {
             ≡ each (in_image self.now.pairs) (numbers_of self.now.target.structure) }
     {
         let m = self.morphism;
-        image_els(m.target(), self.targetvars, self.first)
+        image_els(&m.target(), self.targetvars, self.first)
     }
 }

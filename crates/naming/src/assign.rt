@@ -5,6 +5,7 @@ ghost use Rattle.definition.specs.Names.{numbered};
 ghost use Rattle.definition.specs.Walk.{nothing_taken};
 ghost use Rattle.naming.specs.Variables.{row_of, taken_in};
 ghost use Rattle.naming.specs.Maps.{taken_over};
+ghost use Rattle.rows.specs.Morphism.{morphism_from};
 
 use crate::variables::assign_structure_el_vars;
 use rows::morphism::Morphism;
@@ -16,7 +17,7 @@ use rule::views::Structure;
 // copied, and by a call of the C library.
 fn carried(row: &[u16; FIELDS], m: &Morphism<'_>, taken: &mut [Option<u16>; FIELDS])
     requires { taken.old ≡ replicate field_limit None }
-    ensures { taken_in m.now.target taken.new ≡ taken_over row.now m.now }
+    ensures { taken_in (morphism_from m.now).target taken.new ≡ taken_over row.now (morphism_from m.now) }
 {
     let source = m.source();
     let target = m.target();
@@ -35,7 +36,7 @@ fn carried(row: &[u16; FIELDS], m: &Morphism<'_>, taken: &mut [Option<u16>; FIEL
 // The target's variables, by the source's row: those taken over, and the next numbers for the other elements.
 pub fn assign_el_vars(row: &[u16; FIELDS], m: &Morphism<'_>, next: u16) -> [u16; FIELDS]
     requires { next + field_limit ≤ variable_limit }
-    ensures { result ≡ row_of (numbered next (taken_over row.now m.now)) }
+    ensures { result ≡ row_of (numbered next (taken_over row.now (morphism_from m.now))) }
 {
     let mut taken = [None; FIELDS];
     carried(row, m, &mut taken);

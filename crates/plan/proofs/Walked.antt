@@ -17,6 +17,8 @@ use Rattle.definition.specs.Walk.{source_into, incoming_source, map_of_pair, pai
 use Rattle.laws.proofs.Lists.{and_left, and_right, any_false, first_mem, picked, never}
 use Rattle.rule.specs.Views.{RuleBy, SoundBy, Joined}
 use Rattle.rule.specs.Found.{found_pairs, Joins}
+use Rattle.rule.specs.Map.{pairs_from}
+use Rattle.rule.specs.declared.map.Map as read
 use Rattle.plan.specs.Table.{Entries, kinds_all, Tabled}
 use Rattle.plan.specs.Plan.{Mapped, AllMapped, Planned}
 use Rattle.plan.specs.Sources.{no_source, no_map}
@@ -101,8 +103,8 @@ given_map {rule} a source target h = go (kind_at (kinds_all rule) source target)
     go none e h = never h refl
 
 module _ {rule : Rule} (a : AllMapped rule) (source target : ℕ) (h : given (kind_at (kinds_all rule) source target) ≡ true) where
-  pub map_found : (r : std.Option (List Pair)) (default : List Pair) {found : List Pair} → found ≡ unwrap_or r default
+  pub map_found : (r : std.Option read.Map) (default : read.Map) {found : read.Map} → found ≡ unwrap_or r default
       → found_pairs r ≡ pairs_between rule.maps source target → Joins r rule source target
-      → (some found ≡ pairs_between rule.maps source target) × Joined rule source target found
-  map_found (Some pairs) d e q j = rw e (q, j.is)
+      → (some (pairs_from found) ≡ pairs_between rule.maps source target) × Joined rule source target (pairs_from found)
+  map_found (Some m) d e q j = rw e (q, j.is)
   map_found None d e q j = never (given_map a source target h) (rw (← q) refl)

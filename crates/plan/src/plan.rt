@@ -6,6 +6,7 @@ ghost use Rattle.definition.specs.Limits.{structure_limit};
 ghost use Rattle.definition.specs.Walk.{pairs_between};
 ghost use Rattle.laws.specs.KindTable.{kind_at};
 ghost use Rattle.records.specs.Refusals.{outcome};
+ghost use Rattle.rule.specs.Map.{pairs_from};
 ghost use Rattle.rule.specs.Views.{RuleBy, Joined};
 ghost use Rattle.plan.specs.Table.{kind_in, kinds_all, Tabled};
 ghost use Rattle.plan.specs.Plan.{AllMapped, Planned, plan_of};
@@ -70,8 +71,8 @@ impl<'a> Plan<'a> {
     // The map of a pair that has a kind.
     pub fn map(&self, source: usize, target: usize) -> Map<'a>
         requires { given (kind_at (kinds_all self.now.rule) source target) ≡ true }
-        ensures value { some result ≡ pairs_between self.now.rule.maps source target }
-        ensures joined { Joined self.now.rule source target result }
+        ensures value { some (pairs_from result) ≡ pairs_between self.now.rule.maps source target }
+        ensures joined { Joined self.now.rule source target (pairs_from result) }
     {
         self.rule
             .find_map(source, target)

@@ -1,4 +1,4 @@
--- Contents: their numbers two bytes at a time, and the order of two from a place on.
+-- Contents: the order of two from a place on, and that of their numbers.
 use Prim.Native.Nat.{ℕ, zero, suc, ◌+◌, ◌*◌, ◌/◌, ◌%◌, ◌≤◌, ◌<◌, min}
 use native.Mathlib.Omega.{arith}
 use mathlib.Core.Bool.{Bool, true, false}
@@ -9,22 +9,10 @@ use lib.ListN.{length, get_or, take, drop, length-take}
 use lib.Seq.{take_all}
 use Rattle.laws.proofs.Numbers.{take_numbers, length_numbers}
 use Rattle.records.proofs.Pairs.{less_pairs}
-use Rattle.std.specs.List.{list_all}
-use Rattle.std.specs.Simd.{first_chunks}
 use borrow.Author.Tests.{lt-ltb, le-ltb, ltb-true, ltb-false}
-use Rattle.definition.specs.Base.{pick, less, all}
+use Rattle.definition.specs.Base.{pick, less}
 use Rattle.definition.specs.Records.{numbers}
-use Rattle.records.specs.Places.{two_at}
 use Rattle.records.proofs.Link.{one_more}
-
--- The numbers of a content are its bytes two by two: what holds of each.
-pub numbers_all : (p : ℕ → Bool) (s : List ℕ) → list_all (λ c. p (two_at c 0)) (first_chunks 2 (length s / 2) s) ≡ all p (numbers s)
-unfolding numbers all
-numbers_all p [] = refl
-numbers_all p (a ∷ []) = refl
-numbers_all p (a ∷ b ∷ s) =
-    let e : suc (suc (length s)) / 2 ≡ suc (length s / 2) = omega arith in
-    rw (e, numbers_all p s)
 
 -- The order of two lists from a place on, where they are the same so far.
 module _ (xs ys : List ℕ) (i : ℕ) where

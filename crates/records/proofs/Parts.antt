@@ -2,11 +2,11 @@
 use Prim.Native.Nat.{ℕ, zero, suc, ◌+◌, ◌*◌, ◌/◌, ◌≤◌, ◌<◌}
 use native.Mathlib.Omega.{arith}
 use native.Mathlib.Numerals.{add-one}
-use mathlib.Core.Bool.{Bool, true, false, ◌&&◌, ◌||◌}
+use mathlib.Core.Bool.{Bool, true, false, ◌&&◌, ◌||◌, and-false}
 use mathlib.Core.List.Memᴰ
 use mathlib.Core.List.{List, [], ◌∷◌, ◌++◌, append-nil}
 use mathlib.Core.Logic.{⊎_elim}
-use mathlib.Core.Path.{◌≡◌, refl, sym, ◌∙◌}
+use mathlib.Core.Path.{◌≡◌, refl, sym, ◌∙◌, ap}
 use lib.Dec.{eqb}
 use lib.ListN.{length, get_or, set, take, drop, length-drop, drop_of_length-le, take-append-drop}
 use lib.Seq.{take-suc, take-suc-set}
@@ -97,6 +97,14 @@ module _ (xs ys : List ℕ) {n j : ℕ} (a : length xs ≡ n) (b : length ys ≡
   pub same_end : n ≤ j → same_list (drop j xs) (drop j ys) ≡ true
   unfolding same_list
   same_end h = let p : length xs ≤ j = rw a h in let q : length ys ≤ j = rw b h in rw (drop_of_length-le xs p, drop_of_length-le ys q)
+
+-- Lists of different lengths are not the same.
+pub same_sizes : (xs ys : List ℕ) → (length xs ≡ length ys → ⊥) → same_list xs ys ≡ false
+unfolding same_list
+same_sizes [] [] h = absurd (h refl)
+same_sizes [] (y ∷ ys) h = refl
+same_sizes (x ∷ xs) [] h = refl
+same_sizes (x ∷ xs) (y ∷ ys) h = rw (same_sizes xs ys (λ e. h (ap suc e))) (and-false (eqb x y))
 
 -- Tests of lists one behind the other, of none, and of images.
 module _ {A : Type 0} (p : A → Bool) where

@@ -1,9 +1,7 @@
-// What a content says: its numbers, a name, and the order of two of them.
+// What a content says: its numbers, a name, and whether two are the same or which is before the other.
 ghost use Rattle.std.specs.Prelude.{◌≡◌, ℕ, ◌/◌, ◌<◌, ltb, length};
-ghost use Rattle.definition.specs.Base.{less, all};
+ghost use Rattle.definition.specs.Base.{less, same_list, all};
 ghost use Rattle.definition.specs.Records.{numbers, number_at, bad_name};
-ghost use Rattle.std.specs.List.{list_all};
-ghost use Rattle.records.specs.Places.{two_at};
 
 use crate::fields::num;
 use crate::names::all_name_bytes;
@@ -17,21 +15,16 @@ pub fn number(content: &[u8], place: usize) -> u16
     num(content, 2 * place)
 }
 
-// The numbers that two bytes each are: is each below a limit?
-fn all_below(pairs: &[[u8; 2]], limit: usize) -> bool
-    ensures { result ≡ list_all (λ p. ltb (two_at p 0) limit) pairs.now }
-{
-    pairs
-        .iter()
-        .all(|pair| usize::from(u16::from_be_bytes(*pair)) < limit)
-}
-
-// Is each number of a content below a limit? An odd byte at the end is no number.
+// Is each number of a content below a limit? An odd byte at the end is no number. A loop, since std's `as_chunks` divides.
 pub fn named(content: &[u8], limit: usize) -> bool
     ensures { result ≡ all (λ (n : ℕ). ltb n limit) (numbers content.now) }
 {
-    let (pairs, _) = content.as_chunks::<2>();
-    all_below(pairs, limit)
+    for place in 0..content.len() >> 1 {
+        if limit <= usize::from(number(content, place)) {
+            return false;
+        }
+    }
+    true
 }
 
 // Is it no name of at least the shortest and at most the longest length?
@@ -40,6 +33,22 @@ pub fn bad_name(name: &[u8], shortest: usize, longest: usize) -> bool
     ensures { result ≡ bad_name shortest longest name.now }
 {
     name.len() < shortest || longest < name.len() || !all_name_bytes(name)
+}
+
+// Are they the same bytes? A loop, since std's `==` of slices divides.
+#[tactic(auto, using(crate::proofs::Parts::same_sizes, crate::proofs::Parts::same_on, crate::proofs::Parts::same_no, crate::proofs::Parts::same_end))]
+pub fn same_bytes(a: &[u8], b: &[u8]) -> bool
+    ensures { result ≡ same_list a.now b.now }
+{
+    if a.len() != b.len() {
+        return false;
+    }
+    for i in 0..a.len() {
+        if a[i] != b[i] {
+            return false;
+        }
+    }
+    true
 }
 
 // Are the bytes of one before those of the other? A prefix is. A loop, since `<` of two slices compares some bytes twice, which made

@@ -29,14 +29,15 @@ pub fn put_byte(out: &mut [u8], at: usize, b: u8) -> usize
     end
 }
 
-// A number as two bytes, the high one first.
+// A number as two bytes, the high one first. By a shift and a mask, since std's `to_be_bytes` divides.
 pub fn put_num(out: &mut [u8], at: usize, v: u16) -> usize
     requires { at ≤ count_limit }
     ensures { Put out.old out.new (two_bytes v) at result }
 {
     let end = past(at, 2);
     if at + 2 <= out.len() {
-        [out[at], out[at + 1]] = v.to_be_bytes();
+        out[at] = (v >> 8) as u8;
+        out[at + 1] = (v & 255) as u8;
         return end;
     }
     end

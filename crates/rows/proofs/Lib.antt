@@ -9,3 +9,4 @@ pub mod ArgumentLaws
 pub mod Whole
 pub mod Kept
 pub mod Places
+pub mod Between

@@ -65,6 +65,11 @@ module _ (els : List Element) (i : ℕ) (l : i < length els) {e : Element} (q : 
   unfolding member_rows
   member_mem z = each_mem member_row (keep has_parents els) (keep_mem has_parents els here_mem z)
 
+  -- The columns of its member row, where rows of one type are of one length.
+  pub member_alike : (columns : ℕ → ℕ) → Alike member columns (member_rows els) → (length e.parents ≡ 0 → ⊥) → length e.parents + 1 ≡ columns e.type
+  unfolding member_row
+  member_alike columns a some = sym (length-append e.parents (e.number ∷ [])) ∙ (a.same _ (member_mem (with_parents e refl some))).1
+
   -- Some element has parents: this one, or one behind it.
   pub some_here : has_parents e ≡ true → any has_parents (drop i els) ≡ true
   unfolding any

@@ -2,5 +2,6 @@
 pub mod Table
 pub mod Kernel
 pub mod Morphisms
+pub mod Morphism
 pub mod Arguments
 pub mod Members

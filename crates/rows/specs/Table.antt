@@ -46,6 +46,11 @@ pub record LineOf (l : Line) (r : Row) : Type 0 where
   pub symbol : l.symbol ≡ r.symbol
   pub elements : line_els l ≡ r.elements
 
+-- The table has a place for each of the rows of a kind.
+pub record Sized (images : Images) : Type 0 where
+  pub symbols : length images.symbols ≡ field_limit
+  pub els : length images.els ≡ field_limit
+
 -- Stands where there is none.
 abbrev pub no_row : Row
 no_row = record { kind = predicate; symbol = 0; elements = [] }

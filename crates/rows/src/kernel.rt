@@ -5,6 +5,7 @@ ghost use Rattle.definition.specs.Group.{Variable};
 ghost use Rattle.definition.specs.Kinds.{Side, kernel_clashes};
 ghost use Rattle.definition.specs.Names.{numbers_of};
 ghost use Rattle.definition.specs.Rule.{Pair};
+ghost use Rattle.rule.specs.Map.{pairs_from};
 ghost use Rattle.rule.specs.MapFields.{KeysIn, ImagesIn};
 ghost use Rattle.rule.specs.Pairs.{no_pair};
 ghost use Rattle.rows.specs.Kernel.{clash, images_ascend, KeyVars, KeyTypes, TypesOf, SideAt, Typed, Merged};
@@ -16,8 +17,8 @@ use rule::views::Structure;
 
 // The variables of a map's keys, in the keys' order; `row` has those of the source's elements, by their places.
 pub fn key_vars(source: &Structure<'_>, row: &[u16; FIELDS], m: &Map<'_>) -> [u16; FIELDS]
-    requires { KeysIn (numbers_of source.now.structure) m.now }
-    ensures { (side : Side) → SideAt (numbers_of source.now.structure) row.now side → KeyVars side m.now result }
+    requires { KeysIn (numbers_of source.now.structure) (pairs_from m.now) }
+    ensures { (side : Side) → SideAt (numbers_of source.now.structure) row.now side → KeyVars side (pairs_from m.now) result }
 {
     let given = &row[..source.element_count()];
     let mut vars = [0u16; FIELDS];
@@ -32,7 +33,7 @@ pub fn key_vars(source: &Structure<'_>, row: &[u16; FIELDS], m: &Map<'_>) -> [u1
 
 // Does each image stand above the one before it? Then no two keys have one image.
 fn images_ascend(m: &Map<'_>) -> bool
-    ensures { result ≡ images_ascend m.now }
+    ensures { result ≡ images_ascend (pairs_from m.now) }
 {
     if m.count() == 0 {
         return true;
@@ -51,7 +52,7 @@ fn images_ascend(m: &Map<'_>) -> bool
 // The elements of the target that are images of several keys, a flag for each place. In most maps images ascend, and there are none;
 // else this is one pass over the pairs.
 pub fn merged_els(target: &Structure<'_>, m: &Map<'_>) -> Mask
-    ensures { ImagesIn target.now.structure m.now → Merged result target.now.structure m.now }
+    ensures { ImagesIn target.now.structure (pairs_from m.now) → Merged result target.now.structure (pairs_from m.now) }
 {
     if images_ascend(m) {
         return NO_FLAGS;
@@ -71,10 +72,10 @@ pub fn merged_els(target: &Structure<'_>, m: &Map<'_>) -> Mask
 
 // Does the variable of a key differ in type from that of a later key of the same image?
 fn clashes_later(m: &Map<'_>, vars: &[u16; FIELDS], types: &[u8], p: usize) -> bool
-    requires p_lt_pairs { p < length m.now }
-    requires typed { Typed m.now vars.now (length types.now) }
-    ensures { (type : Pair → ℕ) → KeyTypes m.now vars.now types.now type
-        → result ≡ any (clash type (get_or m.now p no_pair)) (drop (p + 1) m.now) }
+    requires p_lt_pairs { p < length (pairs_from m.now) }
+    requires typed { Typed (pairs_from m.now) vars.now (length types.now) }
+    ensures { (type : Pair → ℕ) → KeyTypes (pairs_from m.now) vars.now types.now type
+        → result ≡ any (clash type (get_or (pairs_from m.now) p no_pair)) (drop (p + 1) (pairs_from m.now)) }
 {
     let count = m.count();
     let image = m.image(p);
@@ -89,9 +90,9 @@ fn clashes_later(m: &Map<'_>, vars: &[u16; FIELDS], types: &[u8], p: usize) -> b
 
 // 25: do two variables of a kernel pair differ in type?
 pub fn kernel_clash(m: &Map<'_>, vars: &[u16; FIELDS], types: &[u8]) -> bool
-    requires { Typed m.now vars.now (length types.now) }
-    ensures { (table : List Variable) (source target : Side) → KeyVars source m.now vars.now → TypesOf table types.now
-        → ImagesIn target.structure m.now → result ≡ kernel_clashes table source target m.now }
+    requires { Typed (pairs_from m.now) vars.now (length types.now) }
+    ensures { (table : List Variable) (source target : Side) → KeyVars source (pairs_from m.now) vars.now → TypesOf table types.now
+        → ImagesIn target.structure (pairs_from m.now) → result ≡ kernel_clashes table source target (pairs_from m.now) }
 {
     for p in 0..m.count() {
         if clashes_later(m, vars, types, p) {

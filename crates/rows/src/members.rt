@@ -7,8 +7,9 @@ ghost use Rattle.definition.specs.Rows.{member_row};
 ghost use Rattle.definition.specs.Rule.{Row, Pair};
 ghost use Rattle.rule.specs.Element.{element_from};
 ghost use Rattle.rule.specs.Els.{els_in};
-ghost use Rattle.rule.specs.Rows.{has_parents, member_rows};
-ghost use Rattle.rows.specs.Table.{Imaged, Holds, LineOf};
+ghost use Rattle.rule.specs.Map.{pairs_from};
+ghost use Rattle.rule.specs.Rows.{Alike, has_parents, member_rows};
+ghost use Rattle.rows.specs.Table.{Imaged, Holds, Sized, LineOf};
 ghost use Rattle.rows.specs.Members.{new_member, member_columns};
 
 use crate::table::{Images, Line, add_image, is_image};
@@ -43,7 +44,8 @@ pub fn has_members(st: &Structure<'_>) -> bool
 
 // The images of the member rows of a structure, in the elements' order; 26 where an element has none.
 pub fn mapped_members(st: &Structure<'_>, m: &Map<'_>, images: &mut Images) -> Result<(), Refusal>
-    ensures { Imaged result m.now (member_rows st.now.structure.elements) images.new }
+    ensures imaged { Imaged result (pairs_from m.now) (member_rows st.now.structure.elements) images.new }
+    ensures sized { Sized images.new }
 {
     images.count = 0;
     for i in 0..st.element_count() {
@@ -60,7 +62,8 @@ pub fn mapped_members(st: &Structure<'_>, m: &Map<'_>, images: &mut Images) -> R
 fn is_new_member(e: Element<'_>, images: &Images) -> bool
     requires { (images.now.count ≤ field_limit) × (length (els_in e.parents) ≤ parent_limit) }
     ensures { (columns : ℕ → ℕ) (pairs : List Pair) (sources : List Row) → Holds member columns pairs sources images.now
-        → length (els_in e.entry.parents) + 1 ≡ columns e.entry.ty.0 → result ≡ new_member pairs sources (element_from e.entry) }
+        → ((length (els_in e.entry.parents) ≡ 0 → ⊥) → length (els_in e.entry.parents) + 1 ≡ columns e.entry.ty.0)
+        → result ≡ new_member pairs sources (element_from e.entry) }
 {
     e.parents.count() != 0 && !is_image(member_line(e), images)
 }
@@ -68,7 +71,9 @@ fn is_new_member(e: Element<'_>, images: &Images) -> bool
 // Which elements have a member row that is no image of one of the source.
 pub fn new_members(st: &Structure<'_>, images: &Images) -> [bool; PLACES]
     requires { images.now.count ≤ field_limit }
-    ensures { (pairs : List Pair) (sources : List Row) → Holds member (member_columns st.now.sig) pairs sources images.now
+    ensures alike { Alike member (member_columns st.now.sig) (member_rows st.now.structure.elements) }
+    ensures flags { (columns : ℕ → ℕ) (pairs : List Pair) (sources : List Row) → Holds member columns pairs sources images.now
+        → Alike member columns (member_rows st.now.structure.elements)
         → take (length st.now.structure.elements) result ≡ each (new_member pairs sources) st.now.structure.elements }
 {
     let mut flags = [false; PLACES];

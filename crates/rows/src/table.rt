@@ -8,9 +8,10 @@ ghost use Rattle.definition.specs.Rows.{same_row};
 ghost use Rattle.flags.specs.Flags.{Packed};
 ghost use Rattle.signature.specs.Relations.{number_of};
 ghost use Rattle.rule.specs.Els.{els_in};
+ghost use Rattle.rule.specs.Map.{pairs_from};
 ghost use Rattle.rule.specs.Row.{row_from, rows_left};
 ghost use Rattle.rule.specs.Rows.{Alike};
-ghost use Rattle.rows.specs.Table.{Maps, Adds, Imaged, Held, Holds, Short, LineOf, is_new, line_els};
+ghost use Rattle.rows.specs.Table.{Maps, Adds, Imaged, Held, Holds, Short, Sized, LineOf, is_new, line_els};
 
 use flags::{Mask, NO_FLAGS, with_flag};
 use records::refusal::Refusal;
@@ -32,7 +33,10 @@ pub struct Images {
 }
 
 // A table with no images.
-pub fn no_images() -> Images {
+pub fn no_images() -> Images
+    ensures none { result.count ≡ 0 }
+    ensures sized { Sized result }
+{
     Images {
         symbols: [0; ROWS],
         els: [[0; COLUMNS]; ROWS],
@@ -42,10 +46,10 @@ pub fn no_images() -> Images {
 
 // A row that is mapped or compared: its symbol and its elements; that of a member has its element behind its parents.
 #[derive(Clone, Copy)]
-pub(crate) struct Line<'a> {
-    pub(crate) symbol: u16,
-    pub(crate) els: Els<'a>,
-    pub(crate) own: Option<ElId>,
+pub struct Line<'a> {
+    pub symbol: u16,
+    pub els: Els<'a>,
+    pub own: Option<ElId>,
 }
 
 // An R or A row.
@@ -59,10 +63,11 @@ fn row_line(row: Row<'_>) -> Line<'_>
     }
 }
 
-// The images of the elements of a list; 26 where one has none.
-fn map_elements(l: Els<'_>, m: &Map<'_>, places: &mut [u16; COLUMNS]) -> Result<(), Refusal>
+// The images of the elements of a list; 26 where one has none. The map comes by value: behind a reference it would be read anew for each
+// element, since the places are written meanwhile.
+fn map_elements(l: Els<'_>, m: Map<'_>, places: &mut [u16; COLUMNS]) -> Result<(), Refusal>
     requires { length (els_in l) ≤ column_limit }
-    ensures { Maps result m.now (els_in l.entry) places.new }
+    ensures { Maps result (pairs_from m.entry) (els_in l.entry) places.new }
 {
     for j in 0..l.count() {
         let e = m.image_of(l.at(j)).ok_or(Refusal::UnmappedElement)?;
@@ -72,11 +77,12 @@ fn map_elements(l: Els<'_>, m: &Map<'_>, places: &mut [u16; COLUMNS]) -> Result<
 }
 
 // Those of the elements of a row.
+#[inline]
 fn map_line(line: Line<'_>, m: &Map<'_>, places: &mut [u16; COLUMNS]) -> Result<(), Refusal>
     requires { length (line_els line) ≤ column_limit }
-    ensures { Maps result m.now (line_els line.entry) places.new }
+    ensures { Maps result (pairs_from m.now) (line_els line.entry) places.new }
 {
-    map_elements(line.els, m, places)?;
+    map_elements(line.els, *m, places)?;
     let Some(own) = line.own else {
         return Ok(());
     };
@@ -86,9 +92,11 @@ fn map_line(line: Line<'_>, m: &Map<'_>, places: &mut [u16; COLUMNS]) -> Result<
 }
 
 // The image of a row goes into the table, behind those that are there; 26 where an element has none.
+#[inline]
 pub(crate) fn add_image(line: Line<'_>, m: &Map<'_>, images: &mut Images) -> Result<(), Refusal>
     requires { (images.old.count < field_limit) × (length (line_els line) ≤ column_limit) }
-    ensures { Adds result m.now line.entry images.old images.new }
+    ensures adds { Adds result (pairs_from m.now) line.entry images.old images.new }
+    ensures sized { Sized images.new }
 {
     let i = images.count;
     map_line(line, m, &mut images.els[i])?;
@@ -100,7 +108,8 @@ pub(crate) fn add_image(line: Line<'_>, m: &Map<'_>, images: &mut Images) -> Res
 // The images of R or A rows; 26 where an element has none.
 pub fn mapped_rel_apps(rows: Rows<'_>, m: &Map<'_>, images: &mut Images) -> Result<(), Refusal>
     requires { Short (rows_left rows) }
-    ensures { Imaged result m.now (rows_left rows.entry) images.new }
+    ensures imaged { Imaged result (pairs_from m.now) (rows_left rows.entry) images.new }
+    ensures sized { Sized images.new }
 {
     images.count = 0;
     for row in rows {
@@ -123,6 +132,7 @@ fn same_elements(l: Els<'_>, places: &[u16; COLUMNS]) -> bool
 }
 
 // Are those of a row?
+#[inline]
 fn same_line(line: Line<'_>, places: &[u16; COLUMNS]) -> bool
     requires { length (line_els line) ≤ column_limit }
     ensures { result ≡ same_list (line_els line.entry) (take (length (line_els line.entry)) places.now) }
@@ -135,7 +145,8 @@ fn same_line(line: Line<'_>, places: &[u16; COLUMNS]) -> bool
 }
 
 // Is a row one of those in the table? Rows of one symbol are of one length, so only those of its symbol are compared with it.
-pub(crate) fn is_image(line: Line<'_>, images: &Images) -> bool
+#[inline]
+pub fn is_image(line: Line<'_>, images: &Images) -> bool
     requires { (images.now.count ≤ field_limit) × (length (line_els line) ≤ column_limit) }
     ensures { (columns : ℕ → ℕ) (r : definition.Row) (qs : List definition.Row) → LineOf line.entry r → Held images.now qs
         → Alike r.kind columns qs → length r.elements ≡ columns r.symbol → result ≡ any (same_row r) qs }

@@ -29,5 +29,6 @@ pub mod NameSoundness
 pub mod SectionParts
 pub mod ViewLaws
 pub mod TailContents
+pub mod Sized
 pub mod RuleLaws
 pub mod Soundness

@@ -1,17 +1,21 @@
--- Pairs of key and image: those of a stretch, and those of a content, four bytes each.
-use Prim.Native.Nat.{ℕ, zero, suc, ◌+◌, ◌*◌, ◌/◌, ◌≤◌, ◌<◌}
+-- Pairs of key and image: those of a stretch, and those of a content, four bytes each, with loops along them.
+use Prim.Native.Nat.{ℕ, zero, suc, ◌+◌, ◌-◌, ◌*◌, ◌/◌, ◌≤◌, ◌<◌}
 use native.Mathlib.Omega.{arith}
+use native.Mathlib.Numerals.{add-one}
 use mathlib.Core.Bool.{Bool, true, false, ◌&&◌}
 use mathlib.Core.List.{List, [], ◌∷◌}
-use mathlib.Core.Path.{◌≡◌, refl, ◌∙◌}
+use mathlib.Core.Path.{◌≡◌, refl, sym, ◌∙◌}
 use lib.Dec.{ltb}
-use lib.ListN.{length, get_or}
+use lib.ListN.{length, get_or, drop, length-drop, drop_of_length-le}
+use lib.Seq.{drop-cons}
+use borrow.Author.Tests.{lt-ltb, le-ltb}
 use Rattle.definition.specs.Base.{all, each}
 use Rattle.definition.specs.Records.{numbers}
 use Rattle.definition.specs.Rule.{Pair, pairs_of, keys_ascend}
 use Rattle.records.specs.Places.{two_at, stretch}
 use Rattle.rule.specs.Pairs.{pairs_in_bytes, no_pair}
-use Rattle.records.proofs.Numbers.{length_numbers_in, numbers_in_lem}
+use Rattle.laws.proofs.Numbers.{length_numbers}
+use Rattle.records.proofs.Numbers.{length_numbers_in, numbers_in_lem, numbers_at}
 use Rattle.std.specs.List.{list_all, IsAllAdjacentAnswer}
 use Rattle.std.specs.Simd.{first_chunks}
 
@@ -95,3 +99,85 @@ keys_sorted (x ∷ y ∷ cs) false h = go h.0 h.1 h.2 (λ k l e. keys_sorted (y 
         → false ≡ ltb (two_at x 0) (two_at y 0) && keys_ascend (each pair_in_bytes (y ∷ cs))
     go zero l e i = rw (← e [])
     go (suc k) l e i = rw (← (i k (omega arith) (λ d. let q : suc k + 1 ≡ suc (k + 1) = omega arith in rw q at (e d)))) (both (ltb (two_at x 0) (two_at y 0)))
+
+-- Those of a content from one on: a test of each, and whether the keys ascend, with that of the pair before.
+module _ (s : List ℕ) where
+  unfoldable pub all_pairs : (Pair → Bool) → ℕ → Bool
+  all_pairs test p = all test (drop p (pairs_in_bytes s))
+
+  unfoldable pub keys_from : ℕ → Bool
+  keys_from p = keys_ascend (drop (p - 1) (pairs_in_bytes s))
+
+  pub pairs_start : (test : Pair → Bool) → all test (pairs_in_bytes s) ≡ all_pairs test 0
+  unfolding all_pairs
+  pairs_start test = refl
+
+  pub keys_start : keys_ascend (pairs_in_bytes s) ≡ keys_from 1
+  unfolding keys_from
+  keys_start = refl
+
+  content_pairs : length (pairs_in_bytes s) ≡ length s / 4
+  unfolding pairs_in_bytes
+  content_pairs = let n = pairs_length (numbers s) in let m = length_numbers s in omega arith
+
+  module _ (p : ℕ) where
+    abbrev content_pair : Pair
+    content_pair = record { key = two_at s (4 * p); image = two_at s (4 * p + 2) }
+
+    pair_here : p < length s / 4 → get_or (pairs_in_bytes s) p no_pair ≡ content_pair
+    unfolding pairs_in_bytes
+    pair_here l =
+        let m = length_numbers s in
+        let a : 2 * (2 * p) ≡ 4 * p = omega arith in
+        let b : 2 * (2 * p + 1) ≡ 4 * p + 2 = omega arith in
+        pairs_get (numbers s) p (omega arith) ∙ rw (numbers_at s (2 * p) (omega arith), numbers_at s (2 * p + 1) (omega arith), a, b)
+
+    pair_on : p < length s / 4 → drop p (pairs_in_bytes s) ≡ content_pair ∷ drop (p + 1) (pairs_in_bytes s)
+    pair_on l =
+        let n = content_pairs in let m : p < length (pairs_in_bytes s) = omega arith in
+        let o : drop p (pairs_in_bytes s) ≡ get_or (pairs_in_bytes s) p no_pair ∷ drop (p + 1) (pairs_in_bytes s) =
+        rw (add-one, drop-cons (pairs_in_bytes s) p no_pair) in
+        o ∙ rw (pair_here l)
+
+    module _ (test : Pair → Bool) where
+      pub pairs_no : p < length s / 4 → test content_pair ≡ false → all_pairs test p ≡ false
+      unfolding all_pairs all
+      pairs_no l e = rw (pair_on l, e)
+
+      pub pairs_on : p < length s / 4 → test content_pair ≡ true → all_pairs test p ≡ all_pairs test (p + 1)
+      unfolding all_pairs all
+      pairs_on l e = rw (pair_on l, e)
+
+      pub pairs_end : length s / 4 ≤ p → all_pairs test p ≡ true
+      unfolding all_pairs all
+      pairs_end l = let n = content_pairs in let m : length (pairs_in_bytes s) ≤ p = omega arith in rw (drop_of_length-le (pairs_in_bytes s) m)
+
+  module _ (p : ℕ) (low : 1 ≤ p) where
+    two_on : p < length s / 4 → drop (p - 1) (pairs_in_bytes s)
+        ≡ record { key = two_at s (4 * p - 4); image = two_at s (4 * p - 4 + 2) } ∷ content_pair p ∷ drop (p + 1) (pairs_in_bytes s)
+    two_on l =
+        let a : p - 1 + 1 ≡ p = omega arith in
+        let b : 4 * (p - 1) ≡ 4 * p - 4 = omega arith in
+        pair_on (p - 1) (omega arith) ∙ rw (a, b, pair_on p l)
+
+    pub keys_no : p < length s / 4 → two_at s (4 * p) ≤ two_at s (4 * p - 4) → keys_from p ≡ false
+    unfolding keys_from keys_ascend
+    keys_no l h = rw (two_on l, le-ltb (two_at s (4 * p - 4)) (two_at s (4 * p)) h)
+
+    pub keys_on : p < length s / 4 → two_at s (4 * p - 4) < two_at s (4 * p) → keys_from p ≡ keys_from (p + 1)
+    unfolding keys_from keys_ascend
+    keys_on l h =
+        let a : p + 1 - 1 ≡ p = omega arith in
+        rw (two_on l, lt-ltb (two_at s (4 * p - 4)) (two_at s (4 * p)) h, a) (sym (rw (pair_on p l)))
+
+    pub keys_end : length s / 4 ≤ p → keys_from p ≡ true
+    unfolding keys_from keys_ascend
+    keys_end l = go (drop (p - 1) (pairs_in_bytes s)) short
+      where
+        short : length (drop (p - 1) (pairs_in_bytes s)) ≤ 1
+        short = let n = content_pairs in rw length-drop (omega arith)
+
+        go : (ps : List Pair) → length ps ≤ 1 → keys_ascend ps ≡ true
+        go [] h = refl
+        go (p ∷ []) h = refl
+        go (p ∷ q ∷ ps) h = absurd (omega arith)

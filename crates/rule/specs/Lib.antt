@@ -11,6 +11,7 @@ pub mod MapFields
 pub mod Search
 pub mod Els
 pub mod Pairs
+pub mod Map
 pub mod Row
 pub mod Name
 pub mod Views

@@ -27,6 +27,7 @@ pub record KindOf (content : List ℕ) (k : KindField) : Type 0 where
 
 pub record AuxiliaryOf (content : List ℕ) (x : AuxiliaryField) : Type 0 where
   pub structure_is : (letter : ℕ) → x.structure ≡ (auxiliary_of (with_content letter content)).structure
+  pub class_is : (letter : ℕ) → x.class ≡ (auxiliary_of (with_content letter content)).class
   pub kind_as : (letter : ℕ) → kind_is x.kind ≡ auxiliary_kind (auxiliary_of (with_content letter content)).class
 
 -- The kinds by their byte; a byte above 3 stands for If.

@@ -6,6 +6,7 @@ ghost use Rattle.definition.specs.Records.{numbers};
 ghost use Rattle.records.specs.Iter.{fields_in};
 ghost use Rattle.rule.specs.Elements.{count_at, position_at, element_at, element_numbers, named_by, Elements, Finds};
 
+use crate::els::Els;
 use crate::ids::{COUNTS_FROM, ELEMENTS_FROM, ElId, FIELDS, RULE_INDEX};
 use crate::search::search;
 use records::contents::number;
@@ -66,7 +67,11 @@ fn can_be_named(section: &[u8], e: ElId) -> bool
 pub fn parents_named(section: &[u8], els: &[u8]) -> bool
     ensures { result ≡ all (λ (e : ℕ). has e (named_by (fields_in section.now))) (numbers els.now) }
 {
-    let (els, _) = els.as_chunks::<2>();
-    els.iter()
-        .all(|e| can_be_named(section, ElId(u16::from_be_bytes(*e))))
+    let list = Els { bytes: els };
+    for i in 0..list.count() {
+        if !can_be_named(section, list.at(i)) {
+            return false;
+        }
+    }
+    true
 }

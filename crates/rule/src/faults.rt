@@ -195,8 +195,12 @@ fn name_fault(
 fn keys_ascend(pairs: &[u8]) -> bool
     ensures { result ≡ keys_ascend (pairs_in_bytes pairs.now) }
 {
-    let (pairs, _) = pairs.as_chunks::<4>();
-    pairs.is_sorted_by(|p, q| num(p, 0) < num(q, 0))
+    for p in 1..pairs.len() >> 2 {
+        if num(pairs, 4 * p) <= num(pairs, 4 * p - 4) {
+            return false;
+        }
+    }
+    true
 }
 
 // Are the source and the target of a map or a kind structures that are known?

@@ -1,5 +1,5 @@
 // Reading a rule: the pass along its letters, then the faults of its fields, section by section.
-ghost use Rattle.std.specs.Prelude.{List, IfOk, ◌≡◌, ◌+◌, ◌≤◌, ◌<◌, length, get_or};
+ghost use Rattle.std.specs.Prelude.{List, IfOk, ℕ, ◌≡◌, ◌+◌, ◌≤◌, ◌<◌, length, get_or};
 ghost use Rattle.std.proofs.Math.Option.{none};
 ghost use Rattle.definition.specs.Letters.{letter_n, letter_e};
 ghost use Rattle.definition.specs.Limits.{structure_limit, rule_bytes};
@@ -11,6 +11,7 @@ ghost use Rattle.records.specs.Places.{Run};
 ghost use Rattle.records.specs.Refusals.{fault_of, outcome_by};
 ghost use Rattle.rule.specs.Views.{RuleBy};
 ghost use Rattle.rule.specs.Layout.{rule_index, place_s, section_from};
+ghost use Rattle.rule.specs.Lookup.{rule_at};
 ghost use Rattle.rule.specs.Elements as elements;
 ghost use Rattle.rule.specs.Elements.{element_numbers, numbers_in, named_by};
 ghost use Rattle.rule.specs.Faults.{Below, InStructure, check_of, rest_fault, tail_fault};
@@ -23,6 +24,7 @@ ghost use Rattle.rule.specs.Answers.{
   Holds,
   AllStored,
   AllHold,
+  Indexed,
 };
 
 use crate::faults::{SectionKind, element_fault, field_fault, structure_fault};
@@ -241,17 +243,25 @@ fn check_tail(
     Ok(())
 }
 
-// The rule, or why it is refused. The index is lent for as long as the rule is used: it holds where the rule's sections start and where its
-// elements stand.
-pub fn read_rule<'a>(
-    sig: &'a Signature<'a>,
-    s: &'a [u8],
-    index: &'a mut [u16; RULE_INDEX],
-) -> Result<Rule<'a>, Refusal>
-    requires index_len { length index.old ≡ rule_index }
-    ensures value { outcome_by (λ (x : RuleBy). x.rule) result ≡ read_rule sig.now s.now }
-    ensures signature_kept { IfOk result (λ (x : RuleBy). x.sig ≡ sig.now) }
+// The index has all its entries. This is said to proofs, which know it of a lent array only where it is lent on as a slice; nothing runs.
+fn all_entries(index: &[u16; RULE_INDEX])
+    ensures { length index.now ≡ rule_index }
 {
+    let _entries: &[u16] = index;
+}
+
+// How many structures the rule has, or why it is refused. Where it is accepted, the index holds where its sections start and where its elements
+// stand. Where it is refused, the entries of the index are left free: any may have been written, and only their number holds.
+pub fn index_rule(
+    sig: &Signature<'_>,
+    s: &[u8],
+    index: &mut [u16; RULE_INDEX],
+) -> Result<usize, Refusal>
+    ensures value { outcome_by (λ (n : ℕ). rule_at s.now) result ≡ read_rule sig.now s.now }
+    ensures usable { IfOk result (λ (n : ℕ). Indexed sig.now s.now index.new n) }
+    ensures index_len_unchanged { length index.new ≡ length index.old }
+{
+    all_entries(index);
     if RULE_BYTES < s.len() {
         return Err(Refusal::TooLong);
     }
@@ -263,6 +273,20 @@ pub fn read_rule<'a>(
     if !p.whole {
         return Err(Refusal::BadFields);
     }
+    Ok(structures)
+}
+
+// The rule, or why it is refused. The index is lent for as long as the rule is used: it holds where the rule's sections start and where its
+// elements stand. A caller that wants its index back at once takes `index_rule`.
+pub fn read_rule<'a>(
+    sig: &'a Signature<'a>,
+    s: &'a [u8],
+    index: &'a mut [u16; RULE_INDEX],
+) -> Result<Rule<'a>, Refusal>
+    ensures value { outcome_by (λ (x : RuleBy). x.rule) result ≡ read_rule sig.now s.now }
+    ensures signature_kept { IfOk result (λ (x : RuleBy). x.sig ≡ sig.now) }
+{
+    let structures = index_rule(sig, s, index)?;
     sig.small_arities();
     Ok(Rule {
         sig,

@@ -32,14 +32,15 @@ pub struct KindField {
     pub kind: MorphismKind,
 }
 
-// A structure that is an auxiliary, and the kind that the map into it has by that: Noop at the start of a branch, else If.
+// A structure that is an auxiliary, its class, and the kind that the map into it has by that: Noop at the start of a branch, else If.
 #[derive(Clone, Copy)]
 pub struct AuxiliaryField {
     pub structure: usize,
+    pub class: u8,
     pub kind: MorphismKind,
 }
 
-// The number at a place, or 0 where the content is too short for it, which none of an accepted rule is.
+// The number at a place, or 0 where the content is too short for it, which none of an accepted rule is (proofs/Sized).
 #[tactic(auto, using(crate::proofs::TailContents::no_number))]
 fn number_or_zero(content: &[u8], place: usize) -> usize
     ensures { result ≡ number_at place content.now }
@@ -121,8 +122,10 @@ pub fn read_auxiliary(content: &[u8]) -> AuxiliaryField
     ensures { AuxiliaryOf content.now result }
 {
     let (_, structure) = content.split_at(content.len().min(1));
+    let class = byte_or_zero(content, 0);
     AuxiliaryField {
         structure: number_or_zero(structure, 0),
-        kind: kind_of_class(byte_or_zero(content, 0)),
+        class,
+        kind: kind_of_class(class),
     }
 }

@@ -14,7 +14,7 @@ ghost use Rattle.scope.specs.Answers.{verdict_of, scope_answer, Leads, OwnersFro
 
 use crate::answers::{Owned, Owners, Verdict};
 use crate::verdicts::{owner_count, statement_verdict};
-use group::ids::{BEFORE_VARS, Side};
+use group::ids::Side;
 use group::rule::{FlatRule, StatementView};
 use records::refusal::Refusal;
 
@@ -71,7 +71,7 @@ fn output_scope(rule: FlatRule<'_>, t: StatementView<'_>) -> Result<Option<Owned
     match rule_verdict(&own)? {
         Verdict::Open => Ok(Some(Owned {
             model,
-            start: rule.from + BEFORE_VARS,
+            start: rule.first_variables(),
             count,
         })),
         Verdict::Global => Ok(None),

@@ -1,5 +1,5 @@
 // What one statement of a rule settles.
-ghost use Rattle.std.specs.Prelude.{◌≡◌, ◌*◌, ◌≤◌, ◌<◌, length};
+ghost use Rattle.std.specs.Prelude.{◌≡◌, ◌*◌, ◌≤◌, ◌<◌, min, length};
 ghost use Rattle.definition.specs.Base.{has};
 ghost use Rattle.definition.specs.Signature.{type_parents};
 ghost use Rattle.definition.specs.Scope as definition;
@@ -91,7 +91,16 @@ fn suits(sig: &Signature<'_>, side: Side, m: TypeId, p: TypeId) -> bool
     }
 }
 
-// What a statement settles. Of the owners it must have as many as both models have: where the models are the same, all.
+// How many of the owners a statement of a model must have: as many as both models have. Where the models are the same, all.
+fn shared_count(own: &Owners<'_>, parent: TypeId) -> usize
+    requires { parent.0 < length (accepted_by own.now).signature.types }
+    ensures { result ≡ min (owner_count (accepted_by own.now).signature parent.0)
+        (owner_count (accepted_by own.now).signature own.now.model.0) }
+{
+    owner_count(own.rule.group.signature(), parent).min(own.variables.len() >> 1)
+}
+
+// What a statement settles.
 #[tactic(auto, using(crate::proofs::Settling::verdict_steps))]
 pub fn statement_verdict(
     own: &Owners<'_>,
@@ -108,6 +117,5 @@ pub fn statement_verdict(
     if !suits(sig, side, own.model, parent) {
         return Ok(Verdict::Global);
     }
-    let count = owner_count(sig, parent).min(own.variables.len() >> 1);
-    compared(own, count, t)
+    compared(own, shared_count(own, parent), t)
 }

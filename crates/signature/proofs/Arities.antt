@@ -4,16 +4,17 @@ use native.Mathlib.Omega.{arith}
 use mathlib.Core.List.{List, []}
 use mathlib.Core.Option.{Option, none}
 use mathlib.Core.Path.{◌≡◌}
-use lib.Dec.{leb}
+use lib.Dec.{ltb, leb}
 use lib.ListN.{length, get_or, length-take, length-drop}
 use borrow.Author.Tests.{ltb-false}
-use Rattle.definition.specs.Base.{each}
-use Rattle.definition.specs.Letters.{start}
-use Rattle.definition.specs.Limits.{symbol_limit, column_limit, parent_limit}
-use Rattle.definition.specs.Records.{Field, numbers}
-use Rattle.definition.specs.Signature.{Symbol, no_symbol, symbol_of, columns_of, parent_count, column_count}
-use Rattle.definition.specs.Signature.{type_fault, symbol_fault}
-use Rattle.laws.proofs.Lists.{or_right, lowest_none, length_each, get_d_each}
+use Rattle.definition.specs.Base.{accepted, or_else, each, ◌∈◌}
+use Rattle.definition.specs.Letters.{letter_t, letter_p, letter_f, start}
+use Rattle.definition.specs.Limits.{signature_bytes, symbol_limit, column_limit, parent_limit}
+use Rattle.definition.specs.Records.{Field, numbers, with_letter, fault_among}
+use Rattle.definition.specs.Signature.{Signature, Symbol, no_symbol, symbol_of, columns_of, parent_count, column_count}
+use Rattle.definition.specs.Signature.{type_fault, symbol_fault, signature_fault, signature_of, signature_part, read_signature}
+use Rattle.laws.proofs.Lists.{or_right, or_else_none, lowest_none, length_each, get_d_each, mem_at}
+use Rattle.laws.proofs.Sound.{read_part_lem, read_within, among_mem, sound_signature}
 use Rattle.records.specs.Held.{held_at}
 use Rattle.records.proofs.Index.{length_held, held_get}
 use Rattle.signature.specs.Faults.{check_of}
@@ -56,3 +57,34 @@ small_arities {s} {index} {counts} w =
       funcs = held_each symbol_of (λ (y : Symbol). column_count y ≤ column_limit) no_symbol w.funcs
           (λ m l g e. symbol_small 1 counts.types m l g e);
     }
+
+-- What holds of each field of a letter holds of the value at each place.
+each_field : {A : Type 0} (f : Field → A) (P : A → Type 0) (fs : List Field) (d : A) → ((g : Field) → g ∈ fs → P (f g)) → (i : ℕ) → i < length (each f fs)
+    → P (get_or (each f fs) i d)
+each_field f P fs d h i l =
+    let k : i < length fs = rw length_each at l in
+    rw (get_d_each f fs i no_field d k) (h (get_or fs i no_field) (mem_at fs i no_field k))
+
+fields_small : (fs : List Field) → length (signature_of fs).types ≤ symbol_limit → signature_fault fs ≡ none → SmallArities (signature_of fs)
+unfolding signature_fault signature_of
+fields_small fs few e =
+    let count : ℕ = length (with_letter letter_t fs) in
+    let t = or_else_none (fault_among letter_t (type_fault count) fs)
+    (or_else (fault_among letter_p (symbol_fault 0 count) fs) (fault_among letter_f (symbol_fault 1 count) fs)) e in
+    let p = or_else_none (fault_among letter_p (symbol_fault 0 count) fs) (fault_among letter_f (symbol_fault 1 count) fs) t.1 in
+    record {
+      few = few;
+      types = each_field (λ (f : Field). numbers f.content) (λ (ns : List ℕ). length ns ≤ parent_limit) (with_letter letter_t fs) []
+          (λ g m. let r = among_mem letter_t (type_fault count) fs t.0 m in type_small count r.0 r.1 g r.2);
+      preds = each_field symbol_of (λ (s : Symbol). column_count s ≤ column_limit) (with_letter letter_p fs) no_symbol
+          (λ g m. let r = among_mem letter_p (symbol_fault 0 count) fs p.0 m in symbol_small 0 count r.0 r.1 g r.2);
+      funcs = each_field symbol_of (λ (s : Symbol). column_count s ≤ column_limit) (with_letter letter_f fs) no_symbol
+          (λ g m. let r = among_mem letter_f (symbol_fault 1 count) fs p.1 m in symbol_small 1 count r.0 r.1 g r.2);
+    }
+
+-- The same of a signature that the definition accepts, whatever index it has.
+pub accepted_small : (bytes : List ℕ) {sig : Signature} → read_signature bytes ≡ accepted sig → SmallArities sig
+unfolding read_signature
+accepted_small bytes e =
+    let r = read_part_lem (signature_part bytes) _ _ (read_within (ltb signature_bytes (length bytes)) _ e).1 in
+    rw (← r.2) (fields_small (signature_part bytes).fields (rw r.2 (sound_signature bytes e).types_few) r.0)

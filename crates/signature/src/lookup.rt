@@ -110,6 +110,18 @@ pub fn relation(kind: u8, number: u16) -> Relation
 }
 
 impl<'a> Signature<'a> {
+    // That of some bytes, by an index that holds its fields, and how many there are of each letter.
+    pub fn of(bytes: &'a [u8], index: &'a [u16; INDEX], counts: Counts) -> Signature<'a>
+        requires { Indexed bytes.now index.now counts }
+        ensures { result ≡ signature_at bytes.now index.now counts }
+    {
+        Signature {
+            bytes,
+            index,
+            counts,
+        }
+    }
+
     // Its types are few and its arities small. This is said to proofs; nothing runs.
     pub fn small_arities(&self)
         ensures { SmallArities self.now }
@@ -122,6 +134,20 @@ impl<'a> Signature<'a> {
         ensures { result ≡ length self.now.types }
     {
         self.counts.types
+    }
+
+    // How many predicates it has.
+    pub fn preds(&self) -> usize
+        ensures { result ≡ length self.now.preds }
+    {
+        self.counts.preds
+    }
+
+    // How many functions it has.
+    pub fn funcs(&self) -> usize
+        ensures { result ≡ length self.now.funcs }
+    {
+        self.counts.funcs
     }
 
     // The content of a type's field: its parents.

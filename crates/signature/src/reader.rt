@@ -1,13 +1,14 @@
 // Reading a signature: the part before the first field that draws 2, then the faults of its fields, letter by letter.
-ghost use Rattle.std.specs.Prelude.{◌≡◌, ◌+◌, ◌≤◌, length};
+ghost use Rattle.std.specs.Prelude.{◌≡◌, ◌+◌, ◌≤◌, length, IfOk};
 ghost use Rattle.definition.specs.Limits.{symbol_limit, signature_bytes};
 ghost use Rattle.definition.specs.Records.{follows};
 ghost use Rattle.definition.specs.Signature.{signature_grammar, read_signature};
-ghost use Rattle.records.specs.Refusals.{outcome};
+ghost use Rattle.records.specs.Refusals.{outcome, outcome_by};
 ghost use Rattle.records.specs.Iter.{EndOf, rest_of, fields_left};
 ghost use Rattle.signature.specs.Answers.{Passes, ChecksUpTo, Stored};
 ghost use Rattle.signature.specs.Faults.{letter_of};
-ghost use Rattle.signature.specs.Index.{index_size};
+ghost use Rattle.signature.specs.Index.{index_size, signature_at, Indexed};
+ghost use Rattle.signature.specs.declared.ids.Counts.{Counts};
 
 use crate::faults::field_fault;
 use crate::ids::{
@@ -101,12 +102,13 @@ fn check<'a>(
     Ok(Checked { count, behind })
 }
 
-// The signature, or why it is refused. The index is lent for as long as the signature is used.
-pub fn read_signature<'a>(
-    s: &'a [u8],
-    index: &'a mut [u16; INDEX],
-) -> Result<Signature<'a>, Refusal>
-    ensures { outcome result ≡ read_signature s.now }
+// How many symbols the signature has of each letter, or why it is refused; where it is accepted, the index holds the positions of its fields.
+// The index is lent for the call alone. Where it is refused, the entries of the index are left free: any may have been written, and only
+// their number holds.
+pub fn index_symbols(s: &[u8], index: &mut [u16; INDEX]) -> Result<Counts, Refusal>
+    ensures value { outcome_by (λ (counts : Counts). signature_at s.now index.new counts) result ≡ read_signature s.now }
+    ensures usable { IfOk result (λ (counts : Counts). Indexed s.now index.new counts) }
+    ensures index_len_unchanged { length index.new ≡ length index.old }
 {
     if SIGNATURE_BYTES < s.len() {
         return Err(Refusal::TooLong);
@@ -133,14 +135,20 @@ pub fn read_signature<'a>(
     if part.len() != s.len() {
         return Err(Refusal::BadFields);
     }
-    let counts = Counts {
+    Ok(Counts {
         types,
         preds: p.count,
         funcs: f.count,
-    };
-    Ok(Signature {
-        bytes: s,
-        index,
-        counts,
     })
+}
+
+// The signature, or why it is refused. The index is lent for as long as the signature is used.
+pub fn read_signature<'a>(
+    s: &'a [u8],
+    index: &'a mut [u16; INDEX],
+) -> Result<Signature<'a>, Refusal>
+    ensures { outcome result ≡ read_signature s.now }
+{
+    let counts = index_symbols(s, index)?;
+    Ok(Signature::of(s, index, counts))
 }

@@ -11,6 +11,8 @@ ghost use Rattle.laws.specs.Bytes.{statement_bytes};
 ghost use Rattle.naming.specs.Variables.{GivenOut};
 ghost use Rattle.records.specs.Buffer.{Put, count_limit};
 ghost use Rattle.rows.specs.Kernel.{TypesOf};
+ghost use Rattle.rows.specs.Morphism.{morphism_from};
+ghost use Rattle.rule.specs.Map.{pairs_from};
 ghost use Rattle.statements.specs.Structures.{side_of, side_from};
 ghost use Rattle.statements.specs.Equalities.{equality_of, equalities_among, TypedVars, KeysTyped};
 
@@ -38,7 +40,7 @@ pub struct Fiber {
 // Those of an element, by the variables of the source's elements.
 fn fiber_vars(source: Numbered<'_>, m: &Map<'_>, e: ElId) -> Fiber
     ensures count_le_field_limit { result.count ≤ field_limit }
-    ensures vars_value { take result.count result.vars ≡ each (variable_in (side_from source.entry)) (fiber m.now e.0) }
+    ensures vars_value { take result.count result.vars ≡ each (variable_in (side_from source.entry)) (fiber (pairs_from m.now) e.0) }
 {
     let mut vars = [0u16; FIELDS];
     let mut count: usize = 0;
@@ -101,9 +103,9 @@ fn put_fiber(
     e: ElId,
 ) -> usize
     requires from_le_count_limit { from ≤ count_limit }
-    requires keys_typed { KeysTyped (side_from source) m.now (length types.now) }
+    requires keys_typed { KeysTyped (side_from source) (pairs_from m.now) (length types.now) }
     ensures { Put out.old out.new (statement_bytes (letter_of side) (equalities_among types.now
-        (each (variable_in (side_from source.entry)) (fiber m.now e.0)))) from result }
+        (each (variable_in (side_from source.entry)) (fiber (pairs_from m.now) e.0)))) from result }
 {
     let fiber = fiber_vars(source, m, e);
     put_among(out, from, side, types, &fiber.vars[..fiber.count])
@@ -120,13 +122,15 @@ pub fn put_equalities(
     types: &[u8],
 ) -> usize
     requires from_le_count_limit { from ≤ count_limit }
-    requires given_out { GivenOut m.now.source row.now (length types.now) }
-    ensures put { (table : List Variable) (target : definition.Side) → TypesOf table types.now → target.structure ≡ m.now.target
+    requires given_out { GivenOut (morphism_from m.now).source row.now (length types.now) }
+    ensures put { (table : List Variable) (target : definition.Side) → TypesOf table types.now → target.structure ≡ (morphism_from m.now).target
         → Put out.old out.new
-        (statement_bytes (letter_of side) (definition.equalities table (side_of m.now.source row.now) target m.now.pairs)) from result }
+        (statement_bytes (letter_of side) (definition.equalities table (side_of (morphism_from m.now).source row.now) target
+        (morphism_from m.now).pairs)) from result }
     ensures upper_bound { result ≤ count_limit }
 {
-    let source = Numbered::new(m.source(), row);
+    let source = m.source();
+    let numbered = Numbered::new(&source, row);
     let target = m.target();
     let merged = m.merged();
     let mut at = from;
@@ -136,7 +140,7 @@ pub fn put_equalities(
                 out,
                 at,
                 side,
-                source,
+                numbered,
                 m.map(),
                 types,
                 target.element_number(j),

@@ -19,7 +19,7 @@ use rule::ids::FIELDS;
 use rule::views::Structure;
 
 // The flagged R rows, A rows and member rows of a structure.
-fn put_flat_rel_apps(
+pub fn put_flat_rel_apps(
     out: &mut [u8],
     from: usize,
     side: Side,

@@ -7,6 +7,7 @@ ghost use Rattle.definition.specs.Names.{numbered};
 ghost use Rattle.definition.specs.Walk.{nothing_taken};
 ghost use Rattle.definition.specs.Limits.{structure_limit, field_limit};
 ghost use Rattle.rows.specs.Kernel.{TypesOf};
+ghost use Rattle.rows.specs.Morphism.{morphism_from};
 ghost use Rattle.kinds.specs.Steps.{step_by, Reaches};
 ghost use Rattle.naming.specs.Variables.{row_of, new_in};
 ghost use Rattle.rule.specs.Lookup.{kind_is};
@@ -45,16 +46,15 @@ fn ends(sources: &[Option<u8>; STRUCTURES], source: usize, target: usize) -> Res
 }
 
 // The map between two structures, as the walk comes to it.
-fn meet_map<'a>(plan: &Plan<'a>, source: usize, target: usize) -> Morphism<'a>
+pub fn meet_map<'a>(plan: &Plan<'a>, source: usize, target: usize) -> Morphism<'a>
     requires inside { (source < length plan.now.rule.structures) × (target < length plan.now.rule.structures) }
     requires has_kind { given (kind_on plan.now.rule source target) ≡ true }
-    ensures { result ≡ map_on plan.now source target result.merged }
+    ensures { morphism_from result ≡ map_on plan.now source target result.merged }
 {
     let rule = plan.rule();
-    let to = rule.structure(target);
     let map = plan.map(source, target);
-    let merged = merged_els(&to, &map);
-    Morphism::new(rule.structure(source), to, map, merged)
+    let merged = merged_els(&rule.structure(target), &map);
+    Morphism::new(rule, source, target, map, merged)
 }
 
 // What a map asks by its kind, and the masks of what it adds; its variables are numbered from `first` on.
@@ -66,9 +66,9 @@ fn flatten_map(
     first: u16,
     types: &[u8],
 ) -> Result<Masks, Refusal>
-    requires { Reaches m.now sourcevars.now targetvars.now first (length types.now) }
+    requires { Reaches (morphism_from m.now) sourcevars.now targetvars.now first (length types.now) }
     ensures { (table : List definition.Variable) → TypesOf table types.now
-        → Does (step_by m.now sourcevars.now targetvars.now types.now) table (kind_is kind) result }
+        → Does (step_by (morphism_from m.now) sourcevars.now targetvars.now types.now) table (kind_is kind) result }
 {
     let step = Step::new(m, sourcevars, targetvars, first, types);
     match kind {
@@ -99,13 +99,17 @@ pub fn walk_map(
     ends(&tables.sources, source, target)?;
     let sourcevars = &tables.vars[source];
     let vars = assign_el_vars(sourcevars, &m, first);
-    let said = flatten_map(&m, kind, sourcevars, &vars, first, types)?;
+    // What the kind asks comes before the first write: refused, the walk ends with the tables as they were.
+    let said = match flatten_map(&m, kind, sourcevars, &vars, first, types) {
+        Ok(said) => said,
+        Err(refusal) => return Err(refusal),
+    };
     let st = m.target();
-    type_variables(types, st, &vars, first);
+    type_variables(types, &st, &vars, first);
     tables.sources[target] = Some(source as u8);
     tables.masks[target] = StructureMasks { said, merged };
     tables.vars[target] = vars;
-    Ok(first + fresh(st, &vars, first))
+    Ok(first + fresh(&st, &vars, first))
 }
 
 // The variables of structure 0, with their types.

@@ -34,6 +34,7 @@ impl<'a> Walked<'a> {
     ghost use Rattle.rule.specs.Views.{SoundBy};
     ghost use Rattle.naming.specs.Variables.{GivenOut};
     ghost use Rattle.plan.specs.Table.{kind_in};
+    ghost use Rattle.rows.specs.Morphism.{morphism_from};
     ghost use Rattle.walk.specs.Ended.{Reaching};
     ghost use Rattle.walk.specs.Tables.{unreached, source_at, row_at, masks_at, merged_at, reached_by};
     ghost use Rattle.walk.specs.Walked.{Mapped, map_of, Sourced, Walks};
@@ -109,11 +110,11 @@ impl<'a> Walked<'a> {
     pub fn morphism(&self, t: usize) -> Morphism<'a>
         requires reaching { Reaching self.now.rule self.now.tb t }
         requires mapped { Mapped self.now t }
-        ensures { result ≡ map_of self.now t }
+        ensures { morphism_from result ≡ map_of self.now t }
     {
         let source = self.source(t).unwrap_or(0);
         let map = self.plan.map(source, t);
         let merged = self.masks(t).merged;
-        Morphism::new(self.structure(source), self.structure(t), map, merged)
+        Morphism::new(self.rule(), source, t, map, merged)
     }
 }

@@ -7,9 +7,8 @@ ghost use Rattle.records.specs.Buffer.{Put, count_limit};
 use crate::lengths::rules_length;
 use crate::rules::put_rules;
 use crate::variables::put_all_variables;
-use group::ids::LETTER_G;
+use group::write::put_group_head;
 use naming::writer::{group_name_length, put_group_name};
-use records::write::put_field_head;
 use walk::walked::Walked;
 
 // The group.
@@ -18,7 +17,7 @@ pub fn put_group(out: &mut [u8], w: &Walked<'_>) -> usize
     ensures upper_bound { result ≤ count_limit }
 {
     let rule = w.rule();
-    let head = put_field_head(out, 0, LETTER_G, group_name_length(rule));
+    let head = put_group_head(out, 0, group_name_length(rule));
     let named = put_group_name(out, head, rule);
     let varied = put_all_variables(out, named, w);
     // Nothing of the rules fits: they are only counted.

@@ -12,9 +12,9 @@ ghost use Rattle.writer.specs.Rules.{name_field, body_bytes};
 
 use crate::premise::{put_both, put_premise, source_of};
 use flags::none_set;
-use group::ids::{LETTER_U, Side};
+use group::ids::Side;
+use group::write::put_rule_head;
 use naming::writer::{put_rule_name, rule_name_length};
-use records::write::put_field_head;
 use rule::tail::MorphismKind;
 use rule::views::Rule;
 use statements::writer::put_domains;
@@ -58,7 +58,7 @@ fn put_name_field(out: &mut [u8], from: usize, rule: &Rule<'_>, count: u16) -> u
     requires { from ≤ count_limit }
     ensures { Put out.old out.new (field_bytes (name_field rule.now.rule count)) from result }
 {
-    let head = put_field_head(out, from, LETTER_U, rule_name_length(rule, count));
+    let head = put_rule_head(out, from, rule_name_length(rule, count));
     put_rule_name(out, head, rule, count)
 }
 

@@ -3,6 +3,7 @@
 -- (`carry`); after all pairs it is `taken_over` (`carry_end`).
 use Rattle.std.proofs.Common.{◌<◌, length, arith}
 use Rattle.rows.proofs.Places.{found_place}
+use Rattle.rows.specs.Morphism.{morphism_from}
 use Rattle.naming.proofs.Carrying.{carrying, carry, not_absent}
 use Rattle.naming.proofs.assign.carried.Goals as goal
 
@@ -11,19 +12,22 @@ loop-p-init c = rw c.requires (carrying _ _ (rw c.target-target.ensures.value at
 
 pub loop-p-preserved-in_default : goal.loop-p-preserved-in_default
 loop-p-preserved-in_default c =
-    let h : c.loop-p.p < length c.args.m.now.pairs = rw c.map-map.ensures.value at (rw c.count-p-end.ensures.count_value at c.loop-p-test.true) in
-    (not_absent c.args.m.now c.map-map.ensures.between h).0
+    let m = morphism_from c.args.m.now in
+    let h : c.loop-p.p < length m.pairs = rw c.map-map.ensures.value at (rw c.count-p-end.ensures.count_value at c.loop-p-test.true) in
+    (not_absent m c.map-map.ensures.between h).0
     (rw (c.key.ensures, c.source-source.ensures.value, c.map-map.ensures.value) at c.in_default.ensures)
 
 pub loop-p-preserved-in_default-find_element : goal.loop-p-preserved-in_default-find_element
 loop-p-preserved-in_default-find_element c =
-    let h : c.loop-p.p < length c.args.m.now.pairs = rw c.map-map.ensures.value at (rw c.count-p-end.ensures.count_value at c.loop-p-test.true) in
-    (not_absent c.args.m.now c.map-map.ensures.between h).1
+    let m = morphism_from c.args.m.now in
+    let h : c.loop-p.p < length m.pairs = rw c.map-map.ensures.value at (rw c.count-p-end.ensures.count_value at c.loop-p-test.true) in
+    (not_absent m c.map-map.ensures.between h).1
     (rw (c.image.ensures, c.target-target.ensures.value, c.map-map.ensures.value) at c.in_default-find_element.ensures)
 
 pub loop-p-preserved : goal.loop-p-preserved
 loop-p-preserved c =
-    let h : c.loop-p.p < length c.args.m.now.pairs = rw c.map-map.ensures.value at (rw c.count-p-end.ensures.count_value at c.loop-p-test.true) in
+    let m = morphism_from c.args.m.now in
+    let h : c.loop-p.p < length m.pairs = rw c.map-map.ensures.value at (rw c.count-p-end.ensures.count_value at c.loop-p-test.true) in
     carry _ _ (rw c.target-target.ensures.value at c.target-target.ensures.sound) c.loop-p.invariant h
     (rw (c.key.ensures, c.source-source.ensures.value, c.map-map.ensures.value) at c.in-Some.ensures)
     (rw (c.image.ensures, c.target-target.ensures.value, c.map-map.ensures.value) at c.in-Some-find_element.ensures)

@@ -3,6 +3,7 @@ use lib.ListN.{length}
 use Rattle.definition.specs.Limits.{field_limit}
 use Rattle.definition.specs.Kinds.{Side}
 use Rattle.definition.specs.Names.{numbers_of}
+use Rattle.rule.specs.Map.{pairs_from}
 use Rattle.rows.specs.Kernel.{SideAt}
 use Rattle.rows.proofs.KernelLaws.{KeysDone}
 use Rattle.rows.proofs.kernel.key_vars.Given as goal
@@ -10,4 +11,4 @@ use Rattle.rows.proofs.kernel.key_vars.Given as goal
 abbrev pub invariant-loop-p : goal.invariant-loop-p
 invariant-loop-p l =
     (length l.vars ≡ field_limit)
-    × ((side : Side) → SideAt (numbers_of l.source.structure) l.row side → KeysDone side l.m l.vars l.p)
+    × ((side : Side) → SideAt (numbers_of l.source.structure) l.row side → KeysDone side (pairs_from l.m) l.vars l.p)

@@ -2,9 +2,10 @@ use mathlib.Core.Path.{◌≡◌}
 use lib.ListN.{length}
 use Rattle.definition.specs.Names.{numbers_of}
 use Rattle.flags.specs.Flags.{places}
+use Rattle.rule.specs.Map.{pairs_from}
 use Rattle.rows.proofs.Several.{Several}
 use Rattle.rows.proofs.kernel.merged_els.Given as goal
 
 abbrev pub invariant-loop-p : goal.invariant-loop-p
 invariant-loop-p l =
-    (length l.seen ≡ places) × (length l.merged ≡ places) × Several l.m (numbers_of l.target.structure) l.seen l.merged l.p
+    (length l.seen ≡ places) × (length l.merged ≡ places) × Several (pairs_from l.m) (numbers_of l.target.structure) l.seen l.merged l.p

@@ -7,18 +7,19 @@ use lib.ListN.{length}
 use Rattle.laws.proofs.Lists.{any_mem}
 use Rattle.records.proofs.Results.{passed_on}
 use Rattle.rule.specs.Element.{element_from}
+use Rattle.rule.specs.Map.{pairs_from}
 use Rattle.rows.specs.Table.{row_lacks}
 use Rattle.rows.proofs.TableLaws.{filled_none, filled_more}
 use Rattle.rows.proofs.MemberLaws.{with_parents, without_parents, member_skip, member_next, member_mem, member_short, no_rows}
 use Rattle.rows.proofs.members.mapped_members.Goals as goal
 
 pub loop-i-init : goal.loop-i-init
-loop-i-init c = (omega arith, rw no_rows (filled_none _ refl))
+loop-i-init c = (omega arith, rw no_rows (filled_none _ refl), record { symbols = search rules; els = search rules })
 
 pub loop-i-preserved-then-count-eq0 : goal.loop-i-preserved-then-count-eq0
 loop-i-preserved-then-count-eq0 c =
     let none = without_parents (element_from c.element-e.result) c.count.ensures c.if-count-eq0.true in
-    (search rules, rw (member_skip c.args.st.now.structure.elements c.loop-i.i (search rules) c.element-e.ensures.value none) c.loop-i.invariant.1)
+    (search rules, rw (member_skip c.args.st.now.structure.elements c.loop-i.i (search rules) c.element-e.ensures.value none) c.loop-i.invariant.1, c.loop-i.invariant.2)
 
 pub add_image-requires : goal.add_image-requires
 add_image-requires c =
@@ -26,17 +27,17 @@ add_image-requires c =
     let below : c.loop-i.i < length c.args.st.now.structure.elements = search rules in
     (omega (arith, c.loop-i.invariant.0), member_short _ c.element-e.ensures.few c.member_line.ensures)
 
-pub returns-in_err-add_image : goal.returns-in_err-add_image
-returns-in_err-add_image c =
+pub returns-in_err-add_image-clause-imaged : goal.returns-in_err-add_image-clause-imaged
+returns-in_err-add_image-clause-imaged c =
     let some = with_parents (element_from c.element-e.result) c.count.ensures c.if-count-eq0.false in
     let mem = member_mem c.args.st.now.structure.elements c.loop-i.i (search rules) c.element-e.ensures.value some in
-    let lacks = c.in_err-add_image.ensures.is in
+    let lacks = c.in_err-add_image.ensures.adds.is in
     rw (passed_on c.from_residual.ensures)
-    (record { is = (lacks.0, any_mem (row_lacks c.args.m.now) _ mem (rw c.member_line.ensures.elements at lacks.1)) })
+    (record { is = (lacks.0, any_mem (row_lacks (pairs_from c.args.m.now)) _ mem (rw c.member_line.ensures.elements at lacks.1)) })
 
 pub loop-i-preserved : goal.loop-i-preserved
 loop-i-preserved c =
     let some = with_parents (element_from c.element-e.result) c.count.ensures c.if-count-eq0.false in
-    let added = c.in_ok-add_image.ensures.is in
+    let added = c.in_ok-add_image.ensures.adds.is in
     let next = member_next c.args.st.now.structure.elements c.loop-i.i (search rules) c.element-e.ensures.value some in
-    (omega (arith, c.loop-i.invariant.0, added.1.count), rw next (filled_more c.loop-i.invariant.1 c.member_line.ensures added.0 added.1))
+    (omega (arith, c.loop-i.invariant.0, added.1.count), rw next (filled_more c.loop-i.invariant.1 c.member_line.ensures added.0 added.1), c.in_ok-add_image.ensures.sized)

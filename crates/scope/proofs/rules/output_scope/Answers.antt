@@ -30,8 +30,9 @@ returns-in_err-rule_verdict-clause-result_value c = λ x w.
 pub returns-in-Open-clause-result_value : goal.returns-in-Open-clause-result_value
 returns-in-Open-clause-result_value c = λ x w.
     let sig = c.signature-sig.ensures in
-    output_long _ _ _ _ _ c.args.t.variables.now _ (rw sig at (sym c.in-Some.ensures.result_value)) (rw sig at c.owner_count-count.ensures)
-    (rw c.count.ensures at c.if-count.false) (rw (c.in_ok-rule_verdict.was, c.in-Open.is) at (c.rule_verdict.ensures x w)) _ _ c.requires.stands
+    rw c.first_variables.ensures
+    (output_long _ _ _ _ _ c.args.t.variables.now _ (rw sig at (sym c.in-Some.ensures.result_value)) (rw sig at c.owner_count-count.ensures)
+    (rw c.count.ensures at c.if-count.false) (rw (c.in_ok-rule_verdict.was, c.in-Open.is) at (c.rule_verdict.ensures x w)) _ _ c.requires.stands)
 
 pub returns-in-Global-clause-result_value : goal.returns-in-Global-clause-result_value
 returns-in-Global-clause-result_value c = λ x w.

@@ -4,6 +4,7 @@
 use Prim.Native.Nat.{◌<◌}
 use lib.ListN.{length}
 use borrow.Author.Rules.{rules}
+use Rattle.rule.specs.Map.{pairs_from}
 use Rattle.statements.proofs.Fibers.{fiber_start, fiber_pass, fiber_next, fiber_end}
 use Rattle.statements.proofs.equalities.fiber_vars.Goals.{else-eq, then-eq}
 use Rattle.statements.proofs.equalities.fiber_vars.Goals as goal
@@ -13,7 +14,7 @@ loop-p-init c = fiber_start _ _ _ (search rules)
 
 pub loop-p-preserved : goal.loop-p-preserved
 loop-p-preserved c =
-    let l : c.loop-p.p < length c.args.m.now = search rules in let i = c.loop-p.invariant in
+    let l : c.loop-p.p < length (pairs_from c.args.m.now) = search rules in let i = c.loop-p.invariant in
     elim c.if-eq.branch [
       | then-eq x ↦ rw (x.vars-is, x.count-is) (
           fiber_next i l c.count-p-end.ensures.few.few (rw c.image.ensures at x.if-eq.ensures) x.key.ensures x.var_of.ensures)

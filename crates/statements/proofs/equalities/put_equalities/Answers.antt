@@ -7,9 +7,10 @@ use mathlib.Core.Path.{refl, sym, ◌∙◌, ap}
 use lib.ListN.{length, get_or}
 use Rattle.definition.specs.Kinds.{variable_in}
 use Rattle.definition.specs.Names.{numbers_of}
-use Rattle.records.proofs.Tail.{wrote, passed, finish}
+use Rattle.records.proofs.Tail.{begin, wrote, passed, finish}
 use Rattle.rows.proofs.Places.{numbers_many}
 use Rattle.rows.proofs.Several.{unflagged}
+use Rattle.rows.specs.Morphism.{morphism_from}
 use Rattle.rule.specs.Views.{StructureBy}
 use Rattle.statements.specs.Structures.{side_of}
 use Rattle.statements.proofs.KernelPairs.{keys_typed, equalities_are}
@@ -19,13 +20,16 @@ use Rattle.statements.proofs.equalities.put_equalities.Goals as goal
 
 pub put_fiber-at-requires-clause-keys_typed : goal.put_fiber-at-requires-clause-keys_typed
 put_fiber-at-requires-clause-keys_typed c =
-    let q = c.new-source.ensures ∙ ap (λ (x : StructureBy). side_of x.structure c.args.row.now) c.source.ensures.value in
-    rw c.map.ensures.value (keys_typed q c.source.ensures.between.keys c.requires.given_out)
+    let q = c.new-numbered.ensures ∙ ap (λ (x : StructureBy). side_of x.structure c.args.row.now) c.source-source.ensures.value in
+    rw c.map.ensures.value (keys_typed q c.source-source.ensures.between.keys c.requires.given_out)
+
+pub loop-j-init : goal.loop-j-init
+loop-j-init c = begin _ _ c.requires.from_le_count_limit
 
 pub loop-j-preserved : goal.loop-j-preserved
 loop-j-preserved c =
-    let m = c.args.m.now in
-    let q = c.new-source.ensures ∙ ap (λ (x : StructureBy). side_of x.structure c.args.row.now) c.source.ensures.value in
+    let m = morphism_from c.args.m.now in
+    let q = c.new-numbered.ensures ∙ ap (λ (x : StructureBy). side_of x.structure c.args.row.now) c.source-source.ensures.value in
     let to = c.target-target.ensures.value in
     let k = c.element_count-j-end.ensures.count_value ∙ ap (λ (x : StructureBy). length x.structure.elements) to in
     let n = numbers_many m.target in let l = c.loop-j-test.true in
@@ -36,15 +40,15 @@ loop-j-preserved c =
           (ap variable_in q) w.map.ensures.value)
           w.put_fiber-at.ensures)
       | else-flag w ↦ rw (w.out-is, w.at-is) (passed c.loop-j.invariant
-          (els_pass _ _ _ _ _ _ h (unflagged c.source.ensures.between.merged _ h (rw c.merged-merged.ensures.value at (sym w.if-flag.ensures)))))
+          (els_pass _ _ _ _ _ _ h (unflagged c.source-source.ensures.between.merged _ h (rw c.merged-merged.ensures.value at (sym w.if-flag.ensures)))))
     ]
 
 pub returns-clause-put : goal.returns-clause-put
 unfolding over_bytes
 returns-clause-put c =
-    let m = c.args.m.now in
+    let m = morphism_from c.args.m.now in
     let k = c.element_count-j-end.ensures.count_value ∙ ap (λ (x : StructureBy). length x.structure.elements) c.target-target.ensures.value in
     let n = numbers_many m.target in let l = c.loop-j-test.false in
     let h : length (numbers_of m.target) ≤ c.loop-j.j = omega arith in
     let r = finish c.loop-j.invariant (els_end _ _ _ _ _ _ h) in
-    λ table target t q. rw (equalities_are (keys_typed refl c.source.ensures.between.keys c.requires.given_out) t target, q) r
+    λ table target t q. rw (equalities_are (keys_typed refl c.source-source.ensures.between.keys c.requires.given_out) t target, q) r

@@ -9,4 +9,4 @@ map-map-requires c = c.requires.has_kind
 pub returns : goal.returns
 returns c =
     met c.args.plan.now c.args.source c.args.target c.map-map.ensures.value
-    (rw (c.structure.ensures, c.structure-to.ensures, c.rule-rule.ensures.value) at c.new.ensures)
+    (rw c.rule-rule.ensures.value at c.new.ensures)

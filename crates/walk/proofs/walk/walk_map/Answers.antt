@@ -21,12 +21,11 @@ flatten_map-requires c =
     reaches (walkable c.requires.sound c.requires.kinded c.meet_map-m.ensures c.requires.going c.merged-merged.ensures.between c.in_ok-ends.ensures) refl
     c.assign_el_vars-vars.ensures
 
-pub returns-in_err-said : goal.returns-in_err-said
-returns-in_err-said c =
-    let p = err_from_is_err_and c.from_residual-in_err-said.result c.from_residual-in_err-said.ensures.1 in
-    rw (p.1, p.2) (went_refused
+pub returns-in-Err : goal.returns-in-Err
+returns-in-Err c =
+    went_refused
     (walkable c.requires.sound c.requires.kinded c.meet_map-m.ensures c.requires.going c.merged-merged.ensures.between c.in_ok-ends.ensures) refl
-    c.assign_el_vars-vars.ensures c.in_err-said.ensures)
+    c.assign_el_vars-vars.ensures c.in-Err.ensures
 
 pub type_variables-requires : goal.type_variables-requires
 type_variables-requires c =
@@ -41,5 +40,5 @@ pub returns : goal.returns
 returns c =
     let can = walkable c.requires.sound c.requires.kinded c.meet_map-m.ensures c.requires.going c.merged-merged.ensures.between c.in_ok-ends.ensures in
     rw (c.fresh.ensures, c.target-st.ensures.value)
-    (went_on can refl c.assign_el_vars-vars.ensures c.in_ok-said.ensures c.merged-merged.ensures.value
+    (went_on can refl c.assign_el_vars-vars.ensures c.in-Ok.ensures c.merged-merged.ensures.value
     (rw c.target-st.ensures.value at c.type_variables.ensures) refl)

@@ -1,4 +1,5 @@
-use mathlib.Core.Path.{sym, ◌∙◌}
+use mathlib.Core.Path.{sym, ap, ◌∙◌}
+use Rattle.rows.specs.Morphisms.{MorphismBy}
 use Rattle.statements.proofs.Unsaid.{unsaid}
 use Rattle.walk.specs.Walked.{walked_by}
 use Rattle.writer.proofs.Premises.{unmerged_none, map_put}
@@ -13,11 +14,15 @@ returns-then-none_set-clause-put c =
 pub put_equalities-requires-clause-given_out : goal.put_equalities-requires-clause-given_out
 put_equalities-requires-clause-given_out c =
     let row = c.row-row.ensures.given_out c.source_of.ensures.reaching.reached in
-    rw (c.morphism.ensures, ← c.source_of.ensures.source_value, ← c.w.view_is) (rw (← c.w.view_is) at row)
+    let source = ap (λ (m : MorphismBy). m.source) c.morphism.ensures in
+    rw (source, ← c.source_of.ensures.source_value, ← c.w.view_is) (rw (← c.w.view_is) at row)
 
 pub returns-clause-put : goal.returns-clause-put
 returns-clause-put c =
     let i = c.w.inside in
+    let source = ap (λ (m : MorphismBy). m.source) c.morphism.ensures in
+    let target = ap (λ (m : MorphismBy). m.target) c.morphism.ensures in
+    let pairs = ap (λ (m : MorphismBy). m.pairs) c.morphism.ensures in
     rw (← c.w.view_is)
     (map_put (walked_by i.plan.now i.tables.now i.types.now) c.w.invariant (rw (← c.w.view_is) at c.requires.reaching) _
-    (rw (c.morphism.ensures, c.row-row.ensures.value, c.source_of.ensures.source_value, ← c.w.view_is) at c.put_equalities.ensures.put))
+    (rw (source, target, pairs, c.row-row.ensures.value, c.source_of.ensures.source_value, ← c.w.view_is) at c.put_equalities.ensures.put))

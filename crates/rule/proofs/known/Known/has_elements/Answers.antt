@@ -1,19 +1,20 @@
-use borrow.Author.Rules.{rules}
-use borrow.Author.Tests.{tests}
-use Rattle.std.proofs.Common.{◌∙◌}
-use Rattle.std.proofs.lemmas.Iterator.{YieldsList-from_slice}
-use Rattle.std.proofs.lemmas.Iterator.Search.{all_from_yields_List}
-use Prim.Native.Nat.{ℕ}
-use mathlib.Core.List.{List}
-use Rattle.definition.specs.Base.{has}
-use Rattle.definition.specs.Rule.{elements_at}
-use Rattle.records.specs.Places.{two_at}
-use Rattle.records.proofs.OnContents.{numbers_all}
+-- Whether all are named is whether those from the i-th on are: one that isn't makes it false, one that is leaves it to those behind it.
+use mathlib.Core.Path.{refl, sym, ◌∙◌}
+use Rattle.records.proofs.Along.{all_start, all_no, all_on, all_end}
 use Rattle.rule.proofs.known.Known.has_elements.Goals as goal
 
+pub loop-i-init : goal.loop-i-init
+loop-i-init c = all_start _ _
+
+pub returns-then-not-has_element : goal.returns-then-not-has_element
+returns-then-not-has_element c =
+    sym (c.loop-i.invariant ∙ all_no _ _ refl (rw c.count-i-end.ensures at c.loop-i-test.true) (sym c.at.ensures)
+    (sym c.has_element.ensures ∙ c.if-not-has_element.true))
+
+pub loop-i-preserved : goal.loop-i-preserved
+loop-i-preserved c =
+    c.loop-i.invariant ∙ all_on _ _ refl (rw c.count-i-end.ensures at c.loop-i-test.true) (sym c.at.ensures)
+    (sym c.has_element.ensures ∙ c.if-not-has_element.false)
+
 pub returns : goal.returns
-returns c =
-    let named = λ (e : ℕ). has e (elements_at c.args.self.now c.args.structure) in
-    all_from_yields_List (λ (e : List ℕ). named (two_at e 0)) _ _ _ c.all.ensures.ran (YieldsList-from_slice c.as_chunks.result.0.now cc)
-    (λ x b q k. search (rules, tests))
-    ∙ rw (c.as_chunks.ensures.front, numbers_all named c.args.els.now)
+returns c = sym (c.loop-i.invariant ∙ all_end _ _ refl (rw c.count-i-end.ensures at c.loop-i-test.false))

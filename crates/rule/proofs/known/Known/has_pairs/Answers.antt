@@ -1,20 +1,38 @@
-use borrow.Author.Rules.{rules}
-use borrow.Author.Tests.{tests}
-use Rattle.std.proofs.Common.{◌∙◌}
-use Rattle.std.proofs.lemmas.Iterator.{YieldsList-from_slice}
-use Rattle.std.proofs.lemmas.Iterator.Search.{all_from_yields_List}
-use Prim.Native.Nat.{ℕ}
-use mathlib.Core.List.{List}
-use Rattle.definition.specs.Rule.{elements_at}
+-- Whether all pairs are named is whether those from the p-th on are (`all_pairs`). A key or an image that is no element makes it false
+-- (`pairs_no`); a pair of elements leaves it to those behind it (`pairs_on`); none left is true (`pairs_end`).
+use mathlib.Core.Path.{sym, ◌∙◌}
 use Rattle.rule.specs.Faults.{pair_named}
-use Rattle.rule.proofs.PairLaws.{pairs_are, all_each, pair_in_bytes}
+use Rattle.rule.proofs.PairLaws.{pairs_start, pairs_no, pairs_on, pairs_end}
 use Rattle.rule.proofs.known.Known.has_pairs.Goals as goal
 
-pub returns : goal.returns
+pub loop-p-init : goal.loop-p-init
+loop-p-init c = pairs_start c.args.pairs.now _
+
+pub returns-then-not-has_element : goal.returns-then-not-has_element
 unfolding pair_named
-returns c =
-    let named = pair_named (elements_at c.args.self.now c.args.source) (elements_at c.args.self.now c.args.target) in
-    all_from_yields_List (λ (p : List ℕ). named (pair_in_bytes p)) _ _ _ c.all.ensures.ran (YieldsList-from_slice c.as_chunks.result.0.now cc)
-    (λ x b q k. search (rules, tests))
-    ∙ all_each named pair_in_bytes c.as_chunks.result.0.now
-    ∙ rw (c.as_chunks.ensures.front, pairs_are c.args.pairs.now)
+returns-then-not-has_element c =
+    sym (c.loop-p.invariant
+    ∙ pairs_no _ _ _ c.loop-p-test.true (rw (rw c.num.ensures at (sym c.has_element.ensures ∙ c.if-not-has_element.true))))
+
+pub returns-then-not-has_element-2 : goal.returns-then-not-has_element-2
+unfolding pair_named
+returns-then-not-has_element-2 c =
+    sym (c.loop-p.invariant ∙ pairs_no _ _ _ c.loop-p-test.true
+    (rw (
+      rw c.num.ensures at
+          (sym c.has_element.ensures ∙ c.if-not-has_element.false),
+      rw c.num-in-loop-p.ensures at (sym c.has_element-in-loop-p.ensures ∙ c.if-not-has_element-2.true),
+    )))
+
+pub loop-p-preserved : goal.loop-p-preserved
+unfolding pair_named
+loop-p-preserved c =
+    c.loop-p.invariant ∙ pairs_on _ _ _ c.loop-p-test.true
+    (rw (
+      rw c.num.ensures at
+          (sym c.has_element.ensures ∙ c.if-not-has_element.false),
+      rw c.num-in-loop-p.ensures at (sym c.has_element-in-loop-p.ensures ∙ c.if-not-has_element-2.false),
+    ))
+
+pub returns : goal.returns
+returns c = sym (c.loop-p.invariant ∙ pairs_end _ _ _ c.loop-p-test.false)

@@ -8,6 +8,7 @@ use Rattle.records.specs.Iter.{fields_left}
 use Rattle.rule.specs.Tail.{map_from}
 use Rattle.rule.specs.Pairs.{pairs_in_bytes}
 use Rattle.rule.proofs.RuleLaws.{map_hit, map_miss}
+use Rattle.rule.proofs.views.Rule.find_map.Goals.{Then-joins}
 use Rattle.rule.proofs.views.Rule.find_map.Goals as goal
 
 pub loop-f-init : goal.loop-f-init
@@ -15,20 +16,20 @@ unfolding pairs_between
 loop-f-init c = (tt, tt, rw (c.into_iter-f-iterator.ensures.into_iter_gives, c.maps-f-items.ensures.value) refl)
 
 -- The map that is found is the first.
-here : (c : goal.After-result-1) → pairs_between c.args.self.now.rule.maps c.args.source c.args.target ≡ some (pairs_in_bytes c.read_map-m.result.pairs.now)
+here : (c : Then-joins) → pairs_between c.args.self.now.rule.maps c.args.source c.args.target ≡ some (pairs_in_bytes c.read_map-m.result.pairs.now)
 unfolding each
 here c =
     sym c.loop-f.invariant.2 ∙ rw (c.in-Some.ensures.steps.0, ← (c.read_map-m.ensures.says c.in-Some.f.letter))
     (map_hit c.args.source c.args.target _ _ (sym c.if-joins.ensures))
 
 pub invariant_of-result : goal.invariant_of-result
-invariant_of-result c = c.maps-f-items.ensures.sound.few _ _ _ (here c)
+invariant_of-result c = record { sound = c.maps-f-items.ensures.sound.few _ _ _ (here (goal.at.invariant_of-result c).Then-joins) }
 
 pub returns-then-joins-clause-value : goal.returns-then-joins-clause-value
-returns-then-joins-clause-value c = sym (here c)
+returns-then-joins-clause-value c = sym (here (goal.at.returns-then-joins-clause-value c).Then-joins)
 
 pub returns-then-joins-clause-joins : goal.returns-then-joins-clause-joins
-returns-then-joins-clause-joins c = record { is = c.maps-f-items.ensures.sound.joined _ _ _ (here c) }
+returns-then-joins-clause-joins c = record { is = c.maps-f-items.ensures.sound.joined _ _ _ (here (goal.at.returns-then-joins-clause-joins c).Then-joins) }
 
 pub loop-f-preserved : goal.loop-f-preserved
 unfolding each

@@ -14,7 +14,7 @@ map-map-requires c =
 
 pub new-requires-clause-merged : goal.new-requires-clause-merged
 new-requires-clause-merged c =
-    rw (c.masks.ensures.merged, c.structure-2.ensures)
+    rw (c.masks.ensures.merged, c.rule.ensures)
     (merged_there c.args.self.now c.args.t (c.unwrap_or-source.ensures ∙ (some_source c.requires.reaching c.source.ensures).0)
     (c.map-map.ensures.value ∙ ap (λ (w : WalkedBy). pairs_between w.rule.maps c.unwrap_or-source.result c.args.t) c.self.view_is)
     (subst Walks c.self.view_is c.self.invariant) c.requires.reaching.reached c.requires.mapped)
@@ -23,4 +23,4 @@ pub returns : goal.returns
 returns c =
     map_there c.args.self.now c.args.t (c.unwrap_or-source.ensures ∙ (some_source c.requires.reaching c.source.ensures).0)
     (c.map-map.ensures.value ∙ ap (λ (w : WalkedBy). pairs_between w.rule.maps c.unwrap_or-source.result c.args.t) c.self.view_is)
-    (rw (c.masks.ensures.merged, c.structure.ensures, c.structure-2.ensures) at c.new.ensures)
+    (rw (c.masks.ensures.merged, c.rule.ensures) at c.new.ensures)

@@ -5,7 +5,7 @@ use mathlib.Core.Path.{sym}
 use borrow.Author.Tests.{not-true, not-false}
 use Rattle.records.proofs.Results.{passed_on}
 use Rattle.group.proofs.Whole.{read_long, read_empty, read_title, read_variables, read_rules, read_left, read_all, usable}
-use Rattle.group.proofs.reader.read_group.Goals as goal
+use Rattle.group.proofs.reader.index_group.Goals as goal
 
 pub returns-then-s-gt-GROUP_BYTES-clause-value : goal.returns-then-s-gt-GROUP_BYTES-clause-value
 returns-then-s-gt-GROUP_BYTES-clause-value c = read_long _ _ c.if-s-gt-GROUP_BYTES.true
@@ -40,7 +40,7 @@ returns-clause-value c =
     read_all _ c.pass-p.ensures c.if-s-gt-GROUP_BYTES.false c.if-p-eq0.false c.title.ensures.by_index c.in_ok-g.was
     (sym c.types.ensures) c.variables.ensures.variable c.in_ok-w.was c.rules.ensures.all_rules c.in_ok-u.was (not-false _ c.if-not-p.false)
 
-pub invariant_of-result : goal.invariant_of-result
-invariant_of-result c =
+pub returns-clause-usable : goal.returns-clause-usable
+returns-clause-usable c =
     usable _ c.pass-p.ensures c.if-s-gt-GROUP_BYTES.false c.if-p-eq0.false c.title.ensures.by_index c.in_ok-g.was
     (sym c.types.ensures) c.variables.ensures.variable c.in_ok-w.was c.rules.ensures.all_rules c.in_ok-u.was c.rules.ensures.kept

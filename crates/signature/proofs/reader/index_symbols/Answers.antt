@@ -3,13 +3,13 @@
 -- as no check alters entries before its own (`read_indexed`). Each of these takes what the calls so far told.
 use Rattle.records.proofs.Results.{passed_on}
 use Rattle.signature.proofs.Whole.{read_long, read_types, read_preds, read_funcs, read_part_lem, read_sound, read_indexed, behind_types, behind_preds}
-use Rattle.signature.proofs.reader.read_signature.Goals as goal
+use Rattle.signature.proofs.reader.index_symbols.Goals as goal
 
-pub returns-then-s-gt-SIGNATURE_BYTES : goal.returns-then-s-gt-SIGNATURE_BYTES
-returns-then-s-gt-SIGNATURE_BYTES c = read_long _ c.if-s-gt-SIGNATURE_BYTES.true
+pub returns-then-s-gt-SIGNATURE_BYTES-clause-value : goal.returns-then-s-gt-SIGNATURE_BYTES-clause-value
+returns-then-s-gt-SIGNATURE_BYTES-clause-value c = read_long _ c.if-s-gt-SIGNATURE_BYTES.true
 
-pub returns-in_err-t : goal.returns-in_err-t
-returns-in_err-t c =
+pub returns-in_err-t-clause-value : goal.returns-in_err-t-clause-value
+returns-in_err-t-clause-value c =
     rw (passed_on c.from_residual.ensures)
     (read_types c.pass-types.ensures c.if-s-gt-SIGNATURE_BYTES.false c.new-all.result c.new-all.ensures c.check.ensures.checks_up_to c.in_err-t.was)
 
@@ -18,8 +18,8 @@ check-requires-2-clause-end_of c =
     behind_types c.pass-types.ensures c.if-s-gt-SIGNATURE_BYTES.false c.new-all.result c.new-all.ensures
     c.check.ensures.checks_up_to c.in_ok-t.was
 
-pub returns-in_err-p : goal.returns-in_err-p
-returns-in_err-p c =
+pub returns-in_err-p-clause-value : goal.returns-in_err-p-clause-value
+returns-in_err-p-clause-value c =
     rw (passed_on c.from_residual-in_err-p.ensures)
     (read_preds c.pass-types.ensures c.if-s-gt-SIGNATURE_BYTES.false c.new-all.result c.new-all.ensures
     c.check.ensures.checks_up_to c.in_ok-t.was c.check-2.ensures.checks_up_to c.in_err-p.was)
@@ -29,26 +29,26 @@ check-requires-3-clause-end_of c =
     behind_preds c.pass-types.ensures c.if-s-gt-SIGNATURE_BYTES.false c.new-all.result c.new-all.ensures
     c.check.ensures.checks_up_to c.in_ok-t.was c.check-2.ensures.checks_up_to c.in_ok-p.was
 
-pub returns-in_err-f : goal.returns-in_err-f
-returns-in_err-f c =
+pub returns-in_err-f-clause-value : goal.returns-in_err-f-clause-value
+returns-in_err-f-clause-value c =
     rw (passed_on c.from_residual-in_err-f.ensures)
     (read_funcs c.pass-types.ensures c.if-s-gt-SIGNATURE_BYTES.false c.new-all.result c.new-all.ensures
     c.check.ensures.checks_up_to c.in_ok-t.was c.check-2.ensures.checks_up_to c.in_ok-p.was c.check-3.ensures.checks_up_to c.in_err-f.was)
 
-pub returns-then-part-s : goal.returns-then-part-s
-returns-then-part-s c =
+pub returns-then-part-s-clause-value : goal.returns-then-part-s-clause-value
+returns-then-part-s-clause-value c =
     read_part_lem c.pass-types.ensures c.if-s-gt-SIGNATURE_BYTES.false c.new-all.result c.new-all.ensures
     c.check.ensures.checks_up_to c.in_ok-t.was c.check-2.ensures.checks_up_to c.in_ok-p.was c.check-3.ensures.checks_up_to c.in_ok-f.was
     c.if-part-s.true
 
-pub invariant_of-result : goal.invariant_of-result
-invariant_of-result c =
+pub returns-clause-usable : goal.returns-clause-usable
+returns-clause-usable c =
     read_indexed c.pass-types.ensures c.if-s-gt-SIGNATURE_BYTES.false c.new-all.result c.new-all.ensures
     c.check.ensures.checks_up_to c.in_ok-t.was c.check-2.ensures.checks_up_to c.in_ok-p.was c.check-3.ensures.checks_up_to c.in_ok-f.was
     c.check.ensures.stored c.check-2.ensures.stored c.check-3.ensures.stored c.if-part-s.false
 
-pub returns : goal.returns
-returns c =
+pub returns-clause-value : goal.returns-clause-value
+returns-clause-value c =
     read_sound c.pass-types.ensures c.if-s-gt-SIGNATURE_BYTES.false c.new-all.result c.new-all.ensures
     c.check.ensures.checks_up_to c.in_ok-t.was c.check-2.ensures.checks_up_to c.in_ok-p.was c.check-3.ensures.checks_up_to c.in_ok-f.was
     c.check.ensures.stored c.check-2.ensures.stored c.check-3.ensures.stored c.if-part-s.false

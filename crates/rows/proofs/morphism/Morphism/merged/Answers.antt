@@ -1,0 +1,5 @@
+use Rattle.rows.proofs.Between.{between}
+use Rattle.rows.proofs.morphism.Morphism.merged.Goals as goal
+
+pub returns-clause-between : goal.returns-clause-between
+returns-clause-between c = between c.args.self.now.between
