@@ -70,7 +70,7 @@ module _ {g : Accepted} {index : List ℕ} {variables rules : ℕ} (w : Indexed 
   pub rule_stands : RuleStands g first_part second_part conclusions
   unfolding stretch
   rule_stands =
-      let n = variables_length w in
+      let n = variables_length w.variable in
       let t = w.sound k h in
       let c = at.conclusions_before in let l = at.within in let q = conclusion_long in
       record {

@@ -9,7 +9,6 @@ use lib.Seq.{take_all}
 use Rattle.definition.specs.Letters.{letter_w, letter_u}
 use Rattle.definition.specs.Limits.{variable_limit, column_limit}
 use Rattle.definition.specs.Records.{Field, numbers, number_at, with_letter, blocks}
-use Rattle.definition.specs.Signature.{Signature}
 use Rattle.definition.specs.Group.{Variable, FlatRule, variable_of, flat_rule_of, group_of, group_part}
 use Rattle.definition.specs.Scope.{variable_numbered, same_variable, same_variables}
 use Rattle.laws.proofs.Lists.{length_each, get_d_each}
@@ -21,16 +20,16 @@ use Rattle.records.proofs.Index.{length_held, held_get}
 use Rattle.records.proofs.Numbers.{number_in, drop_stretch}
 use native.Mathlib.Nat.{add-zero}
 use Rattle.records.proofs.Parts.{store_more, take_more}
-use Rattle.group.specs.Index.{variables_from, VariableAt, no_block, Rules, Indexed}
-use Rattle.group.specs.Lookups.{Accepted, content, Named}
+use Rattle.group.specs.Index.{variables_from, VariableAt, no_block, Rules}
+use Rattle.group.specs.Lookups.{Listed, table, Named}
 
 -- The variables of the group, as many as the index counts: one is what the field at its entry says.
-module _ {sig : Signature} {s index : List ℕ} {count rules : ℕ} (w : Indexed sig s index count rules) where
+module _ {s index : List ℕ} {count : ℕ} (w : Listed s index count) where
   abbrev variables : List Variable
   variables = (group_of (group_part s).fields).variables
 
   fields_length : length (with_letter letter_w (group_part s).fields) ≡ count
-  fields_length = rw (← w.variable.held) (length_held s index variables_from count)
+  fields_length = rw (← w.held) (length_held s index variables_from count)
 
   pub variables_length : length variables ≡ count
   unfolding group_of
@@ -41,18 +40,18 @@ module _ {sig : Signature} {s index : List ℕ} {count rules : ℕ} (w : Indexed
     listed = rw variables_length at h
 
     pub variable_entry : variables_from + v < variable_limit
-    variable_entry = let few = w.variable.few in let l = listed in omega arith
+    variable_entry = let few = w.few in let l = listed in omega arith
 
     module _ {p : ℕ} (e : p ≡ get_or index (variables_from + v) 0) where
       pub variable_there : VariableAt s p
-      variable_there = rw e (w.variable.each v listed)
+      variable_there = rw e (w.each v listed)
 
       pub variable_is : variable_of (field_in s p) ≡ variable_numbered variables v
       unfolding group_of
       variable_is =
           let d : Field = record { letter = letter_w; content = [] } in
           rw e (sym (get_d_each variable_of (with_letter letter_w (group_part s).fields) v d (record { type = 0; name = [] }) (rw fields_length listed)
-          ∙ ap variable_of (rw (← w.variable.held) (held_get s index variables_from count v d listed))))
+          ∙ ap variable_of (rw (← w.held) (held_get s index variables_from count v d listed))))
 
 -- Its type and its name.
 module _ (s : List ℕ) (start len : ℕ) (h : start + len ≤ length s) (letter : ℕ) where
@@ -93,7 +92,7 @@ module _ (s : List ℕ) where
   unfolding number_at
   left_on i l = one_more (numbers s) i (rw length_numbers l)
 
-  pub number_named : {g : Accepted} → Named g (numbers s) → {i n : ℕ} → i < length s / 2 → n ≡ number_at i s → n < length (content g).variables
+  pub number_named : {bytes : List ℕ} → Named bytes (numbers s) → {i n : ℕ} → i < length s / 2 → n ≡ number_at i s → n < length (table bytes)
   unfolding number_at
   number_named w {i} l e = rw e (w.each i (rw length_numbers l))
 

@@ -7,6 +7,10 @@ use Rattle.records.specs.Buffer.{head_bytes}
 use Rattle.signature.specs.Relations.{kind_of, number_of}
 use Rattle.group.specs.declared.statement.Statement.{Statement}
 
+-- A statement by its kind's byte, its symbol and its variables.
+abbrev pub stated : ℕ → ℕ → List ℕ → definition.Statement
+stated kind symbol variables = record { kind = kind; symbol = symbol; variables = variables }
+
 -- What a statement says that is to be written.
 abbrev pub said : Statement → definition.Statement
 said x = record { kind = kind_of x.relation; symbol = number_of x.relation; variables = take x.count x.vars }

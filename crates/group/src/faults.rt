@@ -10,7 +10,7 @@ ghost use Rattle.signature.specs.Relations.{kind_of, number_of};
 ghost use Rattle.group.specs.Sections.{letter_of, kinds_of, field_with};
 ghost use Rattle.group.specs.Answers.{columns_differ};
 
-use crate::ids::{NAME_AT, NAME_BYTES, RULES, Side, VARIABLES, VARS_AT};
+use crate::ids::{LETTER_B, NAME_AT, NAME_BYTES, RULES, Side, VARIABLES, VARS_AT};
 use records::contents::{bad_name, named, number};
 use records::fields::num;
 use records::refusal::Refusal;
@@ -65,14 +65,17 @@ pub fn rule_fault(name: &[u8], before: usize) -> Result<(), Refusal>
     Ok(())
 }
 
-// May a statement of a kind stand on a side? The kind is a byte of the record, which may be none that there is.
+// May a statement of a kind stand in a field of a letter, B or any other, which is taken as H? The kind is a byte of the record,
+// which may be none that there is.
 #[tactic(auto, unfolding(definition::specs::Base::any, definition::specs::Base::has))]
-fn may_state(side: Side, kind: u8) -> bool
-    ensures { result ≡ has kind (kinds_of (letter_of side)) }
+fn may_state(letter: u8, kind: u8) -> bool
+    ensures { result ≡ has kind (kinds_of letter) }
 {
-    match side {
-        Side::Premise => matches!(kind, PREDICATE | FUNCTION | MEMBER | EQUALITY | TYPE_SET),
-        Side::Conclusion => matches!(kind, PREDICATE | FUNCTION | MEMBER | EQUALITY | FUNC_DOMAIN),
+    match kind {
+        PREDICATE | FUNCTION | MEMBER | EQUALITY => true,
+        TYPE_SET => letter == LETTER_B,
+        FUNC_DOMAIN => letter != LETTER_B,
+        _ => false,
     }
 }
 
@@ -85,23 +88,22 @@ fn bad_columns(sig: &Signature<'_>, rel: Relation, columns: usize) -> bool
     columns != sig.arity(rel) || (matches!(rel, Relation::Member(_)) && columns == 1)
 }
 
-// A B or H field: a byte for the kind, the symbol, the variables.
+// A field of statements by its letter, B or any other, which is taken as H: a byte for the kind, the symbol, the variables.
 #[tactic(auto, using(crate::proofs::Drawn::statement_tests))]
-pub fn statement_fault(
+pub fn statement_fault_by_letter(
     sig: &Signature<'_>,
-    side: Side,
+    letter: u8,
     content: &[u8],
     variables: usize,
 ) -> Result<(), Refusal>
     ensures { (before : ℕ) (last : Option Field) → fault_of result
-        ≡ statement_fault sig.now
-        (kinds_of (letter_of side)) variables before last (field_with (letter_of side) content.now) }
+        ≡ statement_fault sig.now (kinds_of letter) variables before last (field_with letter content.now) }
 {
     if (content.len() & 1) != 1 || content.len() < VARS_AT {
         return Err(Refusal::BadLength);
     }
     let kind = content[0];
-    if !may_state(side, kind) {
+    if !may_state(letter, kind) {
         return Err(Refusal::Undeclared);
     }
     let rel = relation(kind, num(content, 1));
@@ -113,4 +115,18 @@ pub fn statement_fault(
         return Err(Refusal::BadArity);
     }
     Ok(())
+}
+
+// A B or H field.
+pub fn statement_fault(
+    sig: &Signature<'_>,
+    side: Side,
+    content: &[u8],
+    variables: usize,
+) -> Result<(), Refusal>
+    ensures { (before : ℕ) (last : Option Field) → fault_of result
+        ≡ statement_fault sig.now
+        (kinds_of (letter_of side)) variables before last (field_with (letter_of side) content.now) }
+{
+    statement_fault_by_letter(sig, side.letter(), content, variables)
 }

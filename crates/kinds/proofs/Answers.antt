@@ -19,19 +19,23 @@ use Rattle.records.specs.declared.refusal.Refusal.{Refusal}
 use Rattle.records.specs.declared.refusal.Refusal.TheVariants.{KernelTypesDiffer, NewElement}
 use Rattle.flags.specs.declared.Mask.{Mask}
 use Rattle.rule.specs.Rows.{member_rows}
-use Rattle.rule.specs.Views.{Sound, no_element}
+use Rattle.rule.specs.Views.{WellFormed, no_element}
 use Rattle.rows.proofs.Places.{numbers_many}
-use Rattle.rows.proofs.Whole.{kinds_sound, unmapped_parts, added_parts, free_parts}
+use Rattle.rows.proofs.Whole.{KindsOf, unmapped_parts, added_parts, free_parts}
 use Rattle.statements.specs.Said.{flagged, said_by}
 use Rattle.statements.specs.declared.masks.Masks.{Masks}
 use Rattle.kinds.specs.Added.{source_lacks, AddsRows}
 use Rattle.kinds.specs.Elements.{FreeOf, News}
-use Rattle.kinds.specs.Steps.{StepBy, from_in, to_in, by, MasksFor, IfDoes, SurjDoes}
+use Rattle.kinds.specs.Steps.{StepBy, by, MasksFor, IfDoes, SurjDoes}
 use Rattle.kinds.specs.declared.elements.New.{New}
 use Rattle.kinds.specs.declared.elements.New.TheVariants as new
 use Rattle.kinds.proofs.Masks.{flagged_keep, none_flagged}
 use Rattle.kinds.proofs.Flagging.{members_all, members_free}
 use Rattle.std.specs.Prelude.{Result, Ok, Err}
+
+-- The rows of a structure by itself are of their kinds.
+kinds_formed : {st : Structure} → WellFormed st → KindsOf st
+kinds_formed w = record { preds = λ r m. (w.preds_formed r m).0; funcs = λ r m. (w.funcs_formed r m).0 }
 
 -- Elements without two properties, by their flags.
 free_flagged : (st : Structure) (mask : Mask) (p q : ℕ → Bool) → FreeOf mask p q (numbers_of st)
@@ -89,7 +93,7 @@ module _ (x : StepBy) (table : List Variable) where
     surj_news f (inl (i, e)) = let v = rw e at f in surj_new (rw v.is.1)
     surj_news f (inr e) = let v = rw e at f in surj_new (rw v.is.same)
 
-    module _ (from_sound : Sound (from_in x)) (to_sound : Sound (to_in x)) where
+    module _ (from_formed : WellFormed x.source.structure) (to_formed : WellFormed x.target.structure) where
       abbrev olds : List Row
       olds = member_rows x.source.structure.elements
 
@@ -98,8 +102,8 @@ module _ (x : StepBy) (table : List Variable) where
       unfolding step_fault lowest new_elements surj_conclusion said_by type_sets keep each
       surj_adds v bare =
           let y = a.is.1 in
-          let parts = added_parts x.sig table x.source x.target x.pairs (kinds_sound from_sound.sound) (kinds_sound to_sound.sound) in
-          let mem = members_all to_sound masks.members x.pairs olds marks y.members bare in
+          let parts = added_parts x.sig table x.source x.target x.pairs (kinds_formed from_formed) (kinds_formed to_formed) in
+          let mem = members_all to_formed masks.members x.pairs olds marks y.members bare in
           record {
             is = (
               rw (asked.0, asked.1, v.is),
@@ -117,8 +121,8 @@ module _ (x : StepBy) (table : List Variable) where
         unfolding if_statements said_by free_elements
         if_said =
             let y = a.is.1 in
-            let parts = free_parts x.sig table x.source x.target x.pairs (kinds_sound from_sound.sound) (kinds_sound to_sound.sound) in
-            let mem = members_free to_sound masks.members x.pairs olds marks y.members x.sig c in
+            let parts = free_parts x.sig table x.source x.target x.pairs (kinds_formed from_formed) (kinds_formed to_formed) in
+            let mem = members_free to_formed masks.members x.pairs olds marks y.members x.sig c in
             let els = free_flagged x.target.structure free (in_image x.pairs) (constrained x.sig x.target.structure) f in
             rw (parts, y.preds, y.funcs, mem, els, append_assoc)
 

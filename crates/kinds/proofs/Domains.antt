@@ -9,7 +9,7 @@ use Rattle.definition.specs.Base.{keep, each, all, but_last, place_from, ◌∈�
 use Rattle.definition.specs.Group.{Variable}
 use Rattle.definition.specs.Kinds.{new_elements, yielding_row, domain_statement}
 use Rattle.definition.specs.Names.{numbers_of}
-use Rattle.definition.specs.Rule.{Row}
+use Rattle.definition.specs.Rule.{Structure, Row}
 use Rattle.definition.specs.Rows.{members, last_element, type_sets, in_image}
 use Rattle.laws.proofs.Lists.{mem_at}
 use Rattle.laws.proofs.RowLaws.{but_last_mem}
@@ -19,12 +19,13 @@ use Rattle.flags.specs.Flags.{places, no_flags, only_flag}
 use Rattle.flags.proofs.Words.{no_flag, no_flags_none, one_some}
 use Rattle.rule.specs.Els.{els_in}
 use Rattle.rule.specs.Row.{row_from}
-use Rattle.rule.specs.Views.{Sound}
+use Rattle.rule.specs.Structures.{structure_in, Stands}
+use Rattle.rule.specs.Views.{WellFormed, listed_numbers}
 use Rattle.rows.specs.Table.{no_row}
 use Rattle.rows.proofs.Places.{numbers_many}
 use Rattle.statements.specs.Said.{flagged, member_flag, said_by, domains_by}
 use Rattle.kinds.specs.Elements.{Two, News}
-use Rattle.kinds.specs.Steps.{StepBy, to_in, NonSurjDoes}
+use Rattle.kinds.specs.Steps.{StepBy, NonSurjDoes}
 use Rattle.kinds.specs.Yielding.{Yields}
 use Rattle.kinds.specs.declared.elements.New.{New}
 use Rattle.kinds.specs.declared.elements.New.TheVariants as new
@@ -37,6 +38,18 @@ no_members : {A : Type 0} (p : A → Bool) (xs : List A) → ((a : A) → p a �
 unfolding keep
 no_members p [] h = refl
 no_members p (x ∷ xs) h = rw (h x, no_members p xs h)
+
+-- A new element that was found has a place.
+pub new_below : (st : Structure) {p : ℕ → Bool} {i : ℕ} → News (new.One i) p (numbers_of st) → i < length st.elements
+new_below st w = let n = numbers_many st in let l = w.is.0 in omega arith
+
+-- The elements of A rows are elements of their structure.
+pub record FuncsNamed (st : Structure) : Type 0 where
+  pub named : (r : Row) → r ∈ st.func_rows → (e : ℕ) → e ∈ r.elements → e ∈ numbers_of st
+
+-- They are, by where it stands.
+pub funcs_named : {st : Structure} {s index : List ℕ} {k : ℕ} → Stands s index k → structure_in s k ≡ st → FuncsNamed st
+funcs_named w e = rw (← e) (record { named = λ r m. (w.at.sound.funcs_sound r m).2.elements_in })
 
 module _ (x : StepBy) where
   abbrev fresh : List ℕ
@@ -66,25 +79,23 @@ module _ (x : StepBy) where
   unfolding new_elements
   two_new w = w.is
 
-  pub new_below : {i : ℕ} → NewsOf (new.One i) → i < length x.target.structure.elements
-  new_below w = let n = numbers_many x.target.structure in let l = w.is.0 in omega arith
-
   -- The row that was found is one of the target's: its place is one of a mask, and its arguments are elements, so they are asked for images.
-  module _ (w : Sound (to_in x)) {y : Yielding} {e : ℕ} (q : Yields (Some y) e rows) where
-    pub found_few : y.place < places
-    found_few = let few = w.funcs_few in let l = q.is.0 in omega arith
+  module _ {y : Yielding} {e : ℕ} (q : Yields (Some y) e rows) where
+    pub found_few : WellFormed x.target.structure → y.place < places
+    found_few w = let few = w.funcs_few in let l = q.is.0 in omega arith
 
-    arguments_named : (d : ℕ) → d ∈ but_last (els_in y.row.els) → d ∈ numbers_of x.target.structure
-    arguments_named d m =
+    arguments_named : FuncsNamed x.target.structure → (d : ℕ) → d ∈ but_last (els_in y.row.els) → d ∈ numbers_of x.target.structure
+    arguments_named w d m =
         let r : row_from y.row ∈ rows = rw q.is.1 at (mem_at rows y.place no_row q.is.0) in
-        (w.sound.funcs_sound _ r).2.elements_in d (but_last_mem (els_in y.row.els) m)
+        w.named _ r d (but_last_mem (els_in y.row.els) m)
 
-    pub all_images : {arguments : List ℕ} (images : List Bool) {r : Bool} → arguments ≡ but_last (els_in y.row.els)
+    pub all_images : {arguments : List ℕ} (images : List Bool) {r : Bool} → FuncsNamed x.target.structure → arguments ≡ but_last (els_in y.row.els)
         → take (length x.target.structure.elements) images ≡ each (in_image x.pairs) (numbers_of x.target.structure)
-        → ((p : ℕ → Bool) → take (length x.target.structure.elements) images ≡ each p (numbers_of x.target.structure)
-        → ((d : ℕ) → d ∈ arguments → d ∈ numbers_of x.target.structure) → r ≡ all p arguments)
+        → ((p : ℕ → Bool) → take (length x.target.structure.elements) images ≡ each p (listed_numbers x.target.structure.elements)
+        → ((d : ℕ) → d ∈ arguments → d ∈ listed_numbers x.target.structure.elements) → r ≡ all p arguments)
         → r ≡ all (in_image x.pairs) (but_last (els_in y.row.els))
-    all_images images a i h = (rw a at h) (in_image x.pairs) i arguments_named
+    unfolding numbers_of
+    all_images images w a i h = (rw a at h) (in_image x.pairs) i (arguments_named w)
 
   -- What that leads to.
   module _ (table : List Variable) where

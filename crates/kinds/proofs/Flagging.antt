@@ -18,7 +18,7 @@ use Rattle.records.proofs.Parts.{mem_place}
 use Rattle.flags.specs.declared.Mask.{Mask}
 use Rattle.flags.specs.Flags.{flag_at}
 use Rattle.rule.specs.Rows.{has_parents}
-use Rattle.rule.specs.Views.{StructureBy, Sound, no_element}
+use Rattle.rule.specs.Views.{WellFormed, no_element}
 use Rattle.rows.specs.Members.{new_member}
 use Rattle.rows.specs.Table.{is_new}
 use Rattle.rows.proofs.Kept.{constrained_at}
@@ -27,10 +27,7 @@ use Rattle.rows.proofs.Whole.{keep_same, keep_keep}
 use Rattle.statements.specs.Said.{member_flag}
 use Rattle.kinds.specs.Added.{Unmarked}
 
-module _ {x : StructureBy} (w : Sound x) where
-  abbrev st : Structure
-  st = x.structure
-
+module _ {st : Structure} (w : WellFormed st) where
   abbrev element_in : ℕ → Element
   element_in i = get_or st.elements i no_element
 

@@ -7,7 +7,7 @@ use mathlib.Core.Option.{none}
 use mathlib.Core.Path.{◌≡◌, refl, sym, ◌∙◌, ap}
 use borrow.Author.Tests.{lt-ltb, le-ltb}
 use lib.ListN.{length, get_or, take, drop, take-append-drop}
-use lib.Seq.{get_or-take, length-take-le}
+use lib.Seq.{get_or-take, length-take-le, take_all}
 use Rattle.definition.specs.Base.{cons_if, keep, each, given}
 use Rattle.laws.proofs.Lists.{length_each, get_d_each}
 use Rattle.records.proofs.Lists.{keep_append}
@@ -38,6 +38,12 @@ module _ (p : ℕ → Bool) (els row : List ℕ) (first : ℕ) {count : ℕ} (n 
 
   pub old_at : (i : ℕ) → i < count → get_or row i 0 < first → p (get_or els i 0) ≡ true
   old_at i h l = sym (kept_at i h) ∙ rw (lt-ltb _ _ l)
+
+-- The front of a row as a row of its own.
+pub kept_front : (first count : ℕ) (row : List ℕ) → count ≤ length row
+    → kept_in first (length (take count row)) (take count row) ≡ kept_in first count row
+unfolding kept_in
+kept_front first count row h = ap (each (kept_by first)) (take_all (length (take count row)) (take count row) (omega arith))
 
 -- What is neither an image nor marked, among the first ones.
 pub record Freed (mask : Mask) (first : ℕ) (row : List ℕ) (marks : List Bool) (count : ℕ) : Type 0 where

@@ -12,7 +12,7 @@ use Rattle.laws.proofs.Lists.{get_d_each, mem_at}
 use Rattle.naming.specs.Variables.{GivenOut}
 use Rattle.rule.specs.Pairs.{no_pair}
 use Rattle.rows.specs.Kernel.{SideAt, KeyVars, Typed}
-use Rattle.rows.specs.Morphisms.{MorphismBy, Between}
+use Rattle.rows.specs.Links.{LinkBy, Linked}
 use Rattle.rows.proofs.Places.{numbers_many}
 use Rattle.statements.specs.Structures.{side_of}
 
@@ -24,14 +24,14 @@ side_at st row = record {
 }
 
 -- Where those of the source are given out, each key's has a type.
-pub keys_typed : {m : MorphismBy} {sourcevars vars : List ℕ} {size : ℕ} → Between m → GivenOut m.source sourcevars size
-    → KeyVars (side_of m.source sourcevars) m.pairs vars → Typed m.pairs vars size
-keys_typed {m} {sourcevars} {vars} {size} w g v = record { below = below }
+pub keys_typed : {l : LinkBy} {sourcevars vars : List ℕ} {size : ℕ} → Linked l → GivenOut l.source sourcevars size
+    → KeyVars (side_of l.source sourcevars) l.pairs vars → Typed l.pairs vars size
+keys_typed {l} {sourcevars} {vars} {size} w g v = record { below = below }
   where
-    below : (p : ℕ) → p < length m.pairs → get_or vars p 0 < size
+    below : (p : ℕ) → p < length l.pairs → get_or vars p 0 < size
     below p h =
-        let pair = get_or m.pairs p no_pair in
-        let e : get_or vars p 0 ≡ variable_in (side_of m.source sourcevars) pair.key =
-        sym (get_or-take (length m.pairs) vars p 0 h)
-        ∙ rw v.same (get_d_each (λ (q : Pair). variable_in (side_of m.source sourcevars) q.key) m.pairs p no_pair 0 h) in
-        rw e (g.below pair.key (w.keys.named pair (mem_at m.pairs p no_pair h)))
+        let pair = get_or l.pairs p no_pair in
+        let e : get_or vars p 0 ≡ variable_in (side_of l.source sourcevars) pair.key =
+        sym (get_or-take (length l.pairs) vars p 0 h)
+        ∙ rw v.same (get_d_each (λ (q : Pair). variable_in (side_of l.source sourcevars) q.key) l.pairs p no_pair 0 h) in
+        rw e (g.below pair.key (w.keys.named pair (mem_at l.pairs p no_pair h)))

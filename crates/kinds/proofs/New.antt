@@ -1,21 +1,24 @@
 -- The new rows of a section, the new members, and the three sorts together.
-use Prim.Native.Nat.{ℕ}
+use Prim.Native.Nat.{ℕ, ◌≤◌}
+use native.Mathlib.Omega.{arith}
 use mathlib.Core.Bool.{Bool, false, not, ◌&&◌}
 use mathlib.Core.List.{List, []}
 use mathlib.Core.Path.{◌≡◌, refl, ◌∙◌, ap}
 use lib.ListN.{length, get_or, take}
 use Rattle.definition.specs.Base.{keep, each, any}
+use Rattle.definition.specs.Limits.{field_limit}
 use Rattle.definition.specs.Rule.{Structure, Row, Pair}
-use Rattle.definition.specs.Signature.{Signature}
+use Rattle.laws.proofs.Lists.{length_each}
+use Rattle.records.proofs.Parts.{keep_few}
 use Rattle.records.specs.declared.refusal.Refusal.{Refusal}
 use Rattle.flags.specs.declared.Mask.{Mask}
 use Rattle.flags.specs.Flags.{no_flags, Packed, PackedLess}
 use Rattle.flags.proofs.Words.{no_flag}
 use Rattle.rule.specs.Rows.{has_parents, member_rows, Alike}
-use Rattle.rule.specs.Views.{Sound, no_element}
-use Rattle.rule.proofs.Soundness.{preds_alike, funcs_alike}
+use Rattle.rule.specs.Views.{WellFormed, no_element}
+use Rattle.rows.specs.Links.{BothAlike}
 use Rattle.rows.specs.Members.{new_member}
-use Rattle.rows.specs.Table.{is_new, Imaged, Holds}
+use Rattle.rows.specs.Table.{Short, is_new, Imaged, Holds}
 use Rattle.rows.specs.declared.table.Images.{Images}
 use Rattle.rows.proofs.Kept.{flag_at_lem}
 use Rattle.rows.proofs.TableLaws.{holds_of}
@@ -91,15 +94,26 @@ module _ (source target : Structure) (pairs : List Pair) (marks : List Bool) whe
   unfolding source_lacks
   adds_all p f e = record { is = (rw (p.is.0, f.is.0, e.is.0), record { preds = p.is.1; funcs = f.is.1; members = e.is.1; free = refl }) }
 
--- The R rows and the A rows of two structures under one signature.
-module _ {sig : Signature} {source target : Structure} (v : Sound (record { sig = sig; structure = source }))
-    (w : Sound (record { sig = sig; structure = target })) {r : Result Mask Refusal} {pairs : List Pair} where
+-- The rows of a structure by itself are few and short.
+module _ {st : Structure} (w : WellFormed st) where
+  pub preds_short : Short st.pred_rows
+  preds_short = record { few = w.preds_few; short = λ r m. (w.preds_formed r m).1 }
+
+  pub funcs_short : Short st.func_rows
+  funcs_short = record { few = w.funcs_few; short = λ r m. (w.funcs_formed r m).1 }
+
+  pub members_few : length (member_rows st.elements) ≤ field_limit
+  unfolding member_rows
+  members_few = let k = keep_few has_parents st.elements in let few = w.elements_few in rw length_each (omega arith)
+
+-- The R rows and the A rows of two structures that are alike.
+module _ {source target : Structure} (w : BothAlike source target) {r : Result Mask Refusal} {pairs : List Pair} where
   pub preds_new : ((kind : ℕ) (columns : ℕ → ℕ) → Alike kind columns source.pred_rows → Alike kind columns target.pred_rows
       → NewRows r pairs source.pred_rows target.pred_rows)
       → NewRows r pairs source.pred_rows target.pred_rows
-  preds_new h = h _ _ (preds_alike v) (preds_alike w)
+  preds_new h = h _ _ w.source_preds w.target_preds
 
   pub funcs_new : ((kind : ℕ) (columns : ℕ → ℕ) → Alike kind columns source.func_rows → Alike kind columns target.func_rows
       → NewRows r pairs source.func_rows target.func_rows)
       → NewRows r pairs source.func_rows target.func_rows
-  funcs_new h = h _ _ (funcs_alike v) (funcs_alike w)
+  funcs_new h = h _ _ w.source_funcs w.target_funcs

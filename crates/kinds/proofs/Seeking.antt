@@ -12,7 +12,7 @@ use Rattle.definition.specs.Base.{or_default, each, first_of, but_last, ◌∈�
 use Rattle.definition.specs.Kinds.{yields}
 use Rattle.definition.specs.Rows.{last_element}
 use Rattle.definition.specs.Rule as definition
-use Rattle.definition.specs.Rule.{row_of}
+use Rattle.definition.specs.Rule.{Element, row_of}
 use Rattle.laws.proofs.Lists.{has_mem, mem_has, never, mem_at, get_d_each, length_each}
 use Rattle.laws.proofs.Numbering.{place_in}
 use Rattle.records.proofs.Along.{all_from, all_no, all_on}
@@ -22,6 +22,7 @@ use Rattle.records.proofs.Lists.{last_some as last_is, last_none as none_last}
 use Rattle.records.proofs.Parts.{apart, but_last_take}
 use Rattle.rule.specs.Elements.{Finds}
 use Rattle.rule.specs.Row.{row_from, row_kind, rows_left}
+use Rattle.rule.specs.Views.{listed_numbers}
 use Rattle.rule.specs.declared.row.Row.{Row}
 use Rattle.rule.specs.declared.row.Rows.{Rows}
 use Rattle.rows.specs.Table.{no_row}
@@ -70,6 +71,13 @@ module _ {e place : ℕ} {rows left : List definition.Row} (w : Sought e rows le
     unfolding first_of
     seek_found d = let e = w.passed ∙ step in
         record { is = ((apart rows place e).inside, stands rows place no_row e, w.same ∙ rw (step, ← is, d)) }
+
+-- A structure's elements and their numbers are equally many, and one that was found is among them.
+pub listed_many : (els : List Element) → length (listed_numbers els) ≡ length els
+listed_many els = length_each (λ (e : Element). e.number) els
+
+pub found_listed : (els : List Element) {i e : ℕ} → Finds (Some i) e (listed_numbers els) → i < length els
+found_listed els f = let n = listed_many els in let l = f.is.1 in omega arith
 
 -- The flag of an element that was found, and the flags of those behind it.
 module _ (p : ℕ → Bool) (xs : List ℕ) (flags : List Bool) {els : List ℕ} {n : ℕ} (many : n ≡ length els) {j e : ℕ} (h : j < length xs)

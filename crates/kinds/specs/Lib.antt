@@ -3,3 +3,4 @@ pub mod Yielding
 pub mod Elements
 pub mod Added
 pub mod Steps
+pub mod Edges

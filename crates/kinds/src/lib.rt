@@ -2,6 +2,7 @@
 #![tactic(auto)]
 
 pub mod added;
+pub mod edge;
 pub mod elements;
 pub mod morphisms;
 pub mod step;

@@ -3,10 +3,9 @@ ghost use Rattle.std.specs.Prelude.{Bool, ◌≡◌, ℕ, length, take};
 ghost use Rattle.definition.specs.Base.{each};
 ghost use Rattle.definition.specs.Names.{numbers_of};
 
-use crate::elements::{New, free_els, new_elements};
-use flags::{Mask, PLACES, none_set};
-use naming::variables::image_els;
-use rows::kernel::{kernel_clash, key_vars};
+use crate::edge::Edge;
+use crate::elements::New;
+use flags::{Mask, PLACES};
 use rows::morphism::Morphism;
 use rule::ids::FIELDS;
 use rule::views::Structure;
@@ -45,6 +44,7 @@ impl<'a> Step<'a> {
     ghost use Rattle.rows.specs.Morphism.{morphism_from};
     ghost use Rattle.kinds.specs.Elements.{FreeOf, News};
     ghost use Rattle.rule.specs.Views.{Sound};
+    ghost use Rattle.kinds.specs.Edges.{edge_in};
     ghost use Rattle.kinds.specs.Steps.{Along, from_in, to_in, step_by, Reaches};
 
     // A step, by its parts.
@@ -83,20 +83,29 @@ impl<'a> Step<'a> {
         m.target()
     }
 
-    // Do two variables of a kernel pair differ in type? Most maps have no kernel pairs: no image of several keys is flagged, and no
-    // variable is looked up.
+    // The step without the signature.
+    pub fn edge(&self) -> Edge<'a>
+        ensures value { result ≡ edge_in self.now }
+        ensures source_sound { Sound (from_in self.now) }
+        ensures target_sound { Sound (to_in self.now) }
+    {
+        let m = self.morphism;
+        Edge::new(
+            m.link(),
+            self.sourcevars,
+            self.targetvars,
+            self.first,
+            self.types,
+        )
+    }
+
+    // Do two variables of a kernel pair differ in type?
     pub fn clashes(&self) -> bool
         ensures value { (table : List Variable) → TypesOf table self.now.types
             → result ≡ kernel_clashes table self.now.source self.now.target self.now.pairs }
         ensures sound { Sound (from_in self.now) }
     {
-        let m = self.morphism;
-        let source = m.source();
-        if none_set(m.merged()) {
-            return false;
-        }
-        let vars = key_vars(&source, self.sourcevars, m.map());
-        kernel_clash(m.map(), &vars, self.types)
+        self.edge().clashes()
     }
 
     // Which elements of the target are new.
@@ -104,8 +113,7 @@ impl<'a> Step<'a> {
         ensures value { News result (in_image self.now.pairs) (numbers_of self.now.target.structure) }
         ensures sound { Sound (to_in self.now) }
     {
-        let m = self.morphism;
-        new_elements(&m.target(), self.targetvars, self.first)
+        self.edge().new_elements()
     }
 
     // Those that are new and have no mark.
@@ -114,8 +122,7 @@ impl<'a> Step<'a> {
             → take (length self.now.target.structure.elements) marks.now ≡ each marked (numbers_of self.now.target.structure)
             → FreeOf result (in_image self.now.pairs) marked (numbers_of self.now.target.structure) }
     {
-        let m = self.morphism;
-        free_els(&m.target(), self.targetvars, self.first, marks)
+        self.edge().free_els(marks)
     }
 
     // Those that are images.
@@ -123,7 +130,6 @@ impl<'a> Step<'a> {
         ensures { take (length self.now.target.structure.elements) result
             ≡ each (in_image self.now.pairs) (numbers_of self.now.target.structure) }
     {
-        let m = self.morphism;
-        image_els(&m.target(), self.targetvars, self.first)
+        self.edge().image_els()
     }
 }

@@ -5,8 +5,10 @@ ghost use Rattle.definition.specs.Names.{numbers_of};
 ghost use Rattle.definition.specs.Rows.{last_element};
 ghost use Rattle.rule.specs.Els.{els_in};
 ghost use Rattle.rule.specs.Row.{row_from, rows_left};
+ghost use Rattle.rule.specs.Views.{listed_numbers};
 ghost use Rattle.kinds.specs.Yielding.{Yields};
 
+use rule::element_list::ElementList;
 use rule::els::Els;
 use rule::ids::{ElId, FIELDS};
 use rule::row::{Row, Rows};
@@ -51,14 +53,14 @@ pub fn arguments<'a>(row: Row<'a>) -> Els<'a>
     row.els.first(row.els.count().saturating_sub(1))
 }
 
-// Does each element of a list have its flag?
-pub fn all_flagged(st: &Structure<'_>, l: Els<'_>, flags: &[bool; FIELDS]) -> bool
-    ensures { (p : ℕ → Bool) → take (length st.now.structure.elements) flags.now ≡ each p (numbers_of st.now.structure)
-        → ((e : ℕ) → e ∈ els_in l.entry → e ∈ numbers_of st.now.structure) → result ≡ all p (els_in l.entry) }
+// Does each element of a list have its flag? A flag stands at the place that its element has among those of a structure.
+pub fn all_flagged_among(elements: &ElementList<'_>, l: Els<'_>, flags: &[bool; FIELDS]) -> bool
+    ensures { (p : ℕ → Bool) → take (length elements.now) flags.now ≡ each p (listed_numbers elements.now)
+        → ((e : ℕ) → e ∈ els_in l.entry → e ∈ listed_numbers elements.now) → result ≡ all p (els_in l.entry) }
 {
-    let given = &flags[..st.element_count()];
+    let given = &flags[..elements.count()];
     for j in 0..l.count() {
-        let Some(i) = st.find_element(l.at(j)) else {
+        let Some(i) = elements.find_element(l.at(j)) else {
             return false;
         };
         if !given[i] {
@@ -66,4 +68,12 @@ pub fn all_flagged(st: &Structure<'_>, l: Els<'_>, flags: &[bool; FIELDS]) -> bo
         }
     }
     true
+}
+
+// The same among the elements of a structure of an accepted rule.
+pub fn all_flagged(st: &Structure<'_>, l: Els<'_>, flags: &[bool; FIELDS]) -> bool
+    ensures { (p : ℕ → Bool) → take (length st.now.structure.elements) flags.now ≡ each p (numbers_of st.now.structure)
+        → ((e : ℕ) → e ∈ els_in l.entry → e ∈ numbers_of st.now.structure) → result ≡ all p (els_in l.entry) }
+{
+    all_flagged_among(&st.elements(), l, flags)
 }

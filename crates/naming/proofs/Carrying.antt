@@ -14,8 +14,8 @@ use borrow.Author.Tests.{eq-eqb, ne_eqb}
 use Rattle.std.specs.Prelude as std
 use Rattle.std.specs.Prelude.{Some, None}
 use Rattle.definition.specs.Base.{or_else, keep, each, last_of, given}
-use Rattle.definition.specs.Limits.{field_limit}
-use Rattle.definition.specs.Rule.{Structure, Pair}
+use Rattle.definition.specs.Limits.{field_limit, structure_limit}
+use Rattle.definition.specs.Rule.{Structure, Element, Pair}
 use Rattle.definition.specs.Names.{numbers_of, variable_at, fiber, carried_key, over_map, carried}
 use Rattle.definition.specs.Rows.{in_image}
 use Rattle.definition.specs.Walk.{nothing_taken}
@@ -23,14 +23,16 @@ use Rattle.records.proofs.Lists.{keep_append}
 use Rattle.laws.proofs.Lists.{each_append, length_each, get_d_each, trichotomy, never, mem_has, has_mem, mem_each, any_mem, mem_at}
 use Rattle.laws.proofs.Numbering.{place_in, carried_pair, not_carried}
 use Rattle.laws.proofs.Choices.{last_append, each_each, each_same}
-use Rattle.rule.specs.Elements.{Finds}
-use Rattle.rule.specs.MapFields.{KeysIn}
+use Rattle.rule.proofs.ElementLaws.{listed}
+use Rattle.rule.specs.ElementFields.{elements_in}
+use Rattle.rule.specs.Elements.{Elements, Finds}
+use Rattle.rule.specs.MapFields.{KeysIn, ImagesIn}
 use Rattle.rule.specs.Pairs.{no_pair}
-use Rattle.rule.specs.Views.{StructureBy, Sound}
+use Rattle.rule.specs.Views.{listed_numbers, Listed}
 use Rattle.rows.proofs.Places.{numbers_many, found_below}
-use Rattle.rows.specs.Morphisms.{MorphismBy, Between}
-use Rattle.naming.specs.Maps.{taken_over}
-use Rattle.naming.specs.Variables.{taken_by, taken_in, variables_in, GivenOut}
+use Rattle.rows.specs.Morphisms.{MorphismBy}
+use Rattle.naming.specs.Maps.{taken_between, taken_over, Joins}
+use Rattle.naming.specs.Variables.{bare, taken_by, taken_in, variables_in, GivenOut}
 use Rattle.naming.proofs.Whole.{TakenBelow}
 
 -- One more pair: its key is the carried one of its image, and nothing else changes.
@@ -90,9 +92,9 @@ blank [] k h = refl
 blank (x ∷ xs) zero h = absurd (omega arith)
 blank (x ∷ xs) (suc k) h = rw (blank xs k (omega arith))
 
-pub none_taken : {x : StructureBy} → Sound x → taken_in x.structure (replicate field_limit None) ≡ nothing_taken x.structure
+pub none_taken : {els : List Element} → Listed els → taken_in (bare els) (replicate field_limit None) ≡ nothing_taken (bare els)
 unfolding taken_in
-none_taken {x} w = blank x.structure.elements field_limit w.sound.elements_few
+none_taken {els} w = blank els field_limit w.few
 
 -- An entry is put.
 each_put : {A B : Type 0} (f : A → B) (xs : List A) (j : ℕ) (y : A) → each f (set xs j y) ≡ set (each f xs) j (f y)
@@ -101,49 +103,75 @@ each_put f [] j y = refl
 each_put f (x ∷ xs) zero y = refl
 each_put f (x ∷ xs) (suc j) y = rw (each_put f xs j y)
 
+-- A list of elements is few, and ascends.
+pub listed_seen : {els : List Element} {s index : List ℕ} {k : ℕ} → (k < structure_limit) × Elements s index k → elements_in s index k ≡ els → Listed els
+listed_seen w e = rw (← e) (listed w.1)
+
+pub listed_place : {els : List Element} → Listed els → {i e : ℕ} → Finds (Some i) e (listed_numbers els) → i < field_limit
+listed_place {els} w f = let n = length_each (λ (e : Element). e.number) els in let few = w.few in let l = f.is.1 in omega arith
+
 -- What is taken over is being found along the pairs of a map.
-pub record Carrying (row : List ℕ) (m : MorphismBy) (taken : List (std.Option ℕ)) (p : ℕ) : Type 0 where
-  pub same : taken_in m.target taken ≡ carried m.source (variables_in m.source row) (take p m.pairs) m.target
+pub record Carrying (row : List ℕ) (source target : List Element) (pairs : List Pair) (taken : List (std.Option ℕ)) (p : ℕ) : Type 0 where
+  pub same : taken_in (bare target) taken ≡ taken_between row source target (take p pairs)
 
 -- Keys and images are found.
-pub not_absent : (m : MorphismBy) {A : Type 0} {p : ℕ} → Between m → p < length m.pairs
-    → (Finds None (get_or m.pairs p no_pair).key (numbers_of m.source) → A) × (Finds None (get_or m.pairs p no_pair).image (numbers_of m.target) → A)
-not_absent m {A} {p} b h =
-    let i = mem_at m.pairs p no_pair h in
-    ((λ f. never (mem_has _ _ (b.keys.named _ i)) f.is), (λ f. never (mem_has _ _ (b.images.named _ i)) f.is))
+pub not_absent : {source target : List Element} {pairs : List Pair} {A : Type 0} {p : ℕ} → Joins source target pairs → p < length pairs
+    → (Finds None (get_or pairs p no_pair).key (listed_numbers source) → A) × (Finds None (get_or pairs p no_pair).image (listed_numbers target) → A)
+not_absent {pairs = pairs} {A} {p} b h =
+    let i = mem_at pairs p no_pair h in
+    ((λ f. never (mem_has _ _ (b.keys _ i)) f.is), (λ f. never (mem_has _ _ (b.images _ i)) f.is))
 
-module _ (row : List ℕ) (m : MorphismBy) where
-  pub carrying : Sound (record { sig = m.sig; structure = m.target }) → Carrying row m (replicate field_limit None) 0
+module _ (row : List ℕ) (source target : List Element) (pairs : List Pair) where
+  pub carrying : Listed target → Carrying row source target pairs (replicate field_limit None) 0
   unfolding taken_in carried carried_key fiber keep last_of each
   carrying w = record {
     same =
-        let n = numbers_many m.target in let few = w.sound.elements_few in rw (← n) (blank (numbers_of m.target) field_limit (omega arith));
+        let n = numbers_many (bare target) in let few = w.few in rw (← n) (blank (numbers_of (bare target)) field_limit (omega arith));
   }
 
   -- The variable at the place where a number was found.
-  entry : {e i : ℕ} → Finds (Some i) e (numbers_of m.source) → variable_at m.source (variables_in m.source row) e ≡ get_or row i 0
+  entry : {e i : ℕ} → Finds (Some i) e (numbers_of (bare source)) → variable_at (bare source) (variables_in (bare source) row) e ≡ get_or row i 0
   unfolding variable_at
-  entry {e} {i} f = rw (← f.is.0) (get_or-take (length m.source.elements) row i 0 (found_below m.source f))
+  entry {e} {i} f = rw (← f.is.0) (get_or-take (length source) row i 0 (found_below (bare source) f))
 
-  pub carry : {taken : List (std.Option ℕ)} {p i j : ℕ} → Sound (record { sig = m.sig; structure = m.target }) → Carrying row m taken p → p < length m.pairs
-      → Finds (Some i) (get_or m.pairs p no_pair).key (numbers_of m.source) → Finds (Some j) (get_or m.pairs p no_pair).image (numbers_of m.target)
-      → Carrying row m (set taken j (Some (get_or row i 0))) (p + 1)
+  -- A pair's key and image were found.
+  carry_on : {taken : List (std.Option ℕ)} {p i j : ℕ}
+      → ((i k : ℕ) → i < k → k < length (numbers_of (bare target)) → get_or (numbers_of (bare target)) i 0 < get_or (numbers_of (bare target)) k 0)
+      → Carrying row source target pairs taken p → p < length pairs
+      → Finds (Some i) (get_or pairs p no_pair).key (numbers_of (bare source)) → Finds (Some j) (get_or pairs p no_pair).image (numbers_of (bare target))
+      → Carrying row source target pairs (set taken j (Some (get_or row i 0))) (p + 1)
   unfolding taken_in
-  carry {taken} {p} {i} {j} w c h f g =
-      let x = place_in _ (numbers_of m.target) (has_mem _ _ g.is.2) in
-      let e : get_or (numbers_of m.target) j 0 ≡ (get_or m.pairs p no_pair).image = rw g.is.0 x.1 in
-      let more = carried_more m.source m.target (variables_in m.source row) w.ascend (take p m.pairs) (get_or m.pairs p no_pair) j g.is.1 e in
+  carry_on {taken} {p} {i} {j} ascend c h f g =
+      let x = place_in _ (numbers_of (bare target)) (has_mem _ _ g.is.2) in
+      let e : get_or (numbers_of (bare target)) j 0 ≡ (get_or pairs p no_pair).image = rw g.is.0 x.1 in
+      let more = carried_more (bare source) (bare target) (variables_in (bare source) row) ascend (take p pairs) (get_or pairs p no_pair) j g.is.1 e in
       record {
         same = rw (
           add-one,
-          take-suc m.pairs p no_pair h,
+          take-suc pairs p no_pair h,
           more,
           entry f,
-          take-set-lt (length m.target.elements) taken j _ (found_below m.target g),
+          take-set-lt (length target) taken j _ (found_below (bare target) g),
           each_put,
           ← c.same,
         );
       }
+
+  pub carry : {taken : List (std.Option ℕ)} {p i j : ℕ} → Listed target → Carrying row source target pairs taken p → p < length pairs
+      → Finds (Some i) (get_or pairs p no_pair).key (listed_numbers source) → Finds (Some j) (get_or pairs p no_pair).image (listed_numbers target)
+      → Carrying row source target pairs (set taken j (Some (get_or row i 0))) (p + 1)
+  unfolding numbers_of
+  carry w = carry_on w.ascend
+
+-- The elements tell of a map what their structures do.
+module _ (source target : Structure) (pairs : List Pair) where
+  pub listed_joins : KeysIn (numbers_of source) pairs → ImagesIn target pairs → Joins source.elements target.elements pairs
+  unfolding numbers_of
+  listed_joins k i = record { keys = k.named; images = i.named }
+
+  pub listed_taken : (row : List ℕ) → taken_between row source.elements target.elements pairs ≡ carried source (variables_in source row) pairs target
+  unfolding carried variable_at numbers_of
+  listed_taken row = refl
 
 -- What is taken over was given out before.
 pub taken_below : {row : List ℕ} (m : MorphismBy) {next : ℕ} → KeysIn (numbers_of m.source) m.pairs → GivenOut m.source row next

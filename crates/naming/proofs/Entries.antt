@@ -20,30 +20,31 @@ use Rattle.definition.specs.Base.{pick, each, given}
 use Rattle.definition.specs.Limits.{field_limit}
 use Rattle.definition.specs.Names.{numbered}
 use Rattle.laws.specs.Numbering.{fresh}
-use Rattle.rule.specs.Views.{StructureBy, Sound}
-use Rattle.naming.specs.Variables.{row_of, taken_by, kept_by}
+use Rattle.definition.specs.Rule.{Element}
+use Rattle.rule.specs.Views.{Listed}
+use Rattle.naming.specs.Variables.{no_var, row_of, taken_by, kept_by}
 use Rattle.naming.proofs.Whole.{length_numbered}
 
--- The entries of a structure's elements.
-pub entries_long : {x : StructureBy} → Sound x → {count : ℕ} → count ≡ length x.structure.elements → (row : List ℕ) → field_limit ≤ length row
-    → length (take count row) ≡ length x.structure.elements
-entries_long w {count} e row h = let few = w.sound.elements_few in length-take-le count row (omega arith) ∙ e
+-- The entries of a list's elements.
+pub listed_long : {els : List Element} → Listed els → {count : ℕ} → count ≡ length els → (row : List ℕ) → field_limit ≤ length row
+    → length (take count row) ≡ length els
+listed_long w {count} e row h = let few = w.few in length-take-le count row (omega arith) ∙ e
 
--- A row is being filled, by what each element takes over: the entries before an index have their variables, behind them 0 stands.
+-- A row is being filled, by what each element takes over: the entries before an index have their variables, behind them `no_var` stands.
 pub record Numbering (taken : List (std.Option ℕ)) (next : ℕ) (vars : List ℕ) (number i : ℕ) : Type 0 where
   pub left : numbered next (each taken_by taken) ≡ take i vars ++ numbered number (each taken_by (drop i taken))
-  pub tail : drop i vars ≡ replicate (field_limit - i) 0
+  pub tail : drop i vars ≡ replicate (field_limit - i) no_var
   pub few : number ≤ next + i
   pub long : length vars ≡ field_limit
 
 module _ {taken : List (std.Option ℕ)} {vars : List ℕ} {next number i : ℕ} (n : Numbering taken next vars number i) (few : length taken ≤ field_limit) where
   module _ (h : i < length taken) where
-    tail_on : (v : ℕ) → drop (i + 1) (set vars i v) ≡ replicate (field_limit - (i + 1)) 0
+    tail_on : (v : ℕ) → drop (i + 1) (set vars i v) ≡ replicate (field_limit - (i + 1)) no_var
     tail_on v =
         let a = drop-cons vars i 0 (rw n.long (omega arith)) in
         let q : field_limit - i ≡ suc (field_limit - suc i) = omega arith in
         let t = n.tail in
-        let b : replicate {A = ℕ} (field_limit - i) 0 ≡ 0 ∷ replicate (field_limit - suc i) 0 = rw q refl in
+        let b : replicate {A = ℕ} (field_limit - i) no_var ≡ no_var ∷ replicate (field_limit - suc i) no_var = rw q refl in
         rw (add-one i, drop-set-lt (suc i) vars i v (omega arith)) cc
 
     pub number_some : {v : ℕ} → get_or taken i None ≡ Some v → Numbering taken next (set vars i v) number (i + 1)

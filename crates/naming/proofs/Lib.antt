@@ -2,6 +2,7 @@
 pub mod Whole
 pub mod Entries
 pub mod Carrying
+pub mod Basing
 pub mod News
 pub mod Printing
 pub mod Reached

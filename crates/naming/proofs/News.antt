@@ -3,16 +3,19 @@ use Prim.Native.Nat.{ℕ, ◌+◌, ◌≤◌, ◌<◌}
 use native.Mathlib.Omega.{arith}
 use native.Mathlib.Numerals.{add-one}
 use mathlib.Core.List.{List, [], ◌∷◌}
+use mathlib.Core.Option.{Option, none, some}
 use mathlib.Core.Path.{◌≡◌, refl, sym, ◌∙◌}
 use lib.ListN.{length, get_or, set, drop, length-set, drop_of_length-le}
 use lib.Seq.{drop-cons, sets}
 use borrow.Author.Tests.{lt-ltb, le-ltb}
 use Rattle.definition.specs.Base.{each}
 use Rattle.definition.specs.Group.{Variable}
-use Rattle.definition.specs.Rule.{Structure}
-use Rattle.definition.specs.Names.{new_variable, new_variables}
-use Rattle.rule.specs.Views.{no_element}
-use Rattle.naming.specs.Variables.{kept_by, kept_in, variables_in, new_in}
+use Rattle.definition.specs.Rule.{Structure, Element}
+use Rattle.definition.specs.Names.{base_name, new_variable, new_variables}
+use Rattle.laws.proofs.Lists.{mem_at}
+use Rattle.rule.specs.Structures.{ByteTypes}
+use Rattle.rule.specs.Views.{no_element, StructureBy, Sound}
+use Rattle.naming.specs.Variables.{bare, spare, kept_by, kept_in, variables_in, new_in}
 
 -- Those from an element on, numbered from a number on, by the variables of a numbered row.
 unfoldable pub new_from : Structure → ℕ → List ℕ → ℕ → ℕ → List Variable
@@ -36,9 +39,43 @@ module _ (st : Structure) (first : ℕ) (vars : List ℕ) (number : ℕ) {i : �
   unfolding new_from new_variables
   new_end h = let past : drop i st.elements ≡ [] = drop_of_length-le st.elements (omega arith) in rw past
 
+-- They are told by the elements and the names alone.
+spare_news : (st : Structure) (next : ℕ) (es : List Element) (cs : List (Option ℕ))
+    → new_variables (spare st.elements st.variable_names st.identifier_names) next es cs ≡ new_variables st next es cs
+unfolding new_variables new_variable base_name
+spare_news st next [] cs = refl
+spare_news st next (e ∷ es) [] = refl
+spare_news st next (e ∷ es) (some v ∷ cs) = spare_news st next es cs
+spare_news st next (e ∷ es) (none ∷ cs) = rw (spare_news st (next + 1) es cs)
+
+pub new_spare : (st : Structure) (first : ℕ) (row : List ℕ)
+    → new_in (spare st.elements st.variable_names st.identifier_names) first row ≡ new_in st first row
+unfolding new_in
+new_spare st first row = spare_news st first st.elements _
+
 -- Their types are being stored.
 abbrev pub types_of : List Variable → List ℕ
 types_of = each (λ (v : Variable). v.type)
+
+-- They are told by the elements alone.
+bare_types : (st : Structure) (next : ℕ) (es : List Element) (cs : List (Option ℕ))
+    → types_of (new_variables (bare st.elements) next es cs) ≡ types_of (new_variables st next es cs)
+unfolding new_variables new_variable each
+bare_types st next [] cs = refl
+bare_types st next (e ∷ es) [] = refl
+bare_types st next (e ∷ es) (some v ∷ cs) = bare_types st next es cs
+bare_types st next (e ∷ es) (none ∷ cs) = rw (bare_types st (next + 1) es cs)
+
+pub bare_new : (st : Structure) (first : ℕ) (row : List ℕ) → types_of (new_in (bare st.elements) first row) ≡ types_of (new_in st first row)
+unfolding new_in
+bare_new st first row = bare_types st first st.elements _
+
+-- The types are bytes.
+pub byte_at : {els : List Element} → ByteTypes (bare els) → (i : ℕ) → i < length els → (get_or els i no_element).type < 256
+byte_at {els} b i h = b.small _ (mem_at els i no_element h)
+
+pub sound_bytes : {x : StructureBy} → Sound x → ByteTypes (bare x.structure.elements)
+sound_bytes {x} w = record { small = λ e m. let s = w.sound.elements_sound e m in omega (arith, s.type_in, w.small.few) }
 
 pub record Typing (st : Structure) (first : ℕ) (vars types₀ types : List ℕ) (number i : ℕ) : Type 0 where
   pub left : sets types₀ first (types_of (new_from st first vars first 0)) ≡ sets types number (types_of (new_from st first vars number i))

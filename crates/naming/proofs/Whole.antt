@@ -11,7 +11,7 @@ use borrow.Author.Tests.{lt-ltb, le-ltb}
 use Rattle.definition.specs.Base.{each, ◌∈◌}
 use Rattle.definition.specs.Limits.{field_limit}
 use Rattle.definition.specs.Names.{numbered}
-use Rattle.naming.specs.Variables.{row_of, kept_by, kept_in}
+use Rattle.naming.specs.Variables.{no_var, row_of, kept_by, kept_in}
 
 -- What elements take over is below a number.
 pub record TakenBelow (n : ℕ) (cs : List (Option ℕ)) : Type 0 where
@@ -23,7 +23,7 @@ rest_below t = record { below = λ v m. t.below v (Memᴰ.tail m) }
 -- The front of a row.
 pub take_row : (vs : List ℕ) {n : ℕ} → length vs ≡ n → take n (row_of vs) ≡ vs
 unfolding row_of
-take_row vs {n} long = take_at vs (replicate (field_limit - length vs) 0) n long
+take_row vs {n} long = take_at vs (replicate (field_limit - length vs) no_var) n long
 
 pub length_numbered : (n : ℕ) (cs : List (Option ℕ)) → length (numbered n cs) ≡ length cs
 unfolding numbered

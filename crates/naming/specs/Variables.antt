@@ -1,16 +1,34 @@
 -- Rows of variables as lists.
 use Rattle.std.specs.Prelude as std
-use Rattle.std.specs.Prelude.{Some, None, List, ◌++◌, ℕ, ◌-◌, ◌<◌, ltb, length, take, replicate}
+use Rattle.std.specs.Prelude.{Some, None, List, [], ◌++◌, ℕ, ◌-◌, ◌<◌, ltb, length, take, replicate}
 use Rattle.std.proofs.Math.Option.{Option, none, some}
 use Rattle.definition.specs.Base.{pick, each, ◌∈◌}
 use Rattle.definition.specs.Limits.{field_limit}
-use Rattle.definition.specs.Rule.{Structure}
+use Rattle.definition.specs.Rule.{Structure, Element, Name}
 use Rattle.definition.specs.Group.{Variable}
 use Rattle.definition.specs.Names.{numbers_of, variable_at, new_variables}
 
--- Variables as a whole row, behind which 0 stands.
+-- A structure of which the elements alone are known.
+abbrev pub bare : List Element → Structure
+bare els = record { elements = els; pred_rows = []; func_rows = []; variable_names = []; identifier_names = [] }
+
+-- A structure of which its elements and names are known.
+abbrev pub spare : List Element → List Name → List Name → Structure
+spare els variables identifiers = record {
+  elements = els;
+  pred_rows = [];
+  func_rows = [];
+  variable_names = variables;
+  identifier_names = identifiers;
+}
+
+-- Stands in a row behind the variables of the elements.
+abbrev pub no_var : ℕ
+no_var = 65535
+
+-- Variables as a whole row.
 unfoldable pub row_of : List ℕ → List ℕ
-row_of vs = vs ++ replicate (field_limit - length vs) 0
+row_of vs = vs ++ replicate (field_limit - length vs) no_var
 
 -- What an element takes over, as the definition's.
 abbrev pub taken_by : std.Option ℕ → Option ℕ

@@ -42,10 +42,11 @@ impl<'a> Plan<'a> {
         requires { Tabled kinds.old [] }
         ensures { outcome result ≡ plan_of rule.now }
     {
-        if unmapped_auxiliary(rule) {
+        let tail = rule.tail();
+        if unmapped_auxiliary(&tail) {
             return Err(Refusal::UnmappedAuxiliary);
         }
-        if unmapped_kind(rule) {
+        if unmapped_kind(&tail) {
             return Err(Refusal::UnmappedKind);
         }
         kind_table(rule, kinds);
@@ -58,6 +59,13 @@ impl<'a> Plan<'a> {
         ensures mapped { AllMapped self.now.rule }
     {
         self.rule
+    }
+
+    // The table of its kinds.
+    pub fn kinds(&self) -> &'a Kinds
+        ensures { Tabled result.now (kinds_all self.now.rule) }
+    {
+        self.kinds
     }
 
     // The kind of the map between two structures, if that is walked.

@@ -7,7 +7,7 @@ ghost use Rattle.plan.specs.Table.{kinds_all, Tabled, Adds};
 
 use crate::sources::incoming_source;
 use rule::ids::STRUCTURES;
-use rule::tail::{KindField, MorphismKind, read_auxiliary, read_kind};
+use rule::tail::{KindField, MorphismKind, Tail, read_auxiliary, read_kind};
 use rule::views::Rule;
 
 // The kind of each pair of structures, by source, then target, where it has one.
@@ -28,28 +28,27 @@ fn add(table: &mut Kinds, k: KindField)
 
 // The kinds of K, into a table without any.
 #[tactic(auto, unfolding(definition::specs::Base::each), using(crate::proofs::Storing::store_start, crate::proofs::Storing::store_next))]
-fn stored(rule: &Rule<'_>, table: &mut Kinds)
+fn stored(tail: &Tail<'_>, table: &mut Kinds)
     requires { Tabled table.old [] }
-    ensures { Tabled table.new rule.now.rule.kinds }
+    ensures { Tabled table.new tail.now.kinds }
 {
-    for f in rule.kinds() {
+    for f in tail.kinds() {
         add(table, read_kind(f.content));
     }
 }
 
 // Behind the kinds of a table those that the X add, in order.
 #[tactic(auto, unfolding(definition::specs::Base::each), using(crate::proofs::Storing::complete_start, crate::proofs::Storing::complete_next))]
-fn complete(rule: &Rule<'_>, table: &mut Kinds)
-    requires { Tabled table.old rule.now.rule.kinds }
-    ensures tabled { Tabled table.new (kinds_all rule.now.rule) }
-    ensures sound { SoundBy rule.now }
+fn complete(tail: &Tail<'_>, table: &mut Kinds)
+    requires { Tabled table.old tail.now.kinds }
+    ensures { Tabled table.new (kinds_all tail.now) }
 {
-    for f in rule.auxiliaries() {
+    for f in tail.auxiliaries() {
         let x = read_auxiliary(f.content);
         add(
             table,
             KindField {
-                source: incoming_source(rule, x.structure).unwrap_or(0),
+                source: incoming_source(tail, x.structure).unwrap_or(0),
                 target: x.structure,
                 kind: x.kind,
             },
@@ -58,11 +57,19 @@ fn complete(rule: &Rule<'_>, table: &mut Kinds)
 }
 
 // The kinds of all pairs into a table without kinds, which is the caller's, so that none is copied.
+pub fn tail_kind_table(tail: &Tail<'_>, table: &mut Kinds)
+    requires { Tabled table.old [] }
+    ensures { Tabled table.new (kinds_all tail.now) }
+{
+    stored(tail, table);
+    complete(tail, table);
+}
+
+// The same of a rule that was accepted.
 pub fn kind_table(rule: &Rule<'_>, table: &mut Kinds)
     requires { Tabled table.old [] }
     ensures tabled { Tabled table.new (kinds_all rule.now.rule) }
     ensures sound { SoundBy rule.now }
 {
-    stored(rule, table);
-    complete(rule, table);
+    tail_kind_table(&rule.tail(), table);
 }

@@ -14,7 +14,7 @@ use borrow.Author.Tests.{eq-eqb, ne_eqb}
 use Rattle.definition.specs.Base.{each, joined, any, has}
 use Rattle.definition.specs.Letters.{predicate, function}
 use Rattle.definition.specs.Names.{numbers_of}
-use Rattle.definition.specs.Rule.{Structure, Row}
+use Rattle.definition.specs.Rule.{Structure, Element, Row}
 use Rattle.definition.specs.Rows.{arguments, constrained}
 use Rattle.definition.specs.Signature.{Signature, pred_of, func_of, column_count}
 use Rattle.flags.specs.Flags.{places}
@@ -23,10 +23,10 @@ use Rattle.laws.proofs.Lists.{never, has_mem, length_each, get_d_each, joined_ap
 use Rattle.laws.proofs.Numbering.{place_in}
 use Rattle.records.proofs.Parts.{any_append, take_more}
 use Rattle.rule.specs.Elements.{Finds}
-use Rattle.rule.specs.Views.{StructureBy, Sound}
+use Rattle.rule.specs.Views.{StructureBy, Sound, listed_numbers}
 use Rattle.rule.proofs.Finding.{Ascending}
 use Rattle.rows.specs.Arguments.{Listed, AllListed, Marks}
-use Rattle.rows.proofs.Places.{numbers_many}
+use Rattle.rows.proofs.Places.{listed_many}
 use Rattle.std.proofs.Common.{Some, None}
 
 -- One more is seen.
@@ -130,8 +130,9 @@ marks_say {flags} {els} {seen} m h f g =
     ext_get_or false (take (length els) flags) (each f els) (a ∙ sym b) (λ j l. get_or-take (length els) flags j false (omega arith) ∙ m.at j (omega arith)
     ∙ sym (get_d_each f els j 0 false (omega arith) ∙ g (get_or els j 0)))
 
-pub constrained_say : {flags : List Bool} (sig : Signature) (st : Structure)
-    → Marks flags (numbers_of st) (([] ++ joined (arguments sig) st.pred_rows) ++ joined (arguments sig) st.func_rows) → length (numbers_of st) ≤ length flags
-    → take (length st.elements) flags ≡ each (constrained sig st) (numbers_of st)
+pub constrained_say : {flags : List Bool} (sig : Signature) (st : Structure) (els : List Element) {preds funcs : List Row}
+    → numbers_of st ≡ listed_numbers els → st.pred_rows ≡ preds → st.func_rows ≡ funcs
+    → Marks flags (listed_numbers els) (([] ++ joined (arguments sig) preds) ++ joined (arguments sig) funcs)
+    → length (listed_numbers els) ≤ length flags → take (length els) flags ≡ each (constrained sig st) (numbers_of st)
 unfolding constrained
-constrained_say sig st m h = rw (← numbers_many st) (marks_say m h (constrained sig st) (λ e. rw joined_append))
+constrained_say sig st els of p f m h = rw (of, ← listed_many els) (marks_say m h (constrained sig st) (λ e. rw (p, f, joined_append)))

@@ -10,3 +10,4 @@ pub mod Whole
 pub mod Kept
 pub mod Places
 pub mod Between
+pub mod LinkLaws

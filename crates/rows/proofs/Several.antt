@@ -17,7 +17,6 @@ use Rattle.definition.specs.Kinds.{Side, kernel_variables, kernel_clashes}
 use Rattle.definition.specs.Names.{numbers_of, fiber}
 use Rattle.definition.specs.Rows.{pairs_among, kernel_pairs}
 use Rattle.definition.specs.Rule.{Structure, Pair}
-use Rattle.definition.specs.Signature.{Signature}
 use Rattle.records.proofs.Lists.{keep_append}
 use Rattle.laws.proofs.Lists.{never, has_mem, mem_has, each_append, trichotomy, mem_at}
 use Rattle.laws.proofs.Numbering.{place_in}
@@ -110,16 +109,16 @@ module _ {pairs : List Pair} {els : List ℕ} {seen merged : List Bool} {p : ℕ
               (⊎_elim (λ (c : j ≡ i). z c) (λ (c : i < j). let x = up i j c l in omega (arith, here))) (trichotomy j i))))
 
 -- The flags of the marks.
-pub packed_merged : {mask : Mask} {merged : List Bool} {target : Structure} {pairs : List Pair} → length (numbers_of target) ≤ places
-    → PackedLess mask merged (replicate places false) (length (numbers_of target))
-    → ((j : ℕ) → j < length (numbers_of target) → get_or merged j false ≡ several_at (numbers_of target) pairs j) → Merged mask target pairs
-packed_merged {mask} {merged} {target} {pairs} few p w = record { flags = record { above = p.flags.above; same = same } }
+pub packed_merged : {mask : Mask} {merged : List Bool} {els : List ℕ} {target : Structure} {pairs : List Pair} → numbers_of target ≡ els
+    → length els ≤ places → PackedLess mask merged (replicate places false) (length els)
+    → ((j : ℕ) → j < length els → get_or merged j false ≡ several_at els pairs j) → Merged mask target pairs
+packed_merged {mask} {merged} {els} {target} {pairs} of few p w = record { flags = rw of (record { above = p.flags.above; same = same }) }
   where
     and_not : (b : Bool) → (b && not false) ≡ b
     and_not true = refl
     and_not false = refl
 
-    same : (j : ℕ) → j < length (numbers_of target) → flag_at mask j ≡ several_at (numbers_of target) pairs j
+    same : (j : ℕ) → j < length els → flag_at mask j ≡ several_at els pairs j
     same j l = p.flags.same j l ∙ rw (get_or-replicate places j false false (omega arith)) (and_not (get_or merged j false)) ∙ w j l
 
 -- Images that ascend: none is flagged.
@@ -154,7 +153,7 @@ none_merged {mask} {target} {pairs} w e = joined_none (λ (e : ℕ). pairs_among
     (λ j l. among_few _ (unflagged w j l (none_no_flag mask e j)))
 
 -- and none of them clash.
-pub no_clash : (sig : Signature) (table : List Variable) (source target : Side) (pairs : List Pair) → kernel_pairs pairs target.structure ≡ []
+pub no_clash : (table : List Variable) (source target : Side) (pairs : List Pair) → kernel_pairs pairs target.structure ≡ []
     → kernel_clashes table source target pairs ≡ false
 unfolding kernel_clashes kernel_variables each any
-no_clash sig table source target pairs e = rw e
+no_clash table source target pairs e = rw e

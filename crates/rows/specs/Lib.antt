@@ -3,5 +3,6 @@ pub mod Table
 pub mod Kernel
 pub mod Morphisms
 pub mod Morphism
+pub mod Links
 pub mod Arguments
 pub mod Members

@@ -3,6 +3,7 @@
 
 pub mod arguments;
 pub mod kernel;
+pub mod link;
 pub mod members;
 pub mod morphism;
 pub mod order;

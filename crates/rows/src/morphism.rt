@@ -3,6 +3,7 @@ ghost use Rattle.std.specs.Prelude.{◌<◌, length};
 ghost use Rattle.rule.specs.Map.{pairs_from};
 ghost use Rattle.rows.specs.Morphisms.{Between, morphism_of};
 
+use crate::link::Link;
 use flags::Mask;
 use rule::map::Map;
 use rule::views::{Rule, Structure};
@@ -29,6 +30,7 @@ impl<'a> Morphism<'a> {
     ghost use Rattle.rule.specs.MapFields.{KeysIn, ImagesIn};
     ghost use Rattle.rule.specs.Views.{Sound};
     ghost use Rattle.rows.specs.Kernel.{Merged};
+    ghost use Rattle.rows.specs.Links.{link_of};
     ghost use Rattle.rows.specs.Morphism.{morphism_from};
 
     // A map, by the numbers of its structures, its pairs and the flags.
@@ -62,7 +64,7 @@ impl<'a> Morphism<'a> {
         ensures between { Between (morphism_from self.now) }
     {
         let source = self.rule.structure(self.source);
-        let _ = &source.number;
+        let _ = &source.sig;
         source
     }
 
@@ -73,7 +75,7 @@ impl<'a> Morphism<'a> {
         ensures between { Between (morphism_from self.now) }
     {
         let target = self.rule.structure(self.target);
-        let _ = &target.number;
+        let _ = &target.sig;
         target
     }
 
@@ -91,5 +93,20 @@ impl<'a> Morphism<'a> {
         ensures between { Between (morphism_from self.now) }
     {
         self.merged
+    }
+
+    // The map without the signature.
+    pub fn link(&self) -> Link<'a>
+        ensures value { result ≡ link_of (morphism_from self.now) }
+        ensures source_sound { Sound (record { sig = (morphism_from self.now).sig; structure = (morphism_from self.now).source }) }
+        ensures target_sound { Sound (record { sig = (morphism_from self.now).sig; structure = (morphism_from self.now).target }) }
+        ensures between { Between (morphism_from self.now) }
+    {
+        Link::new(
+            self.source().body,
+            self.target().body,
+            self.map,
+            self.merged,
+        )
     }
 }

@@ -1,15 +1,18 @@
 -- The faults of a field, from the tests that the code makes.
 use Prim.Native.Nat.{ℕ, ◌-◌, ◌≤◌, ◌<◌}
 use native.Mathlib.Omega.{arith}
+use native.Mathlib.Decide.{ℕ_discrete}
 use mathlib.Core.Bool.{Bool, true, false, not, ◌||◌}
 use mathlib.Core.List.{List, [], ◌∷◌}
+use mathlib.Core.Logic.{◌⊎◌, inl, inr}
 use mathlib.Core.Path.{◌≡◌, refl, sym, ◌∙◌, ap}
 use mathlib.Core.Option.{Option}
 use lib.Bits.{bit_and, and_mask}
 use lib.Dec.{eqb, ltb, leb}
 use lib.ListN.{length, get_or, take, drop}
-use borrow.Author.Tests.{ltb-true, not-false}
-use Rattle.definition.specs.Base.{pick, less, span, all, lowest}
+use borrow.Author.Tests.{ltb-true, not-false, ne_eqb}
+use Rattle.definition.specs.Base.{pick, less, span, all, lowest, empty}
+use Rattle.definition.specs.Letters.{letter_n, letter_r, letter_a, letter_v, letter_i, letter_m, letter_k}
 use Rattle.definition.specs.Limits.{structure_limit, map_limit}
 use Rattle.definition.specs.Records.{Field, numbers, number_at, not_above}
 use Rattle.definition.specs.Rule.{Pair, elements_at, keys_ascend, map_of, map_fault}
@@ -18,7 +21,9 @@ use Rattle.laws.proofs.Numbers.{drop_numbers, take_numbers, length_numbers}
 use Rattle.records.specs.Places.{two_at}
 use Rattle.std.proofs.Common as std
 use Rattle.std.proofs.Common.{Some, None, Bor}
-use Rattle.rule.specs.Faults.{field_with, last_field, pair_named, AboveLast}
+use Rattle.rule.specs.Faults.{field_with, last_field, pair_named, AboveLast, InStructure, section_by}
+use Rattle.rule.specs.declared.faults.SectionKind.{SectionKind}
+use Rattle.rule.specs.declared.faults.SectionKind.TheVariants as section
 use Rattle.rule.specs.Pairs.{pairs_in_bytes}
 use Rattle.rule.specs.Elements.{element_numbers, numbers_in, Elements, Known}
 use Rattle.rule.proofs.Letters.{get_d_span, length_span}
@@ -116,3 +121,41 @@ above_last content None l e = tt
 above_last content (Some g) l e = λ k.
     less_one (two_at g.now 0) (two_at content 0)
     (rw (one_number g.now k, one_number content (omega arith)) at (not-false (less (take 1 (numbers g.now)) (take 1 (numbers content))) e))
+
+-- A content of which only the length is known.
+pub empty_by : (f : Field) (len : ℕ) → length f.content ≡ len → empty f.content ≡ eqb len 0
+empty_by f len e = rw (← e) (go f.content)
+  where
+    go : (xs : List ℕ) → empty xs ≡ eqb (length xs) 0
+    go [] = refl
+    go (x ∷ xs) = sym (ne_eqb (length (x ∷ xs)) 0 (λ q. omega arith))
+
+-- A letter's section: where it is one of a structure, there is a structure.
+module _ (n : ℕ) where
+  in_any : (kind : SectionKind) → 1 ≤ n → InStructure kind n
+  in_any section.Head h = tt
+  in_any (section.Row kind) h = h
+  in_any (section.Name kind) h = h
+  in_any section.Map h = tt
+  in_any section.Kind h = tt
+  in_any section.Auxiliary h = tt
+
+  in_none : (a b c : Bool) → InStructure (pick a section.Head (pick b section.Map (pick c section.Kind section.Auxiliary))) n
+  in_none true b c = tt
+  in_none false true c = tt
+  in_none false false true = tt
+  in_none false false false = tt
+
+  pub in_structure : (letter : ℕ) → (letter ≡ letter_r ⊎ letter ≡ letter_a ⊎ letter ≡ letter_v ⊎ letter ≡ letter_i → 1 ≤ n)
+      → InStructure (section_by letter) n
+  unfolding section_by
+  in_structure letter h = go (ℕ_discrete letter letter_r) (ℕ_discrete letter letter_a) (ℕ_discrete letter letter_v) (ℕ_discrete letter letter_i)
+    where
+      go : Dec (letter ≡ letter_r) → Dec (letter ≡ letter_a) → Dec (letter ≡ letter_v) → Dec (letter ≡ letter_i) → InStructure (section_by letter) n
+      go (yes r) _ _ _ = in_any _ (h (inl r))
+      go _ (yes a) _ _ = in_any _ (h (inr (inl a)))
+      go _ _ (yes v) _ = in_any _ (h (inr (inr (inl v))))
+      go _ _ _ (yes i) = in_any _ (h (inr (inr (inr i))))
+      go (no r) (no a) (no v) (no i) =
+          rw (ne_eqb _ _ r, ne_eqb _ _ a, ne_eqb _ _ v, ne_eqb _ _ i)
+          (in_none (eqb letter letter_n) (eqb letter letter_m) (eqb letter letter_k))

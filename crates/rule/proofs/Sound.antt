@@ -28,7 +28,6 @@ sound_at {sig} {s} {index} {n} w small k h =
     ap (λ (st : Structure). st.func_rows) e ∙ structure_funcs w small k h in
     let l = structure_laid w k h (elements_at w small k h) in
     record {
-      small = small;
       laid = l;
       sound = rw e (structure_sound sig (block_at (rule_part s).fields k) (body_passed w small k h));
       pred_fields = with_letter letter_r (body w small k h);

@@ -1,24 +1,26 @@
 -- What a structure of an accepted rule satisfies, by what contracts see of it.
-use Prim.Native.Nat.{ℕ, ◌+◌, ◌≤◌}
+use Prim.Native.Nat.{ℕ, ◌+◌, ◌≤◌, ◌<◌}
 use mathlib.Core.List.{List}
 use mathlib.Core.Path.{◌≡◌, refl, sym, ◌∙◌, ap}
-use lib.ListN.{length, length-append}
+use lib.ListN.{length, get_or, length-append}
 use Rattle.definition.specs.Base.{keep, each, ◌∈◌}
 use Rattle.definition.specs.Letters.{predicate, function, member}
 use Rattle.definition.specs.Limits.{parent_limit, column_limit}
 use Rattle.definition.specs.Rows.{member_row}
-use Rattle.definition.specs.Rule.{Element, Row}
+use Rattle.definition.specs.Rule.{Element, Row, Structure}
 use Rattle.definition.specs.Signature.{Signature, type_parents, pred_of, func_of, column_count}
-use Rattle.laws.proofs.Lists.{mem_each, mem_keep}
+use Rattle.laws.proofs.Lists.{mem_each, mem_keep, mem_at}
 use Rattle.rule.specs.Rows.{Alike, has_parents, member_rows}
-use Rattle.rule.specs.Structures.{structure_in, SoundAt}
-use Rattle.rule.specs.Views.{StructureBy, Sound}
-use Rattle.rule.proofs.ViewLaws.{sound_view}
+use Rattle.rule.specs.Structures.{structure_in, Stands}
+use Rattle.rule.specs.Views.{StructureBy, Sound, WellFormed, no_element}
+use Rattle.rule.proofs.ViewLaws.{formed_view}
 
--- By the bytes and the index that it was made of.
-pub sound_seen : {x : StructureBy} {sig : Signature} {s index : List ℕ} {k : ℕ} → SoundAt sig s index k
-    → record { sig = sig; structure = structure_in s k } ≡ x → Sound x
-sound_seen w e = rw (← e) (sound_view w)
+-- By what a value was made of.
+pub sound_seen : {x y : StructureBy} → Sound y → y ≡ x → Sound x
+sound_seen w e = rw (← e) w
+
+pub formed_seen : {st : Structure} {s index : List ℕ} {k : ℕ} → Stands s index k → structure_in s k ≡ st → WellFormed st
+formed_seen w e = rw (← e) (formed_view w.at)
 
 module _ {x : StructureBy} (w : Sound x) where
   -- Rows of one symbol are of one length, and elements of one type have equally many parents.
@@ -39,10 +41,6 @@ module _ {x : StructureBy} (w : Sound x) where
           let e = w.sound.elements_sound q.0 (mem_keep has_parents x.structure.elements q.1).0 in
           rw q.2 (refl, rw (length-append, e.parents_count) refl)
 
-  pub parents_alike : (d e : Element) → d ∈ x.structure.elements → e ∈ x.structure.elements → d.type ≡ e.type → length d.parents ≡ length e.parents
-  parents_alike d e i j t = (w.sound.elements_sound d i).parents_count ∙ ap (λ (n : ℕ). length (type_parents x.sig n)) t
-      ∙ sym (w.sound.elements_sound e j).parents_count
-
   -- They are short.
   pub pred_short : (r : Row) → r ∈ x.structure.pred_rows → length r.elements ≤ column_limit
   pred_short r i = let q = (w.sound.preds_sound r i).1 in rw q.columns_count (w.small.preds r.symbol q.symbol_in)
@@ -52,3 +50,11 @@ module _ {x : StructureBy} (w : Sound x) where
 
   pub parents_few : (e : Element) → e ∈ x.structure.elements → length e.parents ≤ parent_limit
   parents_few e i = let q = w.sound.elements_sound e i in rw q.parents_count (w.small.types e.type q.type_in)
+
+  pub parents_short : {e : Element} (i : ℕ) → i < length x.structure.elements → e ≡ get_or x.structure.elements i no_element → length e.parents ≤ parent_limit
+  parents_short i h r = rw r (parents_few _ (mem_at x.structure.elements i no_element h))
+
+-- Of a structure by itself likewise.
+pub formed_parents : {st : Structure} → WellFormed st → {e : Element} (i : ℕ) → i < length st.elements → e ≡ get_or st.elements i no_element
+    → length e.parents ≤ parent_limit
+formed_parents {st} w i h r = rw r (w.parents_few _ (mem_at st.elements i no_element h))

@@ -1,30 +1,31 @@
 -- What a rule's bytes and index say is what contracts see of the rule and its structures.
-use Prim.Native.Nat.{ℕ, ◌+◌, ◌-◌, ◌*◌, ◌/◌, ◌%◌, ◌<◌, ◌≤◌}
+use Prim.Native.Nat.{ℕ, ◌<◌, ◌≤◌}
 use native.Mathlib.Omega.{arith}
 use mathlib.Core.List.{List}
-use mathlib.Core.Path.{◌≡◌, sym, ◌∙◌, ap}
-use lib.ListN.{length, get_or, take, drop}
-use Rattle.definition.specs.Limits.{field_limit, parent_limit}
-use Rattle.definition.specs.Records.{Field, numbers}
-use Rattle.records.specs.Places.{two_at, stretch, Run}
-use Rattle.records.proofs.Numbers.{length_stretch}
-use Rattle.laws.proofs.Numbers.{length_numbers}
-use Rattle.records.proofs.Runs.{run_same}
-use Rattle.rule.specs.Rows.{RowsFrom}
+use mathlib.Core.Path.{◌≡◌, refl, sym, ◌∙◌, ap}
+use lib.ListN.{length, length-drop}
+use Rattle.definition.specs.Base.{each, ◌∈◌}
+use Rattle.definition.specs.Letters.{predicate, function}
+use Rattle.definition.specs.Limits.{field_limit, parent_limit, column_limit}
 use Rattle.definition.specs.Names.{numbers_of}
-use Rattle.definition.specs.Signature.{Signature}
-use Rattle.laws.proofs.Lists.{length_each}
-use Rattle.rule.specs.Views.{no_element}
-use Rattle.rule.proofs.ElementLaws.{elements_many, elements_get, element_within, element_is}
-use Rattle.rule.proofs.Finding.{numbers_get, numbers_ascend}
-use Rattle.rule.proofs.Saying.{numbers_each, structures_are}
+use Rattle.definition.specs.Records.{Field, numbers}
+use Rattle.definition.specs.Rule.{Element, Row, row_of}
+use Rattle.definition.specs.Signature.{Signature, type_parents}
+use Rattle.laws.proofs.Lists.{length_each, mem_each}
+use Rattle.laws.proofs.Numbers.{length_numbers}
+use Rattle.records.proofs.Parts.{mem_place}
+use Rattle.records.proofs.Runs.{run_same}
+use Rattle.records.specs.Places.{Run}
+use Rattle.rule.proofs.ElementLaws.{below_count, elements_get, listed}
+use Rattle.rule.proofs.Saying.{structures_are}
 use Rattle.rule.proofs.Sound.{sound_at}
 use Rattle.rule.specs.Answers.{Accepted}
-use Rattle.rule.specs.ElementFields.{elements_in, element_in, size_at}
-use Rattle.rule.specs.Elements.{count_at, position_at, element_at, element_fields, element_numbers}
+use Rattle.rule.specs.ElementFields.{elements_in}
 use Rattle.rule.specs.Lookup.{Ready, rule_at}
+use Rattle.rule.specs.Rows.{RowSized, RowsFrom}
 use Rattle.rule.specs.Structures.{structure_in, SoundAt}
-use Rattle.rule.specs.Views.{Sound}
+use Rattle.rule.specs.Views.{no_element, Sound, WellFormed}
+use Rattle.signature.specs.Index.{SmallArities}
 
 -- A rule.
 module _ {sig : Signature} {s index : List ℕ} {n : ℕ} (w : Accepted sig s index n) where
@@ -37,60 +38,44 @@ module _ {sig : Signature} {s index : List ℕ} {n : ℕ} (w : Accepted sig s in
   pub structure_sound : (k : ℕ) → k < length (rule_at s).structures → SoundAt sig s index k
   structure_sound k h = let c = structure_count in sound_at w.indexed w.small k (omega arith)
 
--- A section of rows has few.
-few_of : {s : List ℕ} {from end : ℕ} {fs : List Field} → RowsFrom s from end → Run s from end fs → length fs ≤ field_limit
-few_of w r = rw (run_same r w.run) w.few
+-- A section of rows has few, and each is short.
+module _ {s : List ℕ} {from end : ℕ} {fs : List Field} (w : RowsFrom s from end) (r : Run s from end fs) where
+  few_of : length fs ≤ field_limit
+  few_of = rw (run_same r w.run) w.few
+
+  sized_of : (f : Field) → f ∈ fs → RowSized f
+  sized_of f m = w.sized f (rw (run_same r w.run) at m)
+
+  formed_of : (kind : ℕ) (q : Row) → q ∈ each (row_of kind) fs → (q.kind ≡ kind) × (length q.elements ≤ column_limit)
+  unfolding row_of
+  formed_of kind q m =
+      let a = mem_each (row_of kind) fs m in
+      let z = sized_of a.0 a.1 in
+      let b = length-drop 1 (numbers a.0.content) in let c = length_numbers a.0.content in
+      rw a.2 (refl, omega (arith, z.most))
 
 -- A structure.
 module _ {sig : Signature} {s index : List ℕ} {k : ℕ} (w : SoundAt sig s index k) where
-  pub element_count_is : count_at index k ≡ length (structure_in s k).elements
-  element_count_is = sym (ap length w.laid.same ∙ elements_many s index k)
+  parents_few : (e : Element) → e ∈ elements_in s index k → length e.parents ≤ parent_limit
+  parents_few e m =
+      let p = mem_place (elements_in s index k) no_element m in
+      let l = below_count s index k p.1 in
+      rw (← p.2, elements_get s index k p.0 l) (w.laid.elements.few p.0 l)
 
-  pub numbers_is : element_numbers s index k ≡ numbers_of (structure_in s k)
-  unfolding element_numbers numbers_of elements_in
-  numbers_is = rw w.laid.same (numbers_each (element_fields s index k))
-
-  pub below_count : {i : ℕ} → i < length (structure_in s k).elements → i < count_at index k
-  below_count h = rw element_count_is h
-
-  pub number_is : (i : ℕ) → i < length (structure_in s k).elements → element_at s index k i ≡ get_or (numbers_of (structure_in s k)) i 0
-  number_is i h = sym (rw (← numbers_is) (numbers_get w.laid.elements.elements i (below_count h)))
-
-  pub element_is_at : (i : ℕ) → i < length (structure_in s k).elements → element_in s index k i ≡ get_or (structure_in s k).elements i no_element
-  element_is_at i h = sym (rw w.laid.same (elements_get s index k i (below_count h)))
-
-  pub sound_view : Sound (record { sig = sig; structure = structure_in s k })
-  sound_view = record {
-    sound = w.sound;
-    small = w.small;
+  pub formed_view : WellFormed (structure_in s k)
+  unfolding numbers_of
+  formed_view = record {
+    elements_few = w.sound.elements_few;
     preds_few = rw (w.preds_are, length_each) (few_of w.preds_known.rows w.preds_run);
     funcs_few = rw (w.funcs_are, length_each) (few_of w.funcs_known.rows w.funcs_run);
-    ascend = rw (← numbers_is) (numbers_ascend w.laid.elements.elements);
+    preds_formed = rw w.preds_are (formed_of w.preds_known.rows w.preds_run predicate);
+    funcs_formed = rw w.funcs_are (formed_of w.funcs_known.rows w.funcs_run function);
+    parents_few = rw w.laid.same parents_few;
+    alike = λ d e i j t. (w.sound.elements_sound d i).parents_count ∙ ap (λ (n : ℕ). length (type_parents sig n)) t
+        ∙ sym (w.sound.elements_sound e j).parents_count;
+    ascend = rw w.laid.same (listed w.laid.elements.elements).ascend;
   }
 
--- An element, by what its field was read as.
-module _ {sig : Signature} {s index : List ℕ} {k : ℕ} (w : SoundAt sig s index k) (i : ℕ) (h : i < length (structure_in s k).elements) where
-  abbrev at : ℕ
-  at = position_at index k i
-
-  abbrev size : ℕ
-  size = size_at s index k i
-
-  pub element_lies : (4 ≤ size) × (at + 3 + size ≤ length s) × (size % 2 ≡ 0) × (size / 2 - 2 ≤ parent_limit)
-  element_lies = element_within w.laid.elements i (below_count w h)
-
-  pub parents_short : {bytes : List ℕ} → bytes ≡ take (size - 4) (drop (at + 7) s) → length (numbers bytes) ≤ parent_limit
-  unfolding stretch
-  parents_short {bytes} e =
-      let l = element_lies in
-      let n : length (stretch s (at + 7) (size - 4)) ≡ size - 4 = length_stretch s (at + 7) (size - 4) (omega arith) in
-      let m = length_numbers bytes in
-      let b : length bytes ≡ size - 4 = ap length e ∙ n in omega arith
-
-  pub element_read : {bytes : List ℕ} → bytes ≡ take (size - 4) (drop (at + 7) s)
-      → record { number = two_at s (at + 3); type = two_at s (at + 5); parents = numbers bytes } ≡ get_or (structure_in s k).elements i no_element
-  unfolding stretch
-  element_read e =
-      let l = element_lies in
-      let q : size - 4 ≡ 2 * (size / 2 - 2) = omega arith in
-      rw (e, q) (element_is w.laid.elements i (below_count w h) ∙ element_is_at w i h)
+  pub sound_view : SmallArities sig → Sound (record { sig = sig; structure = structure_in s k })
+  sound_view small = let f = formed_view in
+      record { sound = w.sound; small = small; preds_few = f.preds_few; funcs_few = f.funcs_few; ascend = f.ascend }

@@ -1,10 +1,10 @@
 -- The faults of a field as the definition's.
 use Rattle.std.specs.Prelude as std
-use Rattle.std.specs.Prelude.{Some, None, Result, Ok, Err, Bool, ◌&&◌, List, ℕ, ◌-◌, ◌≤◌, ◌<◌, length, take, drop}
+use Rattle.std.specs.Prelude.{Some, None, Result, Ok, Err, Bool, ◌&&◌, List, ℕ, ◌-◌, ◌≤◌, ◌<◌, eqb, length, take, drop}
 use Rattle.std.proofs.Math.Option.{Option, none, some}
 use Rattle.std.proofs.Common.{Bor}
-use Rattle.definition.specs.Base.{or_else, has}
-use Rattle.definition.specs.Letters.{letter_r, letter_a, letter_v, letter_i, letter_m, letter_k, letter_x}
+use Rattle.definition.specs.Base.{pick, or_else, has}
+use Rattle.definition.specs.Letters.{letter_n, letter_r, letter_a, letter_v, letter_i, letter_m, letter_k, letter_x}
 use Rattle.definition.specs.Limits.{structure_limit, field_limit}
 use Rattle.definition.specs.Records.{Field, numbers, fault_among}
 use Rattle.definition.specs.Signature.{Signature, symbol_count, arity}
@@ -89,6 +89,16 @@ module _ (sig : Signature) (named : List (List ℕ)) where
   check_of section.Map = map_fault named
   check_of section.Kind = kind_fault named
   check_of section.Auxiliary = auxiliary_fault named
+
+-- The section whose check is that of a letter's fields; a byte that is none of these letters has X's.
+unfoldable pub section_by : ℕ → SectionKind
+section_by letter = pick (eqb letter letter_n) section.Head
+    (pick (eqb letter letter_r) (section.Row Predicate)
+    (pick (eqb letter letter_a) (section.Row Function)
+    (pick (eqb letter letter_v) (section.Name Variable)
+    (pick (eqb letter letter_i) (section.Name Identifier)
+    (pick (eqb letter letter_m) section.Map
+    (pick (eqb letter letter_k) section.Kind section.Auxiliary))))))
 
 -- A section of a structure is checked when its elements are known.
 abbrev pub InStructure : SectionKind → ℕ → Type 0

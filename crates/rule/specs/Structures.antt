@@ -8,7 +8,6 @@ use Rattle.definition.specs.Rule.{Structure, Element, Name, name_of, row_of}
 use Rattle.definition.specs.Signature.{Signature, pred_of, func_of, type_parents, column_count}
 use Rattle.definition.specs.Walk.{structure_at}
 use Rattle.records.specs.Places.{two_at, stretch, Run}
-use Rattle.signature.specs.Index.{SmallArities}
 use Rattle.laws.specs.Sound.{SoundStructure}
 use Rattle.rule.specs.Layout.{place_r, place_a, name_place, section_from, section_to}
 use Rattle.rule.specs.Lookup.{rule_at}
@@ -51,7 +50,6 @@ pub record Headed (s : List ℕ) : Type 0 where
 
 -- Its elements, names and rows stand where the index says, and have no fault.
 pub record SoundAt (sig : Signature) (s index : List ℕ) (k : ℕ) : Type 0 where
-  pub small : SmallArities sig
   pub laid : Laid s index k
   pub sound : SoundStructure sig (structure_in s k)
   pub pred_fields : List Field

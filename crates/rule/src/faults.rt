@@ -1,8 +1,9 @@
 // The faults of a field, by its section, the lowest number first.
-ghost use Rattle.std.specs.Prelude.{◌||◌, ◌≡◌, ℕ, ◌*◌, ◌≤◌, ◌<◌, ltb, length, take};
+ghost use Rattle.std.specs.Prelude.{◌||◌, ◌⊎◌, ◌≡◌, ℕ, ◌*◌, ◌≤◌, ◌<◌, ltb, length, take};
 ghost use Rattle.std.proofs.Math.Option.{Option};
 ghost use Rattle.definition.specs.Records as definition;
 ghost use Rattle.definition.specs.Base.{all};
+ghost use Rattle.definition.specs.Letters.{letter_r, letter_a, letter_v, letter_i};
 ghost use Rattle.definition.specs.Records.{numbers, odd, not_above};
 ghost use Rattle.definition.specs.Rule.{
   keys_ascend,
@@ -18,11 +19,14 @@ ghost use Rattle.definition.specs.Rule.{
 ghost use Rattle.records.specs.Iter.{fields_in};
 ghost use Rattle.records.specs.Refusals.{fault_of};
 ghost use Rattle.rule.specs.Elements.{named_by};
-ghost use Rattle.rule.specs.Faults.{field_with, last_field, fault_at, Fits, Below, InStructure, name_key, row_check, name_check, check_of};
+ghost use Rattle.rule.specs.Faults.{field_with, last_field, fault_at, Fits, Below, InStructure, name_key, row_check, name_check, check_of, section_by};
 ghost use Rattle.rule.specs.Pairs.{pairs_in_bytes};
 
 use crate::elements::parents_named;
-use crate::ids::{ElId, FIELDS, MAPS, NAME_BYTES, STRUCTURES};
+use crate::ids::{
+    ElId, FIELDS, LETTER_A, LETTER_I, LETTER_K, LETTER_M, LETTER_N, LETTER_R, LETTER_V, MAPS,
+    NAME_BYTES, STRUCTURES,
+};
 use crate::known::Known;
 use crate::name::{NameKind, numbers_before};
 use crate::order::{Spot, first_not_above, name_not_above, results, row_not_above};
@@ -68,12 +72,20 @@ fn head_fault(content: &[u8]) -> Result<(), Refusal>
 }
 
 // An S field.
-#[tactic(auto, unfolding(definition::specs::Rule::structure_fault, definition::specs::Base::lowest))]
 pub fn structure_fault(content: &[u8], before: usize) -> Result<(), Refusal>
     ensures result_value { (letter : ℕ) → fault_of result ≡ structure_fault before (field_with letter content.now) }
     ensures below { Below result before }
 {
-    if !content.is_empty() {
+    structure_length_fault(content.len(), before)
+}
+
+// An S field, of whose content only the length is known.
+#[tactic(auto, unfolding(definition::specs::Rule::structure_fault, definition::specs::Base::lowest), using(crate::proofs::Drawn::empty_by))]
+pub fn structure_length_fault(len: usize, before: usize) -> Result<(), Refusal>
+    ensures result_value { (f : definition.Field) → length f.content ≡ len → fault_of result ≡ structure_fault before f }
+    ensures below { Below result before }
+{
+    if len != 0 {
         return Err(Refusal::BadLength);
     }
     if STRUCTURES <= before {
@@ -322,4 +334,34 @@ pub fn field_fault(
         SectionKind::Kind => kind_fault(known, f),
         SectionKind::Auxiliary => auxiliary_fault(known, f),
     }
+}
+
+// The section whose fields are checked as a letter's are; those of any other byte are checked as X fields.
+#[tactic(auto, unfolding(crate::specs::Faults::section_by))]
+pub fn section_by(letter: u8) -> SectionKind
+    ensures { result ≡ section_by letter }
+{
+    match letter {
+        LETTER_N => SectionKind::Head,
+        LETTER_R => SectionKind::Row(RowKind::Predicate),
+        LETTER_A => SectionKind::Row(RowKind::Function),
+        LETTER_V => SectionKind::Name(NameKind::Variable),
+        LETTER_I => SectionKind::Name(NameKind::Identifier),
+        LETTER_M => SectionKind::Map,
+        LETTER_K => SectionKind::Kind,
+        _ => SectionKind::Auxiliary,
+    }
+}
+
+// A field by its letter, which may be any byte.
+pub fn field_fault_by_letter(
+    sig: &Signature<'_>,
+    known: &Known<'_>,
+    letter: u8,
+    f: Spot<'_>,
+) -> Result<(), Refusal>
+    requires { letter ≡ letter_r ⊎ letter ≡ letter_a ⊎ letter ≡ letter_v ⊎ letter ≡ letter_i → 1 ≤ length known.now }
+    ensures { (own before : ℕ) → fault_of result ≡ fault_at (check_of sig.now known.now (section_by letter)) own before f.entry }
+{
+    field_fault(sig, known, section_by(letter), f)
 }

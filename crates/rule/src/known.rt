@@ -7,9 +7,9 @@ ghost use Rattle.rule.specs.Elements as elements;
 ghost use Rattle.rule.specs.Elements.{numbers_in};
 ghost use Rattle.rule.specs.Faults.{pair_named};
 ghost use Rattle.rule.specs.Pairs.{pairs_in_bytes};
+ghost use Rattle.rule.specs.Views.{listed_numbers};
 
-use crate::elements::find_element;
-use crate::els::Els;
+use crate::element_list::ElementList;
 use crate::ids::{ElId, RULE_INDEX};
 use records::fields::num;
 use std::marker::Model;
@@ -40,12 +40,24 @@ impl<'a> Known<'a> {
         self.structures
     }
 
+    // The elements of one.
+    fn elements(&self, structure: usize) -> ElementList<'a>
+        requires { structure < length self.now }
+        ensures { listed_numbers result ≡ elements_at self.now structure }
+    {
+        ElementList {
+            bytes: self.bytes,
+            index: self.index,
+            number: structure,
+        }
+    }
+
     // Is there such an element in a structure?
     pub fn has_element(&self, structure: usize, e: ElId) -> bool
         requires { structure < length self.now }
         ensures { result ≡ has e.0 (elements_at self.now structure) }
     {
-        find_element(self.bytes, self.index, structure, e).is_some()
+        self.elements(structure).has_element(e)
     }
 
     // Is there an element in each number of a content?
@@ -53,13 +65,7 @@ impl<'a> Known<'a> {
         requires { structure < length self.now }
         ensures { result ≡ all (λ (e : ℕ). has e (elements_at self.now structure)) (numbers els.now) }
     {
-        let list = Els { bytes: els };
-        for i in 0..list.count() {
-            if !self.has_element(structure, list.at(i)) {
-                return false;
-            }
-        }
-        true
+        self.elements(structure).has_elements(els)
     }
 
     // Is each key an element of the source and each image one of the target?

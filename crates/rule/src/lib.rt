@@ -1,6 +1,7 @@
 // The rule record: its N, S, E, R, A, V, I, M, K and X fields, their faults, the index of them, and what they say.
 #![tactic(auto)]
 
+pub mod element_list;
 pub mod elements;
 pub mod els;
 pub mod faults;

@@ -59,7 +59,20 @@ pub struct Rows<'a> {
 }
 
 impl<'a> Rows<'a> {
+    ghost use Rattle.definition.specs.Base.{each};
+    ghost use Rattle.definition.specs.Rule.{row_of};
+    ghost use Rattle.records.specs.Iter.{fields_in};
     ghost use Rattle.rule.specs.Row.{rows_left};
+
+    // Those of a section's bytes.
+    pub fn new(section: &'a [u8], kind: RowKind) -> Rows<'a>
+        ensures { rows_left result ≡ each (row_of (row_kind kind)) (fields_in section.now) }
+    {
+        Rows {
+            fields: Fields::new(section),
+            kind,
+        }
+    }
 
     // Has it no rows?
     pub fn is_empty(&self) -> bool

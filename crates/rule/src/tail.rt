@@ -1,12 +1,19 @@
-// The M, K and X fields of an accepted rule: what the content of each says. Structures are numbered from 0.
+// The M, K and X fields of a rule that was read: where they stand, and what the content of each says. Structures are numbered from 0.
 ghost use Rattle.std.specs.Prelude.{◌&&◌, ◌≡◌, eqb, get_or};
+ghost use Rattle.definition.specs.Rule as definition;
 ghost use Rattle.definition.specs.Rule.{If};
 ghost use Rattle.definition.specs.Walk.{auxiliary_kind};
-ghost use Rattle.rule.specs.Lookup.{kind_is};
+ghost use Rattle.rule.specs.Lookup.{kind_is, rule_at, Ready};
 ghost use Rattle.definition.specs.Records.{number_at};
 ghost use Rattle.rule.specs.Tail.{kinds, MapOf, KindOf, AuxiliaryOf};
+ghost use Rattle.rule.specs.Views.{MapsSound, TailSound};
 
+use crate::ids::{PLACE_K, PLACE_M, PLACE_X, RULE_INDEX};
+use crate::map::Map;
+use crate::sections::tail_part;
 use records::contents::number;
+use records::iter::Fields;
+use std::marker::Model;
 
 #[derive(Clone, Copy, Debug, PartialEq, Eq)]
 pub enum MorphismKind {
@@ -127,5 +134,67 @@ pub fn read_auxiliary(content: &[u8]) -> AuxiliaryField
         structure: number_or_zero(structure, 0),
         class,
         kind: kind_of_class(class),
+    }
+}
+
+// The M, K and X fields: the bytes of a rule that was read, and the index of its fields. In contracts it is the definition's rule. Nothing
+// is asked of the signature that it was read by.
+#[derive(Drop)]
+pub struct Tail<'a> {
+    pub bytes: &'a [u8],
+    pub index: &'a [u16; RULE_INDEX],
+}
+
+impl<'a> Model for Tail<'a> {
+    ghost Value = { definition.Rule };
+
+    ghost view = { λ t. rule_at t.bytes.now };
+
+    ghost invariant = { λ t. Ready t.bytes.now t.index.now };
+}
+
+impl<'a> Tail<'a> {
+    ghost use Rattle.definition.specs.Base.{each};
+    ghost use Rattle.definition.specs.Rule.{map_of, kind_of, auxiliary_of};
+    ghost use Rattle.definition.specs.Walk.{pairs_between};
+    ghost use Rattle.records.specs.Iter.{fields_left};
+    ghost use Rattle.rule.specs.Found.{found_pairs, Joins};
+
+    // The M fields.
+    pub fn maps(&self) -> Fields<'a>
+        ensures value { each map_of (fields_left result) ≡ self.now.maps }
+        ensures sound { MapsSound self.now }
+    {
+        Fields::new(tail_part(self.bytes, self.index, PLACE_M))
+    }
+
+    // The K fields.
+    pub fn kinds(&self) -> Fields<'a>
+        ensures value { each kind_of (fields_left result) ≡ self.now.kinds }
+        ensures sound { TailSound self.now }
+    {
+        Fields::new(tail_part(self.bytes, self.index, PLACE_K))
+    }
+
+    // The X fields.
+    pub fn auxiliaries(&self) -> Fields<'a>
+        ensures value { each auxiliary_of (fields_left result) ≡ self.now.auxiliaries }
+        ensures sound { TailSound self.now }
+    {
+        Fields::new(tail_part(self.bytes, self.index, PLACE_X))
+    }
+
+    // The map from one structure to another: the M fields are few, and stand in no order of their targets.
+    pub fn find_map(&self, source: usize, target: usize) -> Option<Map<'a>>
+        ensures value { found_pairs result ≡ pairs_between self.now.maps source target }
+        ensures joins { Joins result self.now source target }
+    {
+        for f in self.maps() {
+            let m = read_map(f.content);
+            if joins(m, source, target) {
+                return Some(Map { pairs: m.pairs });
+            }
+        }
+        None
     }
 }

@@ -20,14 +20,14 @@ use Rattle.records.specs.Iter.{fields_in}
 use Rattle.records.specs.declared.refusal.Refusal.{Refusal}
 use Rattle.std.proofs.Common as std
 use Rattle.std.proofs.Common.{Some, None, Result, Ok, Err}
-use Rattle.group.specs.Lookups.{content, statements_in}
+use Rattle.group.specs.Lookups.{table, statements_in}
 use Rattle.group.specs.Views.{statements_of, RuleSays}
 use Rattle.group.specs.declared.rule.FlatRule.{FlatRule}
 use Rattle.group.specs.declared.ids.Side.TheVariants.{Premise, Conclusion}
 use Rattle.scope.specs.Answers.{Leads, OwnersFrom}
 use Rattle.scope.specs.declared.answers.Owned.{Owned}
 use Rattle.scope.specs.Sides.{verdict_at, first_verdict}
-use Rattle.scope.specs.Statements.{accepted_by, owners_in, verdict_by}
+use Rattle.scope.specs.Statements.{owners_in, verdict_by}
 use Rattle.scope.specs.declared.answers.Owners.{Owners}
 
 -- The first verdict among statements: of none, and by the first of them.
@@ -41,9 +41,9 @@ unfolding first_of
 by_next f n q = rw (n, ← q)
 
 -- The conclusions' first verdict is the rule's where it settles, else the premises'.
-pub by_sides : (own : Owners) {x : definition.FlatRule} → RuleSays own.rule x → {o p : Option (Outcome Scope)}
-    → o ≡ first_of (verdict_by own Conclusion) (statements_of own.rule Conclusion) → p ≡ first_of (verdict_by own Premise) (statements_of own.rule Premise)
-    → or_else o p ≡ first_verdict (accepted_by own).signature (content (accepted_by own)).variables x own.model.0 (owners_in own)
+pub by_sides : (own : Owners) {rule : FlatRule} {x : definition.FlatRule} → RuleSays rule x → {o p : Option (Outcome Scope)}
+    → o ≡ first_of (verdict_by own Conclusion) (statements_of rule Conclusion) → p ≡ first_of (verdict_by own Premise) (statements_of rule Premise)
+    → or_else o p ≡ first_verdict own.signature.now (table own.table.now.bytes.now) x own.model.0 (owners_in own)
 unfolding first_verdict verdict_at
 by_sides own w d e = rw (w.conclusion, w.premise, ← d, ← e)
 

@@ -7,7 +7,7 @@ use lib.ListN.{length, take, length-take}
 use Rattle.std.proofs.lemmas.List.{get_or-take}
 use Rattle.definition.specs.Records.{numbers}
 use Rattle.laws.proofs.Numbers.{length_numbers, take_numbers}
-use Rattle.group.specs.Lookups.{Accepted, Named}
+use Rattle.group.specs.Lookups.{Named}
 
 module _ (vs : List ℕ) (count : ℕ) where
   pub long_enough : count ≤ length (numbers vs) → 2 * count ≤ length vs
@@ -16,7 +16,7 @@ module _ (vs : List ℕ) (count : ℕ) where
   pub taken_long : 2 * count ≤ length vs → 2 * count ≡ length (take (2 * count) vs)
   taken_long h = rw length-take (omega arith)
 
-  pub taken_named : {g : Accepted} → Named g (numbers vs) → Named g (numbers (take (2 * count) vs))
+  pub taken_named : {s : List ℕ} → Named s (numbers vs) → Named s (numbers (take (2 * count) vs))
   taken_named w = rw (← (take_numbers count vs)) (record {
     each = λ i h.
         let n : i < min count (length (numbers vs)) = rw length-take at h in

@@ -4,8 +4,9 @@ ghost use Rattle.definition.specs.Records.{numbers};
 ghost use Rattle.definition.specs.Scope.{owner_count};
 ghost use Rattle.group.specs.Lookups.{Named};
 
-use group::rule::FlatRule;
+use group::lookup::VariableTable;
 use signature::ids::TypeId;
+use signature::lookup::Signature;
 
 // A model and a rule's owners: `count` variables of two bytes each, from `start` on in the group. The first conclusion has them, and
 // the other statements are compared with it.
@@ -16,16 +17,17 @@ pub struct Owned {
     pub count: usize,
 }
 
-// The same while it is sought: the rule, the model that its first conclusion has, and the owners' numbers, two bytes each, as many as
-// the model asks for.
+// The same while it is sought: the signature and the group's variables, the model that the first conclusion has, and the owners' numbers,
+// two bytes each, as many as the model asks for.
 #[derive(Clone, Copy)]
 pub struct Owners<'a> {
-    pub rule: FlatRule<'a>,
+    pub signature: &'a Signature<'a>,
+    pub table: &'a VariableTable<'a>,
     pub model: TypeId,
     pub variables: &'a [u8],
-    pub ghost typed: { model.0 < length rule.group.now.signature.types },
-    pub ghost counted: { length variables.now ≡ 2 * owner_count rule.group.now.signature model.0 },
-    pub ghost named: { Named rule.group.now (numbers variables.now) },
+    pub ghost typed: { model.0 < length signature.now.types },
+    pub ghost counted: { length variables.now ≡ 2 * owner_count signature.now model.0 },
+    pub ghost named: { Named table.now.bytes.now (numbers variables.now) },
 }
 
 // A statement leaves the scope open, or settles that the rule belongs to no model.

@@ -20,7 +20,11 @@ pub fn scope(sig: &[u8], group: &[u8], position: usize) -> Result<Option<Owned>,
     let mut symbols = [0u16; INDEX];
     let signature = read_signature(sig, &mut symbols)?;
     let mut index = [0u16; GROUP_INDEX];
-    let found = read_group(&signature, group, &mut index)?;
+    // Not by `?`: wrong programs of this crate answer a group that isn't read otherwise, and keep the code's shape.
+    let found = match read_group(&signature, group, &mut index) {
+        Ok(found) => found,
+        Err(refusal) => return Err(refusal),
+    };
     if found.rules() <= position {
         return Err(Refusal::NoSuchRule);
     }

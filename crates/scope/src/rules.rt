@@ -6,8 +6,8 @@ ghost use Rattle.definition.specs.Signature.{parent_model};
 ghost use Rattle.definition.specs.Scope.{output_scope, conclusion_scope};
 ghost use Rattle.records.specs.Places.{stretch};
 ghost use Rattle.signature.specs.Relations.{kind_of, number_of};
-ghost use Rattle.group.specs.Lookups.{content, Sound};
-ghost use Rattle.group.specs.Views.{statement_from, statements_of, RuleSays};
+ghost use Rattle.group.specs.Lookups.{table, Sound};
+ghost use Rattle.group.specs.Views.{group_of, statement_from, statements_of, RuleSays};
 ghost use Rattle.scope.specs.Statements.{accepted_by, owners_in, verdict_by};
 ghost use Rattle.scope.specs.Sides.{first_verdict};
 ghost use Rattle.scope.specs.Answers.{verdict_of, scope_answer, Leads, OwnersFrom};
@@ -18,11 +18,12 @@ use group::ids::Side;
 use group::rule::{FlatRule, StatementView};
 use records::refusal::Refusal;
 
-// The first verdict of a side that settles the scope.
-fn section_verdict(own: &Owners<'_>, side: Side) -> Result<Verdict, Refusal>
-    ensures { verdict_of result ≡ first_of (verdict_by own.now side) (statements_of own.now.rule side) }
+// The first verdict of a side of a rule that settles the scope.
+fn section_verdict(rule: &FlatRule<'_>, own: &Owners<'_>, side: Side) -> Result<Verdict, Refusal>
+    requires { group_of rule.now ≡ accepted_by own.now }
+    ensures { verdict_of result ≡ first_of (verdict_by own.now side) (statements_of rule.now side) }
 {
-    for t in own.rule.statements(side) {
+    for t in rule.statements(side) {
         let v = statement_verdict(own, side, t)?;
         if v != Verdict::Open {
             return Ok(v);
@@ -32,30 +33,30 @@ fn section_verdict(own: &Owners<'_>, side: Side) -> Result<Verdict, Refusal>
 }
 
 // The first verdict of a rule: its conclusions', then its premises'.
-fn rule_verdict(own: &Owners<'_>) -> Result<Verdict, Refusal>
-    ensures { (x : definition.FlatRule) → RuleSays own.now.rule x → verdict_of result
-        ≡ first_verdict (accepted_by own.now).signature (content (accepted_by own.now)).variables x
-        own.now.model.0 (owners_in own.now) }
+fn rule_verdict(rule: &FlatRule<'_>, own: &Owners<'_>) -> Result<Verdict, Refusal>
+    requires { group_of rule.now ≡ accepted_by own.now }
+    ensures { (x : definition.FlatRule) → RuleSays rule.now x → verdict_of result
+        ≡ first_verdict own.now.signature.now (table own.now.table.now.bytes.now) x own.now.model.0 (owners_in own.now) }
 {
-    let v = section_verdict(own, Side::Conclusion)?;
+    let v = section_verdict(rule, own, Side::Conclusion)?;
     if v != Verdict::Open {
         return Ok(v);
     }
-    section_verdict(own, Side::Premise)
+    section_verdict(rule, own, Side::Premise)
 }
 
 // The scope of a rule by its first conclusion.
 #[tactic(auto, using(crate::proofs::InOrder::output_steps))]
 fn output_scope(rule: FlatRule<'_>, t: StatementView<'_>) -> Result<Option<Owned>, Refusal>
-    requires sound { Sound rule.group.now (statement_from t) }
-    requires within { rule.from + 6 + length t.variables.now ≤ length rule.group.now.bytes }
-    requires stands { t.variables.now ≡ stretch rule.group.now.bytes (rule.from + 6) (length t.variables.now) }
-    ensures result_value { (x : definition.FlatRule) → RuleSays rule.entry x → scope_answer rule.entry.group.now.bytes result
-        ≡ output_scope rule.entry.group.now.signature (content rule.entry.group.now).variables x (statement_from t.entry)
-        (parent_model rule.entry.group.now.signature (kind_of t.entry.relation) (number_of t.entry.relation)) }
-    ensures leads { Leads result (rule.entry.from + 6) (length rule.entry.group.now.bytes) }
+    requires sound { Sound (group_of rule) (statement_from t) }
+    requires within { rule.from + 6 + length t.variables.now ≤ length rule.table.now.bytes.now }
+    requires stands { t.variables.now ≡ stretch rule.table.now.bytes.now (rule.from + 6) (length t.variables.now) }
+    ensures result_value { (x : definition.FlatRule) → RuleSays rule.entry x → scope_answer rule.entry.table.now.bytes.now result
+        ≡ output_scope rule.entry.signature.now (table rule.entry.table.now.bytes.now) x (statement_from t.entry)
+        (parent_model rule.entry.signature.now (kind_of t.entry.relation) (number_of t.entry.relation)) }
+    ensures leads { Leads result (rule.entry.from + 6) (length rule.entry.table.now.bytes.now) }
 {
-    let sig = rule.group.signature();
+    let sig = rule.signature;
     let Some(model) = sig.parent_model(t.relation) else {
         return Ok(None);
     };
@@ -64,11 +65,12 @@ fn output_scope(rule: FlatRule<'_>, t: StatementView<'_>) -> Result<Option<Owned
         return Err(Refusal::TooFewVariables);
     }
     let own = Owners {
-        rule,
+        signature: sig,
+        table: rule.table,
         model,
         variables: &t.variables[..2 * count],
     };
-    match rule_verdict(&own)? {
+    match rule_verdict(&rule, &own)? {
         Verdict::Open => Ok(Some(Owned {
             model,
             start: rule.first_variables(),
@@ -80,9 +82,9 @@ fn output_scope(rule: FlatRule<'_>, t: StatementView<'_>) -> Result<Option<Owned
 
 // The scope of a rule.
 pub fn rule_scope(rule: FlatRule<'_>) -> Result<Option<Owned>, Refusal>
-    ensures result_value { (x : definition.FlatRule) → RuleSays rule.entry x → scope_answer rule.entry.group.now.bytes result
-        ≡ conclusion_scope rule.entry.group.now.signature (content rule.entry.group.now).variables x x.conclusion }
-    ensures owners_from { OwnersFrom result rule.entry (length rule.entry.group.now.bytes) }
+    ensures result_value { (x : definition.FlatRule) → RuleSays rule.entry x → scope_answer rule.entry.table.now.bytes.now result
+        ≡ conclusion_scope rule.entry.signature.now (table rule.entry.table.now.bytes.now) x x.conclusion }
+    ensures owners_from { OwnersFrom result rule.entry (length rule.entry.table.now.bytes.now) }
 {
     let mut conclusions = rule.statements(Side::Conclusion);
     let Some(first) = conclusions.next() else {

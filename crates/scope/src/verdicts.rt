@@ -5,7 +5,7 @@ ghost use Rattle.definition.specs.Signature.{type_parents};
 ghost use Rattle.definition.specs.Scope as definition;
 ghost use Rattle.definition.specs.Scope.{owner_count, owners_verdict};
 ghost use Rattle.signature.specs.Relations.{kind_of};
-ghost use Rattle.group.specs.Lookups.{content, Named, Sound};
+ghost use Rattle.group.specs.Lookups.{table, Named, Sound};
 ghost use Rattle.group.specs.Views.{statement_from};
 ghost use Rattle.scope.specs.Statements.{accepted_by, owners_in, verdict_by};
 ghost use Rattle.scope.specs.Answers.{verdict_of};
@@ -53,15 +53,17 @@ fn related(sig: &Signature<'_>, m: TypeId, p: TypeId) -> bool
 #[tactic(auto, using(crate::proofs::Settling::compared_steps))]
 fn compared(own: &Owners<'_>, count: usize, t: StatementView<'_>) -> Result<Verdict, Refusal>
     requires count_bound { 2 * count ≤ length own.now.variables.now }
-    requires named { Named (accepted_by own.now) (statement_from t).variables }
-    ensures { verdict_of result ≡ owners_verdict (content (accepted_by own.now)).variables
+    requires named { Named own.now.table.now.bytes.now (statement_from t).variables }
+    ensures { verdict_of result ≡ owners_verdict (table own.now.table.now.bytes.now)
         (owners_in own.now) count (statement_from t.entry) }
 {
     if t.count() < count {
         return Err(Refusal::TooFewVariables);
     }
-    let group = own.rule.group;
-    if group.same_variables(&t.variables[..2 * count], &own.variables[..2 * count]) {
+    if own
+        .table
+        .same_variables(&t.variables[..2 * count], &own.variables[..2 * count])
+    {
         return Ok(Verdict::Open);
     }
     Ok(Verdict::Global)
@@ -93,11 +95,10 @@ fn suits(sig: &Signature<'_>, side: Side, m: TypeId, p: TypeId) -> bool
 
 // How many of the owners a statement of a model must have: as many as both models have. Where the models are the same, all.
 fn shared_count(own: &Owners<'_>, parent: TypeId) -> usize
-    requires { parent.0 < length (accepted_by own.now).signature.types }
-    ensures { result ≡ min (owner_count (accepted_by own.now).signature parent.0)
-        (owner_count (accepted_by own.now).signature own.now.model.0) }
+    requires { parent.0 < length own.now.signature.now.types }
+    ensures { result ≡ min (owner_count own.now.signature.now parent.0) (owner_count own.now.signature.now own.now.model.0) }
 {
-    owner_count(own.rule.group.signature(), parent).min(own.variables.len() >> 1)
+    owner_count(own.signature, parent).min(own.variables.len() >> 1)
 }
 
 // What a statement settles.
@@ -110,7 +111,7 @@ pub fn statement_verdict(
     requires sound { Sound (accepted_by own.now) (statement_from t) }
     ensures { verdict_of result ≡ verdict_by own.now side (statement_from t.entry) }
 {
-    let sig = own.rule.group.signature();
+    let sig = own.signature;
     let Some(parent) = sig.parent_model(t.relation) else {
         return without_model(side, t.relation);
     };

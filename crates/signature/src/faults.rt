@@ -6,7 +6,7 @@ ghost use Rattle.definition.specs.Signature.{type_fault, symbol_fault};
 ghost use Rattle.records.specs.Refusals.{fault_of};
 ghost use Rattle.signature.specs.Faults.{columns_fault, check_of, letter_of, declaration};
 
-use crate::ids::{COLUMNS, PARENTS, SYMBOLS, SymbolKind};
+use crate::ids::{COLUMNS, LETTER_P, LETTER_T, PARENTS, SYMBOLS, SymbolKind};
 use records::contents::named;
 use records::refusal::Refusal;
 
@@ -50,6 +50,22 @@ fn symbol_fault(content: &[u8], results: usize, types: usize, before: usize) -> 
     columns_fault(&content[1..], COLUMNS, types, before)
 }
 
+// A field by its letter: T, P, or any other, which is taken as F.
+pub fn field_fault_by_letter(
+    letter: u8,
+    content: &[u8],
+    types: usize,
+    before: usize,
+) -> Result<(), Refusal>
+    ensures { (last : Option Field) → fault_of result ≡ check_of letter types before last (declaration letter content.now) }
+{
+    match letter {
+        LETTER_T => type_fault(content, types, before),
+        LETTER_P => symbol_fault(content, 0, types, before),
+        _ => symbol_fault(content, 1, types, before),
+    }
+}
+
 // A field that declares a symbol.
 pub fn field_fault(
     kind: SymbolKind,
@@ -59,9 +75,5 @@ pub fn field_fault(
 ) -> Result<(), Refusal>
     ensures { (last : Option Field) → fault_of result ≡ check_of (letter_of kind) types before last (declaration (letter_of kind) content.now) }
 {
-    match kind {
-        SymbolKind::Type => type_fault(content, types, before),
-        SymbolKind::Predicate => symbol_fault(content, 0, types, before),
-        SymbolKind::Function => symbol_fault(content, 1, types, before),
-    }
+    field_fault_by_letter(kind.letter(), content, types, before)
 }

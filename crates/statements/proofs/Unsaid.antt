@@ -15,7 +15,7 @@ use Rattle.laws.specs.Bytes.{statement_bytes}
 use Rattle.records.specs.Buffer.{Put, count_limit}
 use Rattle.records.proofs.Tail.{nothing}
 use Rattle.statements.specs.Said.{flagged_from, flagged, member_flag}
-use Rattle.statements.specs.Parts.{rows_said, members_said, types_said}
+use Rattle.statements.specs.Parts.{rows_kinded, members_said, types_said}
 use Rattle.statements.specs.declared.masks.SaidAs.{SaidAs}
 use Rattle.statements.proofs.Bytes.{statements_none}
 
@@ -35,9 +35,9 @@ kept_none mask e st [] = refl
 kept_none mask e st (r ∷ rs) = rw (none_no_flag mask e _) (kept_none mask e st rs)
 
 module _ (side : Side) (mask : Mask) (e : none_set mask ≡ true) where
-  pub rows_none : (said : SaidAs) → rows_said side said mask ≡ []
-  unfolding rows_said each
-  rows_none said = rw (flagged_none mask e 0)
+  pub rows_none : (kinds : Row → ℕ) (said : SaidAs) → rows_kinded side kinds said mask ≡ []
+  unfolding rows_kinded each
+  rows_none kinds said = rw (flagged_none mask e 0)
 
   pub members_none : members_said side mask ≡ []
   unfolding each

@@ -14,7 +14,6 @@ use Rattle.definition.specs.Writer.{two_bytes}
 use Rattle.group.proofs.Writing.{vars_from, vars_on, vars_end}
 use Rattle.laws.proofs.Lists.{never, length_each, get_d_each, each_append}
 use Rattle.records.proofs.Parts.{take_more, store_more}
-use Rattle.rows.proofs.Places.{numbers_many}
 use Rattle.rule.specs.Elements.{Finds}
 use Rattle.std.proofs.Common.{Some, None}
 
@@ -35,10 +34,9 @@ module _ (st : Structure) (vars : List ℕ) {e : ℕ} where
   unfolding variable_at
   variable_found f = rw (← f.is.0)
 
-  pub variable_absent : length vars ≡ length st.elements → Finds None e (numbers_of st) → 0 ≡ variable_at st vars e
+  pub variable_absent : length vars ≡ length (numbers_of st) → Finds None e (numbers_of st) → 0 ≡ variable_at st vars e
   unfolding variable_at
   variable_absent l f =
-      let n = numbers_many st in
       let p : place_from 0 e (numbers_of st) ≡ length (numbers_of st) = place_behind 0 e (numbers_of st) f.is ∙ zero-add _ in
       rw p (sym (get_or-eq_default vars 0 (omega arith)))
 

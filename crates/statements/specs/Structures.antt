@@ -11,4 +11,4 @@ side_of st row = record { structure = st; variables = variables_in st row }
 
 -- By the struct.
 abbrev pub side_from : Numbered → Side
-side_from x = record { structure = x.structure.now.structure; variables = x.vars.now }
+side_from x = record { structure = x.structure.now; variables = x.vars.now }

@@ -19,16 +19,13 @@ ghost use Rattle.statements.specs.Equalities.{equality_of, equalities_among, Typ
 use crate::numbered::Numbered;
 use flags::flag;
 use group::ids::Side;
-use group::statement::Statement;
-use group::write::put_statement;
+use group::write::put_statement_bytes;
 use records::write::past;
+use rows::link::Link;
 use rows::morphism::Morphism;
 use rule::ids::{ElId, FIELDS};
 use rule::map::Map;
-use signature::ids::{Relation, TypeId};
-
-// How many variables an Equality has.
-const EQUALITY_VARS: usize = 2;
+use signature::ids::EQUALITY;
 
 // The variables of the keys of an image, in the keys' order, and how many there are.
 #[derive(Clone, Copy)]
@@ -54,19 +51,14 @@ fn fiber_vars(source: Numbered<'_>, m: &Map<'_>, e: ElId) -> Fiber
 }
 
 // Equalities of a variable with each of those behind it, typed as the first one is.
-fn put_later(out: &mut [u8], from: usize, side: Side, types: &[u8], v: u16, later: &[u16]) -> usize
+fn put_later(out: &mut [u8], from: usize, letter: u8, types: &[u8], v: u16, later: &[u16]) -> usize
     requires { (from ≤ count_limit) × (v < length types.now) }
-    ensures { Put out.old out.new (statement_bytes (letter_of side) (each (equality_of types.now v) later.now)) from result }
+    ensures { Put out.old out.new (statement_bytes letter (each (equality_of types.now v) later.now)) from result }
 {
-    let ty = TypeId(u16::from(types[usize::from(v)]));
+    let symbol = u16::from(types[usize::from(v)]);
     let mut at = from;
     for w in later {
-        let equality = Statement {
-            relation: Relation::Equality(ty),
-            vars: [v, *w, 0, 0, 0, 0, 0, 0],
-            count: EQUALITY_VARS,
-        };
-        at = put_statement(out, at, side, equality);
+        at = put_statement_bytes(out, at, letter, EQUALITY, symbol, &[v, *w]);
     }
     at
 }
@@ -75,10 +67,10 @@ fn put_later(out: &mut [u8], from: usize, side: Side, types: &[u8], v: u16, late
 const EQUALITY_SHARE: usize = 5;
 
 // Equalities of each two of some variables.
-fn put_among(out: &mut [u8], from: usize, side: Side, types: &[u8], vars: &[u16]) -> usize
+fn put_among(out: &mut [u8], from: usize, letter: u8, types: &[u8], vars: &[u16]) -> usize
     requires from_le_count_limit { from ≤ count_limit }
     requires typed_vars { TypedVars vars.now (length types.now) }
-    ensures { Put out.old out.new (statement_bytes (letter_of side) (equalities_among types.now vars.now)) from result }
+    ensures { Put out.old out.new (statement_bytes letter (equalities_among types.now vars.now)) from result }
 {
     // Nothing of them fits: their length is enough.
     if out.len() <= from {
@@ -87,7 +79,7 @@ fn put_among(out: &mut [u8], from: usize, side: Side, types: &[u8], vars: &[u16]
     }
     let mut at = from;
     for (i, v) in vars.iter().enumerate() {
-        at = put_later(out, at, side, types, *v, &vars[i + 1..]);
+        at = put_later(out, at, letter, types, *v, &vars[i + 1..]);
     }
     at
 }
@@ -96,7 +88,7 @@ fn put_among(out: &mut [u8], from: usize, side: Side, types: &[u8], vars: &[u16]
 fn put_fiber(
     out: &mut [u8],
     from: usize,
-    side: Side,
+    letter: u8,
     source: Numbered<'_>,
     m: &Map<'_>,
     types: &[u8],
@@ -104,15 +96,44 @@ fn put_fiber(
 ) -> usize
     requires from_le_count_limit { from ≤ count_limit }
     requires keys_typed { KeysTyped (side_from source) (pairs_from m.now) (length types.now) }
-    ensures { Put out.old out.new (statement_bytes (letter_of side) (equalities_among types.now
+    ensures { Put out.old out.new (statement_bytes letter (equalities_among types.now
         (each (variable_in (side_from source.entry)) (fiber (pairs_from m.now) e.0)))) from result }
 {
     let fiber = fiber_vars(source, m, e);
-    put_among(out, from, side, types, &fiber.vars[..fiber.count])
+    put_among(out, from, letter, types, &fiber.vars[..fiber.count])
 }
 
-// An Equality for each kernel pair, by image in the order of the target's elements; only one that is flagged is the image of several
-// keys. `row` has the variables of the source's elements, by their places.
+// An Equality of any letter for each kernel pair, by image in the order of the target's elements; only one that is flagged is the image of
+// several keys. `row` has the variables of the source's elements, by their places.
+pub fn put_equalities_bytes(
+    out: &mut [u8],
+    from: usize,
+    letter: u8,
+    m: &Link<'_>,
+    row: &[u16; FIELDS],
+    types: &[u8],
+) -> usize
+    requires from_le_count_limit { from ≤ count_limit }
+    requires given_out { GivenOut m.now.source row.now (length types.now) }
+    ensures put { (table : List Variable) (target : definition.Side) → TypesOf table types.now → target.structure ≡ m.now.target
+        → Put out.old out.new
+        (statement_bytes letter (definition.equalities table (side_of m.now.source row.now) target m.now.pairs)) from result }
+    ensures upper_bound { result ≤ count_limit }
+{
+    let source = Numbered::of(m.source(), row);
+    let target = m.target();
+    let merged = m.merged();
+    let mut at = from;
+    for j in 0..target.element_count() {
+        if flag(merged, j) {
+            let e = target.element_number(j);
+            at = put_fiber(out, at, letter, source, m.map(), types, e);
+        }
+    }
+    at
+}
+
+// The same on a side, of a map with a signature.
 pub fn put_equalities(
     out: &mut [u8],
     from: usize,
@@ -129,23 +150,5 @@ pub fn put_equalities(
         (morphism_from m.now).pairs)) from result }
     ensures upper_bound { result ≤ count_limit }
 {
-    let source = m.source();
-    let numbered = Numbered::new(&source, row);
-    let target = m.target();
-    let merged = m.merged();
-    let mut at = from;
-    for j in 0..target.element_count() {
-        if flag(merged, j) {
-            at = put_fiber(
-                out,
-                at,
-                side,
-                numbered,
-                m.map(),
-                types,
-                target.element_number(j),
-            );
-        }
-    }
-    at
+    put_equalities_bytes(out, from, side.letter(), &m.link(), row, types)
 }

@@ -2,12 +2,12 @@
 ghost use Rattle.std.specs.Prelude.{◌≡◌};
 ghost use Rattle.rows.specs.Table.{Short};
 ghost use Rattle.rule.specs.Row.{row_from, rows_left};
-ghost use Rattle.statements.specs.Parts.{rows_as, part_as};
+ghost use Rattle.statements.specs.Parts.{rows_as, part_as, kind_said};
 
 use flags::Mask;
 use rule::row::{Row, Rows};
-use rule::views::Structure;
-use signature::ids::{FuncId, Relation};
+use rule::views::Body;
+use signature::ids::{FUNC_DOMAIN, FUNCTION, FuncId, PREDICATE, Relation};
 
 // Those of a structure.
 #[derive(Clone, Copy)]
@@ -27,13 +27,24 @@ pub enum SaidAs {
 }
 
 impl SaidAs {
-    // The rows of a structure that are said so.
-    pub fn rows<'a>(self, st: &Structure<'a>) -> Rows<'a>
-        ensures value { rows_left result ≡ rows_as self st.now.structure }
-        ensures short { Short (rows_as self st.now.structure) }
+    // The kind that they are said as.
+    pub fn kind(self) -> u8
+        ensures { result ≡ kind_said self }
     {
-        // Looking into the structure tells the proof that it is sound.
-        let _ = &st.sig;
+        match self {
+            SaidAs::Predicates => PREDICATE,
+            SaidAs::Functions => FUNCTION,
+            SaidAs::Domains => FUNC_DOMAIN,
+        }
+    }
+
+    // The rows of a structure that are said so.
+    pub fn rows<'a>(self, st: &Body<'a>) -> Rows<'a>
+        ensures value { rows_left result ≡ rows_as self st.now }
+        ensures short { Short (rows_as self st.now) }
+    {
+        // Looking into the structure tells the proof that it is well formed.
+        let _ = &st.number;
         match self {
             SaidAs::Predicates => st.pred_rows(),
             SaidAs::Functions | SaidAs::Domains => st.func_rows(),

@@ -1,29 +1,33 @@
 -- A map walked by the code: what its parts answer, put together.
-use Prim.Native.Nat.{ℕ, ◌+◌, ◌≤◌, ◌<◌}
+use Prim.Native.Nat.{ℕ, ◌+◌, ◌≤◌}
 use native.Mathlib.Omega.{arith}
-use mathlib.Core.Path.{◌≡◌, ap}
+use mathlib.Core.Path.{◌≡◌, refl, ap, ◌∙◌}
 use mathlib.Core.Logic.{◌⊎◌, inl, inr}
 use mathlib.Core.List.{List, []}
+use mathlib.Core.Option.{Option}
 use mathlib.Core.Bool.{true, false}
 use lib.ListN.{length, get_or}
 use lib.Seq.{sets}
 use Rattle.definition.specs.Base.{refused}
-use Rattle.definition.specs.Limits.{field_limit, variable_limit}
+use Rattle.definition.specs.Limits.{field_limit}
 use Rattle.definition.specs.Group.{Variable}
 use Rattle.definition.specs.Names.{numbered}
+use Rattle.definition.specs.Walk.{structure_at}
 use Rattle.flags.specs.declared.Mask.{Mask}
 use Rattle.rows.specs.Kernel.{TypesOf}
-use Rattle.rows.specs.Morphisms.{MorphismBy, Between}
+use Rattle.rows.specs.Links.{LinkBy, Linked}
+use Rattle.rows.specs.Morphisms.{MorphismBy}
 use Rattle.rule.specs.Lookup.{kind_is}
 use Rattle.rule.specs.declared.tail.MorphismKind as read
-use Rattle.rule.specs.Views.{RuleBy, SoundBy}
-use Rattle.naming.specs.Variables.{row_of, kept_in, GivenOut, new_in}
-use Rattle.naming.specs.Maps.{taken_over}
+use Rattle.rule.specs.Views.{RuleBy}
+use Rattle.naming.specs.Variables.{bare, row_of, kept_in, new_in}
+use Rattle.naming.specs.Maps.{taken_over, taken_between}
+use Rattle.naming.proofs.Carrying.{listed_taken}
 use Rattle.naming.proofs.Whole.{kept_row}
-use Rattle.naming.proofs.News.{types_of}
-use Rattle.naming.proofs.Reached.{images_taken}
+use Rattle.naming.proofs.News.{types_of, bare_new}
 use Rattle.statements.specs.declared.masks.Masks.{Masks}
-use Rattle.kinds.specs.Steps.{step_by, Reaches}
+use Rattle.kinds.specs.Edges.{step_with, edge_by}
+use Rattle.kinds.specs.Steps.{step_by}
 use Rattle.laws.specs.Numbering.{fresh}
 use Rattle.std.proofs.Common.{Result, Ok, Err}
 use Rattle.records.specs.Refusals.{number}
@@ -35,23 +39,28 @@ use Rattle.walk.specs.declared.tables.StructureMasks.{StructureMasks}
 use Rattle.walk.specs.declared.tables.Tables.{Tables}
 use Rattle.walk.specs.Tables.{SmallSources, row_at}
 use Rattle.walk.specs.Left.{Going}
+use Rattle.walk.specs.Linked.{Ready, Links}
 use Rattle.walk.specs.Went.{Visit, Kinded, map_on, Ends, Met, Does, whole_walk, Went}
-use Rattle.walk.proofs.Reaching.{given_more, source_reached, source_none}
+use Rattle.walk.proofs.Reaching.{is_reached, source_reached, source_none}
 use Rattle.walk.proofs.Walkable.{Walkable}
 use Rattle.walk.proofs.Growing.{grown}
-use Rattle.walk.proofs.Stepping.{row, taken, long, below, source_given, stepped}
+use Rattle.walk.proofs.Stepping.{row, taken, long, below, stepped}
 use Rattle.walk.proofs.Stepping as step
 use Rattle.walk.proofs.Mapping.{no_source, has_target, map_refused, map_accepted}
 use Rattle.walk.proofs.Folding.{stop, go_on}
 
--- A map of a kind that was met.
-module _ {x : RuleBy} {source target : ℕ} {kind : read.MorphismKind} {first : ℕ} {m : MorphismBy} {types : List ℕ} {tb : Tables} (w : SoundBy x)
-    (k : Kinded x source target kind) (e : m ≡ map_on x source target m.merged) (g : Going x tb types first target source) where
+-- A map by itself that is one of a rule.
+module _ {x : RuleBy} {l : LinkBy} {source target : ℕ} {kind : read.MorphismKind} {first : ℕ} {types : List ℕ} {tb : Tables}
+    (h : Links x l source target kind) (g : Going x tb types first target source) where
+  -- As the walk meets it.
+  abbrev m : MorphismBy
+  m = map_on x source target l.merged
+
   abbrev v : Visit
   v = record { morphism = m; source = source; target = target; kind = kind; first = first }
 
   met : Met x v
-  met = record { kinded = k; merged = m.merged; morphism = e }
+  met = record { kinded = h.kinded; merged = l.merged; morphism = refl }
 
   -- What `ends` answered: 23 or 24, or that the map can be walked.
   pub ends_stop : {tb' : Tables} {types' : List ℕ} {r : Refusal} → Ends (Err r) tb.sources source target → Went (Err r) x tb' types' target source
@@ -63,28 +72,54 @@ module _ {x : RuleBy} {source target : ℕ} {kind : read.MorphismKind} {first : 
       go : ((r ≡ UnreachedSource) × (is_some (get_or tb.sources source None) ≡ false))
           ⊎ ((r ≡ ReachedTarget) × (is_some (get_or tb.sources source None) ≡ true) × (is_some (get_or tb.sources target None) ≡ true))
           → whole_walk x ≡ refused (number r)
-      go (inl y) = rw y.0 (stop g met (no_source x g.walking source (kind_is kind) k.source_in (source_none tb source y.1)))
+      go (inl y) = rw y.0 (stop g met (no_source x g.walking source (kind_is kind) h.kinded.source_in (source_none tb source y.1)))
       go (inr y) =
           rw y.0 (stop g met (has_target x g.walking source (kind_is kind) (source_reached tb source small y.1) (source_reached tb target small y.2)))
 
-  pub walkable : Between m → {u : Unit {0}} → Ends (Ok u) tb.sources source target → Walkable x tb types v
-  walkable b d = record {
-    sound = w;
+  pub walkable : Linked l → length l.target.elements ≤ field_limit → {u : Unit {0}} → Ends (Ok u) tb.sources source target → Walkable x tb types v
+  walkable k few d = record {
+    keyed = h.keyed;
+    elements_few = rw h.to at few;
     met = met;
-    between = b;
+    between = record { keys = rw (h.from, h.pairs) at k.keys; images = rw (h.to, h.pairs) at k.images; merged = rw (h.to, h.pairs) at k.merged };
     going = g;
     reached = source_reached tb source g.walking.ties.sources_small d.is.0;
     free = source_none tb target d.is.1;
   }
 
--- What the parts of the code ask.
+  -- What the code's calls answered of the map by itself, of the one that was met.
+  pub row_over : (sourcevars : List ℕ) {targetvars : List ℕ}
+      → targetvars ≡ row_of (numbered first (taken_between sourcevars l.source.elements l.target.elements l.pairs))
+      → targetvars ≡ row_of (numbered first (taken_over sourcevars m))
+  row_over sourcevars e =
+      (rw (h.from, h.to, h.pairs) at e) ∙ ap (λ (t : List (Option ℕ)). row_of (numbered first t)) (listed_taken m.source m.target m.pairs sourcevars)
+
+  pub answered : (sourcevars targetvars : List ℕ) {r : Result Masks Refusal}
+      → ((table : List Variable) → TypesOf table types → Does (step_with x.sig (edge_by l sourcevars targetvars types)) table (kind_is kind) r)
+      → (table : List Variable) → TypesOf table types → Does (step_by m sourcevars targetvars types) table (kind_is kind) r
+  answered sourcevars targetvars d table t = rw (h.from, h.to, h.pairs) at (d table t)
+
+  pub types_over : (targetvars : List ℕ) {types' : List ℕ} → types' ≡ sets types first (types_of (new_in (bare l.target.elements) first targetvars))
+      → types' ≡ sets types first (types_of (new_in m.target first targetvars))
+  types_over targetvars e = rw h.to at (e ∙ ap (sets types first) (bare_new l.target first targetvars))
+
+-- What the walk over a rule gives of a map that it has come to.
+pub ready : {x : RuleBy} {tb : Tables} {types : List ℕ} {first source target : ℕ} {kind : read.MorphismKind} → Kinded x source target kind
+    → Going x tb types first target source → Ready (structure_at x.rule source) tb first (length types) source target
+ready {tb = tb} {source = source} {target = target} k g =
+    let w = g.walking in
+    let few = w.ties.few in
+    let i = k.source_in in
+    let j = k.target_in in
+    record {
+      source_in = omega arith;
+      target_in = omega arith;
+      given = λ e. rw w.next_is (is_reached w.ties source (source_reached tb source w.ties.sources_small e)).2.given;
+      room = λ e. let f = w.fewer (source_none tb target e) in let l = w.types_long in (omega arith, omega arith);
+    }
+
+-- What the code answers of a map that can be walked.
 module _ {x : RuleBy} {types : List ℕ} {tb : Tables} {v : Visit} (o : Walkable x tb types v) where
-  pub room : v.first + field_limit ≤ variable_limit
-  room = let f = o.going.walking.fewer o.free in let i = o.met.kinded.target_in in let l = o.sound.sound.structures_few in omega arith
-
-  pub typed_room : v.first + field_limit ≤ length types
-  typed_room = let f = o.going.walking.fewer o.free in let i = o.met.kinded.target_in in let l = o.going.walking.types_long in omega arith
-
   -- By the map as the definition has it.
   module _ {sourcevars targetvars : List ℕ} (b : sourcevars ≡ get_or tb.vars v.source [])
       (a : targetvars ≡ row_of (numbered v.first (taken_over sourcevars v.morphism))) where
@@ -96,16 +131,7 @@ module _ {x : RuleBy} {types : List ℕ} {tb : Tables} {v : Visit} (o : Walkable
     target_row : targetvars ≡ row o
     target_row = rw (source_row, o.met.morphism) at a
 
-    given_read : GivenOut v.morphism.source sourcevars v.first
-    given_read = rw (source_row, o.met.morphism) (source_given o)
-
-    pub reaches : Reaches v.morphism sourcevars targetvars v.first (length types)
-    reaches = record {
-      given_out = let r = typed_room in given_more (omega arith) given_read;
-      images = rw a (images_taken v.morphism o.between.keys given_read);
-    }
-
-    -- What `flatten_map` answered.
+    -- What `flatten_link` answered.
     abbrev Answered : Result Masks Refusal → Type 0
     Answered r = (table : List Variable) → TypesOf table types → Does (step_by v.morphism sourcevars targetvars types) table (kind_is v.kind) r
 
@@ -122,9 +148,6 @@ module _ {x : RuleBy} {types : List ℕ} {tb : Tables} {v : Visit} (o : Walkable
     -- How many are new.
     new_is : more ≡ fresh (taken o)
     new_is = rw (target_row, o.met.morphism) (ap fresh (kept_row (below o) (long o)))
-
-    pub new_small : v.first + more < 65536
-    new_small = rw new_is (let k = step.new_few o in let r = room in omega arith)
 
     pub went_on : {said : Masks} {merged : Mask} {tb' : Tables} {types' : List ℕ} → Answered (Ok said) → merged ≡ v.morphism.merged
         → types' ≡ sets types v.first (types_of (new_in v.morphism.target v.first targetvars))

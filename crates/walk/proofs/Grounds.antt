@@ -1,16 +1,12 @@
 -- What an accepted rule gives the walk.
-use Prim.Native.Nat.{ℕ, ◌≤◌, ◌<◌}
 use mathlib.Core.Path.{◌≡◌, refl}
 use mathlib.Core.List.Memᴰ
 use mathlib.Core.List.{List, []}
 use mathlib.Core.Option.{Option, none, some}
-use lib.ListN.{length}
 use Rattle.definition.specs.Base.{or_default, ◌∈◌}
-use Rattle.definition.specs.Limits.{field_limit}
 use Rattle.definition.specs.Rule.{Pair}
 use Rattle.definition.specs.Names.{numbers_of}
-use Rattle.definition.specs.Walk.{no_structure, pairs_between, structure_at}
-use Rattle.laws.proofs.Lists.{mem_at}
+use Rattle.definition.specs.Walk.{pairs_between, structure_at}
 use Rattle.rule.specs.Views.{RuleBy, SoundBy}
 use Rattle.rule.proofs.SoundParts.{between}
 use Rattle.walk.specs.Tables.{Keyed, pairs_on}
@@ -26,6 +22,3 @@ module _ {x : RuleBy} (w : SoundBy x) where
       go (some ps) e i = let b = between x.rule.maps source target e in
           let q = w.sound.maps_sound b.map b.in_maps in
           let k : p.key ∈ numbers_of (structure_at x.rule b.map.source) = q.keys_in p (rw b.pairs_are i) in rw b.source_is at k
-
-  pub elements_few : (k : ℕ) → k < length x.rule.structures → length (structure_at x.rule k).elements ≤ field_limit
-  elements_few k h = (w.sound.structures_sound _ (mem_at x.rule.structures k no_structure h)).elements_few

@@ -1,9 +1,9 @@
 -- A structure is reached: what the tables said of the others they say still.
 use Prim.Native.Nat.{ℕ, ◌<◌}
-use mathlib.Core.Path.{◌≡◌, ap, ◌∙◌}
+use mathlib.Core.Path.{◌≡◌, ap, sym, ◌∙◌}
 use mathlib.Core.Option.{Option, none, some}
 use mathlib.Core.List.{List, [], ◌++◌}
-use lib.ListN.{length, set, get_or-append}
+use lib.ListN.{length, set, get_or, get_or-append}
 use lib.Seq.{get_or-set_same, get_or-set_other}
 use Rattle.definition.specs.Base.{◌∈◌}
 use Rattle.definition.specs.Rule.{Rule, Pair}
@@ -15,7 +15,7 @@ use Rattle.laws.proofs.Fibers.{kernel_in}
 use Rattle.naming.specs.Variables.{GivenOut}
 use Rattle.walk.specs.declared.tables.Tables.{Tables}
 use Rattle.walk.specs.declared.tables.StructureMasks.{StructureMasks}
-use Rattle.walk.specs.Tables.{source_by, source_at, row_at, no_masks, masks_at, merged_at, pairs_on, Keyed, reached_by, equalities_at, said_at}
+use Rattle.walk.specs.Tables.{source_by, source_at, row_at, with_rows, no_masks, masks_at, merged_at, pairs_on, Keyed, reached_by, equalities_at, said_at}
 use Rattle.walk.specs.Tables.{domains_at, own_at, concluded_at, statements_of, statements_at, before}
 use Rattle.std.specs.Prelude.{Some, None}
 use Rattle.laws.proofs.Choices.{each_alike}
@@ -68,6 +68,19 @@ module _ (tb : Tables) (target source : ℕ) (ms : StructureMasks) (row : List �
   unfolding row_at
   row_same h = get_or-set_same tb.vars target row [] h
 
+  -- Among other rows the new one stands as well.
+  pub rows_same : target < length tb.vars → (vars : List (List ℕ))
+      → with_rows (grown tb target source ms row) (set vars target (row_at (grown tb target source ms row) target))
+      ≡ grown (with_rows tb vars) target source ms row
+  rows_same h vars = ap (grown (with_rows tb vars) target source ms) (row_same h)
+
+-- A row read in the tables, among other rows.
+pub row_among : (tb : Tables) (source : ℕ) (vars : List (List ℕ)) → get_or vars source [] ≡ row_at tb source
+    → get_or tb.vars source [] ≡ get_or vars source []
+unfolding row_at
+row_among tb source vars e = sym e
+
+module _ (tb : Tables) (target source : ℕ) (ms : StructureMasks) (row : List ℕ) where
   pub masks_same : target < length tb.masks → masks_at (grown tb target source ms row) target ≡ ms.said
   unfolding masks_at
   masks_same h = ap (λ (m : StructureMasks). m.said) (get_or-set_same tb.masks target ms no_masks h)

@@ -5,6 +5,8 @@ pub mod Folding
 pub mod Going
 pub mod Grounds
 pub mod Growing
+pub mod Leaving
+pub mod Linking
 pub mod Mapping
 pub mod Meeting
 pub mod Numbers

@@ -26,7 +26,6 @@ use Rattle.walk.specs.declared.tables.StructureMasks.{StructureMasks}
 use Rattle.walk.specs.Tables.{SmallSources, source_by, unreached, source_at, concluded_at, before, news_to, emitted_to}
 use Rattle.walk.specs.Walks.{ReachedAt, Tie, Ties}
 use Rattle.walk.specs.Went.{Visit}
-use Rattle.walk.proofs.Grounds.{keyed}
 use Rattle.walk.proofs.Walkable.{Walkable}
 use Rattle.walk.proofs.Growing.{grown, source_other, source_same, row_other, row_same, merged_other, own_stays, concluded_stays, before_stays}
 
@@ -132,7 +131,7 @@ module _ {x : RuleBy} {tb : Tables} {types : List ℕ} {v : Visit} (o : Walkable
         merged = λ h. rw (y, merged_other tb target source ms row k d) (a.merged h);
         statements = rw (
           before_stays slots tb target source ms row r k d e,
-          own_stays rule (keyed o.sound) table news tb target source ms row k
+          own_stays rule o.keyed table news tb target source ms row k
               d e g,
         ) a.statements;
       }
@@ -146,7 +145,7 @@ module _ {x : RuleBy} {tb : Tables} {types : List ℕ} {v : Visit} (o : Walkable
     where
       go : (k u : ℕ) → get_or more.sources k None ≡ Some u → Dec (k ≡ target) → u < unreached
       go k u e (yes q) =
-          let l = w.sources_long in let i = o.met.kinded.target_in in let f = o.sound.sound.structures_few in
+          let l = w.sources_long in let i = o.met.kinded.target_in in let f = w.few in
           let x : Some source ≡ Some u = rw (q, get_or-set_same tb.sources target (Some source) None (omega arith)) at e in
           rw (← (ap source_by x)) low
       go k u e (no d) = w.sources_small.small k u (rw (get_or-set_other tb.sources target k (Some source) None d) at e)
@@ -193,7 +192,7 @@ module _ {x : RuleBy} {tb : Tables} {types : List ℕ} {v : Visit} (o : Walkable
           let x = apart m a.2.source_in in
           let y = apart (source_at tb m) a.2.source_reached in
           let g = (is_reached w (source_at tb m) a.2.source_reached).2.given in
-          rw (before_stays slots tb target source ms row r m x y, concluded_stays rule (keyed o.sound) table news tb target source ms row m x y g)
+          rw (before_stays slots tb target source ms row r m x y, concluded_stays rule o.keyed table news tb target source ms row m x y g)
 
   -- And with it.
   pub news_grown : target < structure_limit → source < unreached → news_to rule more (suc target)

@@ -2,49 +2,28 @@
 use Prim.Native.Nat.{ℕ, ◌<◌}
 use native.Mathlib.Omega.{arith}
 use mathlib.Core.Path.{◌≡◌, refl}
-use mathlib.Core.List.{List}
 use mathlib.Core.Bool.{true}
 use mathlib.Core.Logic.{⊎_elim}
-use mathlib.Core.Option.{Option, some}
-use lib.ListN.{length, get_or}
+use mathlib.Core.Option.{Option, none, some}
 use borrow.Author.Tests.{ne_eqb}
 use Rattle.std.specs.Prelude as std
 use Rattle.std.specs.Prelude.{Some, None, unwrap_or}
 use Rattle.std.specs.Option.{is_some}
 use Rattle.laws.proofs.Lists.{never, trichotomy}
+use Rattle.plan.specs.Plan.{AllMapped}
 use Rattle.plan.specs.Table.{Entry, kind_in}
 use Rattle.definition.specs.Base.{given}
-use Rattle.definition.specs.Rule.{Pair, MorphismKind}
-use Rattle.definition.specs.Walk.{structure_at, pairs_between}
-use Rattle.rows.specs.Kernel.{Merged}
-use Rattle.rows.specs.Morphisms.{MorphismBy}
-use Rattle.naming.specs.Variables.{GivenOut}
+use Rattle.definition.specs.Rule.{MorphismKind}
+use Rattle.definition.specs.Walk.{pairs_between}
 use Rattle.walk.specs.Ended.{Reaching}
-use Rattle.walk.specs.Tables.{unreached, source_at, row_at, merged_at, kind_on, pairs_on, reached_by}
-use Rattle.walk.specs.Walked.{WalkedBy, Walks, Mapped, map_of, Sourced}
-use Rattle.walk.proofs.Reaching.{given_more, source_some, is_reached, reached_inside}
+use Rattle.walk.specs.Reached.{Found, ByMap, reach_of}
+use Rattle.walk.specs.Tables.{source_at, kind_on, reached_by}
+use Rattle.walk.specs.Walked.{WalkedBy, Mapped, Sourced}
 
-module _ (w : WalkedBy) (e : Walks w) (t : ℕ) where
-  pub sourced_none : get_or w.tb.sources t None ≡ None → Sourced None w t
-  unfolding source_at
-  sourced_none q = record { is = rw q }
-
-  pub sourced_some : {u : ℕ} → get_or w.tb.sources t None ≡ Some u → Sourced (Some u) w t
-  sourced_some {u} q =
-      let s = source_some w.tb t e.ties.sources_small q in
-      let r = (is_reached e.ties t s.1).2 in
-      record {
-        is = (
-          s.0,
-          record { inside = reached_inside e.ties t s.1; reached = s.1 },
-          record { inside = rw s.0 (reached_inside e.ties _ r.source_reached); reached = rw s.0 r.source_reached },
-          λ h. rw s.0 (r.source_down h),
-        );
-      }
-
-  -- Its variables have types.
-  pub row_given : source_at w.tb t < unreached → GivenOut (structure_at w.rule t) (row_at w.tb t) (length w.types)
-  row_given h = given_more e.types_long (is_reached e.ties t h).2.given
+-- The source that was found for it.
+pub sourced : {w : WalkedBy} {t : ℕ} (o : std.Option ℕ) → Found o (reach_of w) t → Sourced o w t
+sourced (Some u) f = record { is = f.is }
+sourced None f = record { is = f.is }
 
 -- The kind by which a structure was reached.
 module _ {w : WalkedBy} {t u : ℕ} (s : Sourced (Some u) w t) where
@@ -66,26 +45,24 @@ module _ (w : WalkedBy) (t : ℕ) (m : Mapped w t) where
   unfolding reached_by
   kind_there = rw (ne_eqb t 0 not_first) at m
 
+-- Every kind has its map.
+pub by_map : (w : WalkedBy) → AllMapped w.rule → (t : ℕ) → Mapped w t → ByMap (reach_of w) t
+unfolding kind_on
+by_map w a t m = record {
+  behind = above (not_first w t m);
+  has_map = go (kind_on w.rule (source_at w.tb t) t) refl (kind_there w t m);
+}
+  where
+    above : (t ≡ 0 → ⊥) → 0 < t
+    above l = ⊎_elim (λ z. absurd (omega arith)) (⊎_elim (λ z. absurd (l z)) (λ z. z)) (trichotomy t 0)
+
+    go : (o : Option MorphismKind) → kind_on w.rule (source_at w.tb t) t ≡ o → given o ≡ true
+        → given (pairs_between w.rule.maps (source_at w.tb t) t) ≡ true
+    go (some kind) e g = (a.mapped _ t kind e).has_map
+    go none e g = never g refl
+
 -- The source of a structure that was reached, as a number, and the pairs of its map.
 pub some_source : {w : WalkedBy} {t : ℕ} {r : std.Option ℕ} → Reaching w.rule w.tb t → Sourced r w t
     → (unwrap_or r 0 ≡ source_at w.tb t) × Reaching w.rule w.tb (unwrap_or r 0)
 some_source {r = Some u} h s = (s.is.0, s.is.2)
 some_source {r = None} h s = let q = s.is in let l = h.reached in absurd (omega arith)
-
--- Its map, of the pairs that were found.
-module _ (w : WalkedBy) (t : ℕ) {u : ℕ} {pairs : List Pair} (s : u ≡ source_at w.tb t) (p : some pairs ≡ pairs_between w.rule.maps u t) where
-  pairs_there : pairs_on w.rule (source_at w.tb t) t ≡ pairs
-  unfolding pairs_on
-  pairs_there = rw (← s, ← p) refl
-
-  pub merged_there : Walks w → source_at w.tb t < unreached → Mapped w t → Merged (merged_at w.tb t) (structure_at w.rule t) pairs
-  merged_there e h m =
-      let l = not_first w t m in rw pairs_there at ((is_reached e.ties t h).2.merged (above l))
-    where
-      above : (t ≡ 0 → ⊥) → 0 < t
-      above l = ⊎_elim (λ z. absurd (omega arith)) (⊎_elim (λ z. absurd (l z)) (λ z. z)) (trichotomy t 0)
-
-  pub map_there : {m : MorphismBy}
-      → m ≡ record { sig = w.sig; source = structure_at w.rule u; target = structure_at w.rule t; pairs = pairs; merged = merged_at w.tb t }
-      → m ≡ map_of w t
-  map_there e = rw (pairs_there, ← s) e

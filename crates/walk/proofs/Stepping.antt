@@ -39,7 +39,6 @@ use Rattle.walk.specs.Tables.{unreached, source_at, row_at, masks_at, merged_at,
 use Rattle.walk.specs.Tables.{equalities_at, said_at, domains_at, own_at, concluded_at, statements_of, statements_at, before, news_to, emitted_to}
 use Rattle.walk.specs.Walks.{ReachedAt, Walking}
 use Rattle.walk.specs.Went.{Visit, map_on}
-use Rattle.walk.proofs.Grounds.{elements_few}
 use Rattle.walk.proofs.Walkable.{Walkable}
 use Rattle.walk.proofs.Growing.{grown, source_other, source_same, row_other, row_same, masks_same, merged_same, statements_other, equalities_stay}
 use Rattle.walk.proofs.Reaching.{is_reached, ties_grow, news_none, emitted_none, news_grown, emitted_grown}
@@ -118,7 +117,7 @@ module _ {x : RuleBy} {tb : Tables} {types : List ℕ} {v : Visit} (o : Walkable
   first e = let q : source_at tb 0 ≡ unreached = rw e at o.free in let f = w.first_reached in omega arith
 
   in_limit : target < structure_limit
-  in_limit = let i = o.met.kinded.target_in in let f = o.sound.sound.structures_few in omega arith
+  in_limit = let i = o.met.kinded.target_in in let f = w.ties.few in omega arith
 
   down : source < target
   down = go (trichotomy source target)
@@ -157,7 +156,7 @@ module _ {x : RuleBy} {tb : Tables} {types : List ℕ} {v : Visit} (o : Walkable
   below = taken_below m between.keys source_given
 
   pub new_few : fresh taken ≤ field_limit
-  new_few = let k = fresh_few taken in let l = long in let e = elements_few o.sound target o.met.kinded.target_in in omega arith
+  new_few = let k = fresh_few taken in let l = long in let e = o.elements_few in omega arith
 
   count_news : length news ≡ fresh taken
   count_news = new_length (structure_at rule target) next (structure_at rule target).elements taken (sym long)

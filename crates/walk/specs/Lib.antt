@@ -4,4 +4,6 @@ pub mod Walks
 pub mod Left
 pub mod Ended
 pub mod Went
+pub mod Linked
 pub mod Walked
+pub mod Reached

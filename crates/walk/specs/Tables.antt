@@ -41,6 +41,10 @@ pub record SmallSources (tb : Tables) : Type 0 where
 unfoldable pub row_at : Tables → ℕ → List ℕ
 row_at tb t = get_or tb.vars t []
 
+-- The tables with other rows.
+abbrev pub with_rows : Tables → List (List ℕ) → Tables
+with_rows tb vars = record { sources = tb.sources; masks = tb.masks; vars = vars }
+
 -- The masks of a structure that says all that it has.
 abbrev pub all_masks : StructureMasks
 all_masks = record { said = record { preds = all_flags; funcs = all_flags; members = all_flags; free = all_flags }; merged = no_flags }

@@ -2,8 +2,10 @@
 ghost use Rattle.walk.specs.Ended.{Ended};
 ghost use Rattle.walk.specs.Walked.{WalkedBy, state_left, walked_by};
 
+use crate::reached::Reached;
 use crate::tables::{StructureMasks, Tables};
 use plan::plan::Plan;
+use plan::table::Kinds;
 use rows::morphism::Morphism;
 use rule::ids::FIELDS;
 use rule::tail::MorphismKind;
@@ -28,14 +30,15 @@ impl<'a> Model for Walked<'a> {
 }
 
 impl<'a> Walked<'a> {
-    ghost use Rattle.std.specs.Prelude.{true, ◌≡◌, ◌<◌, length};
+    ghost use Rattle.std.specs.Prelude.{true, ◌≡◌, ℕ, ◌<◌, length};
     ghost use Rattle.std.specs.Option.{is_some};
     ghost use Rattle.definition.specs.Walk.{structure_at};
     ghost use Rattle.rule.specs.Views.{SoundBy};
     ghost use Rattle.naming.specs.Variables.{GivenOut};
-    ghost use Rattle.plan.specs.Table.{kind_in};
+    ghost use Rattle.plan.specs.Table.{kind_in, kinds_all, Tabled};
     ghost use Rattle.rows.specs.Morphism.{morphism_from};
     ghost use Rattle.walk.specs.Ended.{Reaching};
+    ghost use Rattle.walk.specs.Reached.{ByMap, reach_of};
     ghost use Rattle.walk.specs.Tables.{unreached, source_at, row_at, masks_at, merged_at, reached_by};
     ghost use Rattle.walk.specs.Walked.{Mapped, map_of, Sourced, Walks};
 
@@ -44,6 +47,28 @@ impl<'a> Walked<'a> {
         ensures { result.now ≡ record { sig = self.now.sig; rule = self.now.rule } }
     {
         self.plan.rule()
+    }
+
+    // What the walk leaves, without the signature.
+    pub fn reached(&self) -> Reached<'a>
+        ensures value { result ≡ reach_of self.now }
+        ensures walks { Walks self.now }
+        ensures mapped { (t : ℕ) → Mapped self.now t → ByMap (reach_of self.now) t }
+    {
+        let rule = self.plan.rule();
+        Reached {
+            bytes: rule.bytes,
+            index: rule.index,
+            tables: self.tables,
+            types: self.types,
+        }
+    }
+
+    // The table of its kinds.
+    pub fn kinds(&self) -> &'a Kinds
+        ensures { Tabled result.now (kinds_all self.now.rule) }
+    {
+        self.plan.kinds()
     }
 
     // How many structures it has.
@@ -68,9 +93,7 @@ impl<'a> Walked<'a> {
         requires { t < length self.now.rule.structures }
         ensures { Sourced result self.now t }
     {
-        let tables = self.tables;
-        let source = tables.sources[t]?;
-        Some(usize::from(source))
+        self.reached().source(t)
     }
 
     // Its masks.
@@ -79,8 +102,7 @@ impl<'a> Walked<'a> {
         ensures said { result.said ≡ masks_at self.now.tb t }
         ensures merged { result.merged ≡ merged_at self.now.tb t }
     {
-        let tables = self.tables;
-        tables.masks[t]
+        self.reached().masks(t)
     }
 
     // The variables of its elements: if it was reached, they have types.
@@ -89,8 +111,7 @@ impl<'a> Walked<'a> {
         ensures value { result.now ≡ row_at self.now.tb t }
         ensures given_out { source_at self.now.tb t < unreached → GivenOut (structure_at self.now.rule t) result.now (length self.now.types) }
     {
-        let tables = self.tables;
-        &tables.vars[t]
+        self.reached().row(t)
     }
 
     // The kind by which a structure was reached; structure 0 was reached by none.
@@ -113,8 +134,7 @@ impl<'a> Walked<'a> {
         ensures { morphism_from result ≡ map_of self.now t }
     {
         let source = self.source(t).unwrap_or(0);
-        let map = self.plan.map(source, t);
-        let merged = self.masks(t).merged;
-        Morphism::new(self.rule(), source, t, map, merged)
+        let link = self.reached().link(t);
+        Morphism::new(self.rule(), source, t, link.map, link.merged)
     }
 }

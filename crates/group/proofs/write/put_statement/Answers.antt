@@ -1,5 +1,4 @@
-use Rattle.records.proofs.Tail.{lent}
 use Rattle.group.proofs.write.put_statement.Goals as goal
 
 pub returns : goal.returns
-returns c = lent c.min-rest.ensures c.write_statement-len.ensures c.past.ensures c.requires.0
+returns c = rw (← c.letter.ensures, ← c.kind.ensures, ← c.number.ensures) c.put_statement_bytes.ensures

@@ -1,9 +1,4 @@
-use Rattle.group.specs.Written.{statement_head}
-use Rattle.records.proofs.Tail.{then}
 use Rattle.group.proofs.write.put_statement_head.Goals as goal
 
 pub returns : goal.returns
-unfolding statement_head
-returns c =
-    rw (← c.letter.ensures, ← c.kind.ensures, ← c.number.ensures)
-    (then (then c.put_field_head-head.ensures c.put_byte-behind.ensures) c.put_num.ensures)
+returns c = rw (← c.letter.ensures, ← c.kind.ensures, ← c.number.ensures) c.put_head_bytes.ensures

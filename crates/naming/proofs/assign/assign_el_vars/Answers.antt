@@ -1,8 +1,17 @@
-use Rattle.naming.specs.Variables.{taken_in}
+use Rattle.naming.proofs.Carrying.{listed_joins, listed_taken}
 use Rattle.naming.proofs.assign.assign_el_vars.Goals as goal
 
+pub assign_listed_el_vars-requires-clause-joins : goal.assign_listed_el_vars-requires-clause-joins
+assign_listed_el_vars-requires-clause-joins c =
+    rw (c.elements-source.ensures.value, c.source.ensures.value, c.elements-target.ensures.value, c.target.ensures.value, c.map.ensures.value)
+    (listed_joins _ _ _ c.map.ensures.between.keys c.map.ensures.between.images)
+
 pub returns : goal.returns
-unfolding taken_in
 returns c =
-    let n = rw c.target.ensures.value at c.element_count.ensures.count_value in
-    rw (← c.carried.ensures, ← n) c.assign_structure_el_vars.ensures
+    rw (← (listed_taken _ _ _ _)) (rw (
+      c.elements-source.ensures.value,
+      c.source.ensures.value,
+      c.elements-target.ensures.value,
+      c.target.ensures.value,
+      c.map.ensures.value,
+    ) at c.assign_listed_el_vars.ensures)

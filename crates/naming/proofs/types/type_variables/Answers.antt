@@ -1,28 +1,8 @@
-use Rattle.std.proofs.Common.{rules, ap, arith}
-use Rattle.definition.specs.Rule.{Element}
-use Rattle.rule.proofs.NameSoundness.{type_small}
-use Rattle.naming.proofs.Entries.{entries_long}
-use Rattle.naming.proofs.News.{type_on, type_pass, type_end, new_all}
-use Rattle.naming.proofs.types.type_variables.Goals.{then-first-var, else-first-var}
+use Rattle.naming.proofs.News.{bare_new, sound_bytes}
 use Rattle.naming.proofs.types.type_variables.Goals as goal
 
-pub overflow_cast-types : goal.overflow_cast-types
-overflow_cast-types c =
-    let l = entries_long c.element_count.ensures.sound c.element_count.ensures.count_value c.args.row.now (omega arith) in
-    let small = type_small c.element_count.ensures.sound c.loop-i.i (omega arith) in
-    let is = ap (λ (e : Element). e.type) c.element.ensures.value in
-    search rules
-
-pub loop-i-preserved : goal.loop-i-preserved
-loop-i-preserved c =
-    let l = entries_long c.element_count.ensures.sound c.element_count.ensures.count_value c.args.row.now (omega arith) in
-    elim c.if-first-var.branch [
-      | then-first-var w ↦ rw (w.types-is, w.number-is)
-          (type_on c.loop-i.invariant l c.loop-i-test.true w.if-first-var.true (ap (λ (e : Element). e.type) w.element.ensures.value))
-      | else-first-var w ↦ rw (w.types-is, w.number-is) (type_pass c.loop-i.invariant l c.loop-i-test.true (omega arith))
-    ]
+pub type_listed_variables-requires-clause-byte_types : goal.type_listed_variables-requires-clause-byte_types
+type_listed_variables-requires-clause-byte_types c = rw c.elements.ensures.value (sound_bytes c.elements.ensures.sound)
 
 pub returns : goal.returns
-returns c =
-    let l = entries_long c.element_count.ensures.sound c.element_count.ensures.count_value c.args.row.now (omega arith) in
-    rw (new_all, ← c.element_count.ensures.count_value) (type_end c.loop-i.invariant l c.loop-i-test.false)
+returns c = rw (← (bare_new _ _ _)) (rw c.elements.ensures.value at c.type_listed_variables.ensures)

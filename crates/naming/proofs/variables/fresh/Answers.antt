@@ -1,8 +1,4 @@
-use lib.Seq.{take_all}
-use Rattle.naming.specs.Variables.{kept_in}
-use Rattle.naming.proofs.Entries.{fresh_counted}
 use Rattle.naming.proofs.variables.fresh.Goals as goal
 
-pub returns : goal.returns
-unfolding kept_in
-returns c = rw (← c.element_count.ensures.count_value) (rw (c.loop-var.invariant, take_all _ _ c.loop-var-test.false) (fresh_counted _ _))
+pub fresh_in-requires : goal.fresh_in-requires
+fresh_in-requires c = rw (← c.element_count.ensures.count_value) at c.element_count.ensures.sound.sound.elements_few

@@ -1,25 +1,18 @@
-use Rattle.std.proofs.Common.{arith}
-use Rattle.naming.proofs.Entries.{entries_long}
-use Rattle.naming.proofs.News.{new_all}
-use Rattle.naming.proofs.Printing.{printing_on, printing_pass, printing_end, printing_count}
-use Rattle.naming.proofs.writer.put_variables.Goals.{then-first-var, else-first-var}
+use Rattle.naming.proofs.Basing.{sound_short}
+use Rattle.naming.proofs.News.{new_spare}
 use Rattle.naming.proofs.writer.put_variables.Goals as goal
 
-pub loop-i-preserved : goal.loop-i-preserved
-loop-i-preserved c =
-    let l = entries_long c.element_count.ensures.sound c.element_count.ensures.count_value c.args.row.now (omega arith) in
-    elim c.if-first-var.branch [
-      | then-first-var w ↦ rw (w.out-is, w.at-is, w.number-is)
-          (printing_on c.loop-i.invariant l c.loop-i-test.true w.if-first-var.true w.put_new_variable-at.ensures)
-      | else-first-var w ↦ rw (w.out-is, w.at-is, w.number-is) (printing_pass c.loop-i.invariant l c.loop-i-test.true (omega arith))
-    ]
+pub put_listed_variables-requires-clause-short : goal.put_listed_variables-requires-clause-short
+put_listed_variables-requires-clause-short c =
+    let w = c.elements-elements.ensures.sound.sound in
+    (rw c.names-variables.ensures (sound_short w.variables_sound), rw c.names-identifiers.ensures (sound_short w.identifiers_sound))
 
 pub returns-clause-put : goal.returns-clause-put
 returns-clause-put c =
-    let l = entries_long c.element_count.ensures.sound c.element_count.ensures.count_value c.args.row.now (omega arith) in
-    rw (new_all, ← c.element_count.ensures.count_value) (printing_end c.loop-i.invariant l c.loop-i-test.false)
+    rw (← new_spare c.args.st.now.structure _ _)
+    (rw (c.elements-elements.ensures.value, c.names-variables.ensures, c.names-identifiers.ensures) at c.put_listed_variables.ensures.put)
 
 pub returns-clause-next_after : goal.returns-clause-next_after
 returns-clause-next_after c =
-    let l = entries_long c.element_count.ensures.sound c.element_count.ensures.count_value c.args.row.now (omega arith) in
-    rw (new_all, ← c.element_count.ensures.count_value) (printing_count c.loop-i.invariant l c.loop-i-test.false)
+    rw (← new_spare c.args.st.now.structure _ _)
+    (rw (c.elements-elements.ensures.value, c.names-variables.ensures, c.names-identifiers.ensures) at c.put_listed_variables.ensures.next_after)

@@ -7,4 +7,4 @@ use Rattle.plan.proofs.sources.unmapped_auxiliary.Goals as goal
 
 pub returns : goal.returns
 unfolding unmapped_auxiliary
-returns c = rw c.auxiliaries.ensures.value at (any_told auxiliary_of (no_source c.args.rule.now.rule.maps) (λ x r h k. search rules) c.any.ensures.ran)
+returns c = rw c.auxiliaries.ensures.value at (any_told auxiliary_of (no_source c.args.tail.now.maps) (λ x r h k. search rules) c.any.ensures.ran)

@@ -7,4 +7,4 @@ use Rattle.plan.proofs.sources.unmapped_kind.Goals as goal
 
 pub returns : goal.returns
 unfolding unmapped_kind
-returns c = rw c.kinds.ensures.value at (any_told kind_of (no_map c.args.rule.now.rule.maps) (λ x r h k. search rules) c.any.ensures.ran)
+returns c = rw c.kinds.ensures.value at (any_told kind_of (no_map c.args.tail.now.maps) (λ x r h k. search rules) c.any.ensures.ran)

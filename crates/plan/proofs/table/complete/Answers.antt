@@ -7,10 +7,10 @@ use Rattle.plan.proofs.table.complete.Goals as goal
 pub add-requires : goal.add-requires
 unfolding each
 add-requires c =
-    let p = pair_placed (rw c.in-Some.ensures.steps.0 at c.loop-f.invariant.2) in
+    let p = pair_placed (rw c.in-Some.ensures.steps.0 at c.loop-f.invariant.2) c.incoming_source.ensures.sound c.auxiliaries-f-items.ensures.sound in
     let s = c.read_auxiliary-x.ensures.structure_is c.in-Some.f.letter in
-    (rw (c.unwrap_or.ensures, lowest_is _ c.incoming_source.ensures, s) p.source_in, rw s p.target_in)
+    (rw (c.unwrap_or.ensures, lowest_is _ c.incoming_source.ensures.value, s) p.source_in, rw s p.target_in)
 
-pub returns-clause-tabled : goal.returns-clause-tabled
+pub returns : goal.returns
 unfolding each
-returns-clause-tabled c = complete_end (rw c.in-None.ensures.steps.0 at c.loop-f.invariant.2)
+returns c = complete_end (rw c.in-None.ensures.steps.0 at c.loop-f.invariant.2)

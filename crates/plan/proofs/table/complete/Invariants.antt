@@ -7,4 +7,4 @@ use Rattle.plan.proofs.table.complete.Given as goal
 abbrev pub invariant-loop-f : goal.invariant-loop-f
 invariant-loop-f l =
     (goal.iterator-loop-f).can_next l.f-iterator × (goal.iterator-loop-f).is_finite l.f-iterator
-    × Completing l.rule.rule (each auxiliary_of (fields_left l.f-iterator)) l.table
+    × Completing l.tail (each auxiliary_of (fields_left l.f-iterator)) l.table

@@ -1,11 +1,11 @@
-use mathlib.Core.List.{[]}
-use Rattle.rule.proofs.Soundness.{sound_seen}
-use Rattle.rows.proofs.ArgumentLaws.{marks_none, constrained_say}
-use Rattle.rows.proofs.Places.{few_places}
+use mathlib.Core.Path.{◌≡◌, sym, ap}
+use Rattle.definition.specs.Names.{numbers_of}
+use Rattle.rule.specs.Views.{StructureBy, listed_numbers}
+use Rattle.rows.proofs.Places.{numbers_listed}
 use Rattle.rows.proofs.arguments.constrained_els.Goals as goal
 
 pub returns : goal.returns
 returns c =
-    let few = few_places (sound_seen c.st.invariant c.st.view_is) in
-    let marks = rw (c.pred_rows.ensures, c.func_rows.ensures) at (c.mark_rows-2.ensures _ (c.mark_rows.ensures [] (marks_none _ few))) in
-    constrained_say _ _ marks (rw c.mark_rows-2.array_long few)
+    let same : numbers_of c.args.st.now.structure ≡ listed_numbers c.elements.result = rw c.elements.ensures.value (numbers_listed _) in
+    let told = c.constrained_among.ensures c.args.st.now.structure same (sym c.pred_rows.ensures) (sym c.func_rows.ensures) in
+    rw (c.elements.ensures.value, ap (λ (x : StructureBy). x.sig) c.st.view_is) at told

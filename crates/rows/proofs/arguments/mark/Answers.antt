@@ -3,12 +3,12 @@ use lib.ListN.{length-set}
 use borrow.Author.Rules.{rules}
 use Rattle.rule.specs.Els.{els_in}
 use Rattle.rows.proofs.ArgumentLaws.{mark_none, mark_at, seen_more}
-use Rattle.rows.proofs.Places.{found_place}
+use Rattle.rows.proofs.Places.{found_listed}
 use Rattle.rows.proofs.arguments.mark.Goals.{in-Some, in_default}
 use Rattle.rows.proofs.arguments.mark.Goals as goal
 
 pub bounds-flags-i : goal.bounds-flags-i
-bounds-flags-i c = found_place c.requires (rw c.in-Some.is at c.find_element.ensures)
+bounds-flags-i c = found_listed c.requires (rw c.in-Some.is at c.find_element.ensures)
 
 pub loop-j-preserved : goal.loop-j-preserved
 loop-j-preserved c =
@@ -19,7 +19,7 @@ loop-j-preserved c =
         rw length-set v.0,
         λ seen m.
             let f = rw w.in-Some.is at c.find_element.ensures in
-            rw (more seen) (mark_at (v.1 seen m) c.requires.ascend f (rw v.0 (found_place c.requires f))),
+            rw (more seen) (mark_at (v.1 seen m) c.requires.ascend f (rw v.0 (found_listed c.requires f))),
       )
       | in_default w ↦ rw w.flags-is (
         v.0,

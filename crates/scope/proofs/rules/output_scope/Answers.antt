@@ -1,4 +1,4 @@
-use mathlib.Core.Path.{sym, ◌∙◌}
+use mathlib.Core.Path.{refl, sym, ◌∙◌}
 use native.Mathlib.Omega.{arith}
 use Rattle.records.proofs.Results.{passed_on}
 use Rattle.scope.proofs.Prefixes.{long_enough, taken_long, taken_named}
@@ -13,29 +13,25 @@ slice_bounds-own-end c = taken_long _ _ (long_enough _ _ (rw c.count.ensures at 
 
 pub invariant_of-own : goal.invariant_of-own
 invariant_of-own c =
-    let sig = c.signature-sig.ensures in
     record {
-      typed = rw sig at c.in-Some.ensures.named;
-      counted = sym (taken_long _ _ (long_enough _ _ (rw c.count.ensures at c.if-count.false))) ∙ rw (c.owner_count-count.ensures, sig);
+      typed = c.in-Some.ensures.named;
+      counted = sym (taken_long _ _ (long_enough _ _ (rw c.count.ensures at c.if-count.false))) ∙ rw c.owner_count-count.ensures refl;
       named = taken_named _ _ c.requires.sound.named;
     }
 
 pub returns-in_err-rule_verdict-clause-result_value : goal.returns-in_err-rule_verdict-clause-result_value
 returns-in_err-rule_verdict-clause-result_value c = λ x w.
-    let sig = c.signature-sig.ensures in
     rw (passed_on c.from_residual.ensures)
-    (output_long _ _ _ _ _ c.args.t.variables.now _ (rw sig at (sym c.in-Some.ensures.result_value)) (rw sig at c.owner_count-count.ensures)
+    (output_long _ _ _ _ _ c.args.t.variables.now _ (sym c.in-Some.ensures.result_value) c.owner_count-count.ensures
     (rw c.count.ensures at c.if-count.false) (rw c.in_err-rule_verdict.was at (c.rule_verdict.ensures x w)) _ _ c.requires.stands)
 
 pub returns-in-Open-clause-result_value : goal.returns-in-Open-clause-result_value
 returns-in-Open-clause-result_value c = λ x w.
-    let sig = c.signature-sig.ensures in
     rw c.first_variables.ensures
-    (output_long _ _ _ _ _ c.args.t.variables.now _ (rw sig at (sym c.in-Some.ensures.result_value)) (rw sig at c.owner_count-count.ensures)
+    (output_long _ _ _ _ _ c.args.t.variables.now _ (sym c.in-Some.ensures.result_value) c.owner_count-count.ensures
     (rw c.count.ensures at c.if-count.false) (rw (c.in_ok-rule_verdict.was, c.in-Open.is) at (c.rule_verdict.ensures x w)) _ _ c.requires.stands)
 
 pub returns-in-Global-clause-result_value : goal.returns-in-Global-clause-result_value
 returns-in-Global-clause-result_value c = λ x w.
-    let sig = c.signature-sig.ensures in
-    output_long _ _ _ _ _ c.args.t.variables.now _ (rw sig at (sym c.in-Some.ensures.result_value)) (rw sig at c.owner_count-count.ensures)
+    output_long _ _ _ _ _ c.args.t.variables.now _ (sym c.in-Some.ensures.result_value) c.owner_count-count.ensures
     (rw c.count.ensures at c.if-count.false) (rw (c.in_ok-rule_verdict.was, c.in-Global.is) at (c.rule_verdict.ensures x w)) _ _ c.requires.stands

@@ -10,4 +10,4 @@ invariant-loop-t l =
     let f = verdict_by l.own l.side in
     (goal.iterator-loop-t).can_next l.t-iterator × (goal.iterator-loop-t).is_finite l.t-iterator
     × (views.accepted_by l.t-iterator ≡ accepted_by l.own)
-    × (first_of f (statements_of l.own.rule l.side) ≡ first_of f (statements_left l.t-iterator))
+    × (first_of f (statements_of l.rule l.side) ≡ first_of f (statements_left l.t-iterator))

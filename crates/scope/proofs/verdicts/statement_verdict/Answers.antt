@@ -5,6 +5,5 @@ use Rattle.scope.proofs.verdicts.statement_verdict.Goals as goal
 
 pub returns : goal.returns
 returns c =
-    let sig = c.signature-sig.ensures in
     c.compared.ensures ∙ rw c.shared_count.ensures
-    (sym (by_prefix c.args.side _ _ _ _ (statement_from c.args.t) _ (rw sig at (sym c.in-Some.ensures.result_value)) (rw sig at (sym c.if-not-suits.ensures))))
+    (sym (by_prefix c.args.side _ _ _ _ (statement_from c.args.t) _ (sym c.in-Some.ensures.result_value) (sym c.if-not-suits.ensures)))

@@ -5,7 +5,9 @@ use Rattle.statements.proofs.Fibers.{later_on, later_end, later_bytes}
 use Rattle.statements.proofs.equalities.put_later.Goals as goal
 
 pub loop-w-preserved : goal.loop-w-preserved
-loop-w-preserved c = wrote c.loop-w.invariant (later_on _ _ _ _ _ c.loop-w-test.true (rw c.from.ensures at c.from-2.ensures)) c.put_statement-at.ensures
+loop-w-preserved c =
+    let q = rw c.from.ensures at c.from-symbol.ensures in
+    wrote c.loop-w.invariant (later_on _ _ _ _ _ c.loop-w-test.true q) c.put_statement_bytes-at.ensures
 
 pub returns : goal.returns
 unfolding later_bytes

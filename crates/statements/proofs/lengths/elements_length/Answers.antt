@@ -17,8 +17,8 @@ returns-then-none_set-2-clause-by_index c =
 
 pub loop-i-preserved : goal.loop-i-preserved
 loop-i-preserved c =
-    let inv = c.loop-i.invariant in let s = c.element_count-i-end.ensures.sound.ascend in
-    let h : c.loop-i.i < length c.args.st.now.structure.elements = search rules in
+    let inv = c.loop-i.invariant in let s = c.element_count-i-end.ensures.formed.ascend in
+    let h : c.loop-i.i < length c.args.st.now.elements = search rules in
     let e = c.element.ensures.value in let n = c.count-parents.ensures in
     elim c.if-flag.branch [
       | then-flag w ↦ rw w.at-is (
@@ -38,4 +38,4 @@ pub returns-clause-by_index : goal.returns-clause-by_index
 returns-clause-by_index c =
     let inv = c.loop-i.invariant in let n = c.element_count-i-end.ensures in
     λ letter side q. rw (← (elements_all letter side _ _), q)
-    (count_end (inv.1 letter _) (elements_end _ n.sound.ascend letter _ _ _ _ (search rules)) inv.0)
+    (count_end (inv.1 letter _) (elements_end _ n.formed.ascend letter _ _ _ _ (search rules)) inv.0)

@@ -6,5 +6,5 @@ use Rattle.statements.proofs.lengths.elements_length.Given as goal
 abbrev pub invariant-loop-i : goal.invariant-loop-i
 invariant-loop-i l =
     (l.at ≤ count_limit)
-    × ((letter : ℕ) (variable : ℕ → ℕ) → Counting l.from l.at (elements_size letter variable l.st.structure l.members l.free 0)
-    (elements_size letter variable l.st.structure l.members l.free l.i))
+    × ((letter : ℕ) (variable : ℕ → ℕ) → Counting l.from l.at (elements_size letter variable l.st l.members l.free 0)
+    (elements_size letter variable l.st l.members l.free l.i))

@@ -17,4 +17,4 @@ returns c =
     let few : c.count-parents.result < length own = omega (arith, c.count-parents.ensures, c.element-e.ensures.few) in
     let t : take c.count-parents.result own ≡ each (variable_in (side_from c.args.numbered)) (els_in c.element-e.result.parents)
     = rw c.count-parents.ensures c.vars_of-vars.ensures in
-    rw (← (member_given _ c.args.numbered.ascend c.requires.1 c.element-e.ensures.value _ _ _ few t)) c.put_statement.ensures
+    rw (← (member_given _ c.args.numbered.ascend c.requires.1 c.element-e.ensures.value _ _ _ few t)) c.put_statement_bytes.ensures

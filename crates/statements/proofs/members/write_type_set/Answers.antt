@@ -6,4 +6,4 @@ use Rattle.statements.proofs.members.write_type_set.Goals as goal
 
 pub returns : goal.returns
 unfolding statement_head type_set_of field_bytes statement_field number_bytes
-returns c = then c.put_statement_head-at.ensures c.put_num.ensures
+returns c = then c.put_head_bytes-at.ensures c.put_num.ensures

@@ -4,7 +4,7 @@ use Rattle.definition.specs.Rule.{Row}
 use Rattle.records.proofs.Tail.{wrote, passed, finish}
 use Rattle.rule.specs.Els.{els_in}
 use Rattle.rule.specs.Row.{row_from}
-use Rattle.statements.specs.Parts.{rows_said, part_as}
+use Rattle.statements.specs.Parts.{rows_kinded, part_as}
 use Rattle.statements.proofs.Rows.{row_few, row_next, rows_on, rows_pass, rows_end, rows_from}
 use borrow.Author.Rules.{rules}
 use Rattle.statements.proofs.sections.put_section.Goals as goal
@@ -19,14 +19,14 @@ loop-i-preserved-then-flag c =
     let inv = c.loop-i.invariant in let step = c.in-Some.ensures.steps in
     rw step.2 (
       row_next inv.0 step.0,
-      wrote inv.1 (rows_on step.0 _ _ _ _ _ (rw step.1 at (sym c.if-flag.ensures)) c.part.ensures) c.put_row-at.ensures,
+      wrote inv.1 (rows_on step.0 _ _ _ _ _ _ (rw step.1 at (sym c.if-flag.ensures)) c.part.ensures) c.put_row-at.ensures,
     )
 
 pub loop-i-preserved : goal.loop-i-preserved
 loop-i-preserved c =
     let inv = c.loop-i.invariant in let step = c.in-Some.ensures.steps in
-    rw step.2 (row_next inv.0 step.0, passed inv.1 (rows_pass step.0 _ _ _ _ _ (rw step.1 at (sym c.if-flag.ensures))))
+    rw step.2 (row_next inv.0 step.0, passed inv.1 (rows_pass step.0 _ _ _ _ _ _ (rw step.1 at (sym c.if-flag.ensures))))
 
 pub returns : goal.returns
-unfolding rows_said rows_from
-returns c = finish c.loop-i.invariant.1 (rows_end _ _ _ _ _ c.in-None.ensures.steps.0.0)
+unfolding rows_kinded rows_from
+returns c = finish c.loop-i.invariant.1 (rows_end _ _ _ _ _ _ c.in-None.ensures.steps.0.0)

@@ -15,4 +15,4 @@ pub returns : goal.returns
 unfolding row_statement
 returns c =
     let rest = finish c.loop-i.invariant (variables_end _ _ _ (search rules)) in
-    statement_put _ _ (part_many _ (row_from c.args.row) c.count-count.ensures) c.put_statement_head-at.ensures rest
+    statement_put _ _ (part_many _ (row_from c.args.row) c.count-count.ensures) (rw c.number.ensures at c.put_head_bytes-at.ensures) rest

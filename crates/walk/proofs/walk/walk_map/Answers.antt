@@ -1,44 +1,17 @@
--- Where `ends` answers Ok, the map is `Walkable`: its source was reached and its target was not (`can`); the later calls need just this. A
--- refusal of `ends` is `ends_stop`, one of `flatten_map` is that of the map's kind (`went_refused`). Else the target's source, masks, variables
--- and types are what reaching it sets (`went_on`).
-use borrow.Author.Rules.{rules}
-use mathlib.Core.Path.{refl}
-use Rattle.std.proofs.lemmas.Result.{err_from_is_err_and}
-use Rattle.walk.proofs.Going.{ends_stop, walkable, room, typed_room, reaches, went_refused, new_small, went_on}
+-- The map that was met is one of the plan's rule (`links`), and the signature is its own.
+use mathlib.Core.Path.{ap, ◌∙◌}
+use Rattle.rule.specs.Views.{RuleBy}
+use Rattle.rows.specs.Links.{link_of}
+use Rattle.walk.proofs.Going.{ready}
+use Rattle.walk.proofs.Meeting.{links}
 use Rattle.walk.proofs.walk.walk_map.Goals as goal
 
-pub returns-in_err-ends : goal.returns-in_err-ends
-returns-in_err-ends c =
-    let p = err_from_is_err_and c.from_residual.result c.from_residual.ensures.1 in
-    rw (p.1, p.2) (ends_stop c.requires.sound c.requires.kinded c.meet_map-m.ensures c.requires.going c.in_err-ends.ensures)
-
-pub assign_el_vars-vars-requires : goal.assign_el_vars-vars-requires
-assign_el_vars-vars-requires c =
-    room (walkable c.requires.sound c.requires.kinded c.meet_map-m.ensures c.requires.going c.merged-merged.ensures.between c.in_ok-ends.ensures)
-
-pub flatten_map-requires : goal.flatten_map-requires
-flatten_map-requires c =
-    reaches (walkable c.requires.sound c.requires.kinded c.meet_map-m.ensures c.requires.going c.merged-merged.ensures.between c.in_ok-ends.ensures) refl
-    c.assign_el_vars-vars.ensures
-
-pub returns-in-Err : goal.returns-in-Err
-returns-in-Err c =
-    went_refused
-    (walkable c.requires.sound c.requires.kinded c.meet_map-m.ensures c.requires.going c.merged-merged.ensures.between c.in_ok-ends.ensures) refl
-    c.assign_el_vars-vars.ensures c.in-Err.ensures
-
-pub type_variables-requires : goal.type_variables-requires
-type_variables-requires c =
-    typed_room (walkable c.requires.sound c.requires.kinded c.meet_map-m.ensures c.requires.going c.merged-merged.ensures.between c.in_ok-ends.ensures)
-
-pub overflow_add-result : goal.overflow_add-result
-overflow_add-result c =
-    let can = walkable c.requires.sound c.requires.kinded c.meet_map-m.ensures c.requires.going c.merged-merged.ensures.between c.in_ok-ends.ensures in
-    let h = new_small can refl c.assign_el_vars-vars.ensures in rw (c.fresh.ensures, c.target-st.ensures.value) (search rules)
+pub walk_link-requires-clause-ready : goal.walk_link-requires-clause-ready
+walk_link-requires-clause-ready c =
+    let it = c.link.ensures.value ∙ ap link_of c.meet_map-m.ensures in rw it (ready c.requires.kinded c.requires.going)
 
 pub returns : goal.returns
 returns c =
-    let can = walkable c.requires.sound c.requires.kinded c.meet_map-m.ensures c.requires.going c.merged-merged.ensures.between c.in_ok-ends.ensures in
-    rw (c.fresh.ensures, c.target-st.ensures.value)
-    (went_on can refl c.assign_el_vars-vars.ensures c.in-Ok.ensures c.merged-merged.ensures.value
-    (rw c.target-st.ensures.value at c.type_variables.ensures) refl)
+    let own = ap (λ (x : RuleBy). x.sig) (c.behind-plan.view_is ∙ c.rule.ensures.value) in
+    (rw own at c.walk_link.ensures.went) c.args.plan.now.rule
+    (links c.requires.sound c.requires.kinded (c.link.ensures.value ∙ ap link_of c.meet_map-m.ensures)) c.requires.going

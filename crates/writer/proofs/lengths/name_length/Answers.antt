@@ -1,5 +1,6 @@
 use Rattle.writer.proofs.Measuring.{name_measured}
 use Rattle.writer.proofs.lengths.name_length.Goals as goal
 
-pub returns : goal.returns
-returns c = name_measured _ _ c.requires c.rule_name_length.ensures.0 (rw c.from.ensures at c.past.ensures)
+pub returns-clause-put : goal.returns-clause-put
+returns-clause-put c = λ rule n i.
+    name_measured _ _ c.requires.0 (c.rule_name_length_of.ensures.value rule n i) (rw c.from.ensures at c.past.ensures)

@@ -1,31 +1,12 @@
-use borrow.Author.Rules.{rules}
-use mathlib.Core.Logic.{◌⊎◌}
-use mathlib.Core.Path.{◌≡◌}
-use Rattle.std.specs.Prelude.{Some, None}
-use Rattle.rule.specs.declared.tail.MorphismKind.TheVariants as variant
-use Rattle.writer.proofs.Ruling.{emits_surj, emits_rows, emits_none}
+use mathlib.Core.Path.{ap}
+use Rattle.walk.specs.Reached.{reach_of}
+use Rattle.walk.specs.Walked.{Walks}
+use Rattle.writer.proofs.Ruling.{places_in, emits_concluded}
 use Rattle.writer.proofs.rules.emits.Goals as goal
 
-pub returns-in-Some-SurjThen : goal.returns-in-Some-SurjThen
-returns-in-Some-SurjThen c =
-    let k : c.kind.result ≡ Some variant.SurjThen = search rules in emits_surj c.args.w.now _ (rw k at c.kind.ensures.kind)
+pub emits_by_tables-requires : goal.emits_by_tables-requires
+emits_by_tables-requires c =
+    let e : Walks c.args.w.now = rw (← c.w.view_is) c.w.invariant in places_in (ap reach_of c.w.view_is) c.args.t e c.requires
 
-pub returns-in-Some-NonSurjThen : goal.returns-in-Some-NonSurjThen
-returns-in-Some-NonSurjThen c =
-    let k : c.kind.result ≡ Some variant.NonSurjThen = search rules in
-    rw (c.none_set.ensures, c.masks.ensures.said) (emits_rows c.args.w.now _ (rw k at c.kind.ensures.kind))
-
-pub returns-in-Some-If : goal.returns-in-Some-If
-returns-in-Some-If c =
-    let one : (c.kind.result ≡ Some variant.If) ⊎ ((c.kind.result ≡ Some variant.Noop) ⊎ (c.kind.result ≡ None)) = search rules in
-    emits_none c.args.w.now _ one c.kind.ensures.kind
-
-pub returns-in-Some-If-2 : goal.returns-in-Some-If-2
-returns-in-Some-If-2 c =
-    let one : (c.kind.result ≡ Some variant.If) ⊎ ((c.kind.result ≡ Some variant.Noop) ⊎ (c.kind.result ≡ None)) = search rules in
-    emits_none c.args.w.now _ one c.kind.ensures.kind
-
-pub returns-in-Some-If-3 : goal.returns-in-Some-If-3
-returns-in-Some-If-3 c =
-    let one : (c.kind.result ≡ Some variant.If) ⊎ ((c.kind.result ≡ Some variant.Noop) ⊎ (c.kind.result ≡ None)) = search rules in
-    emits_none c.args.w.now _ one c.kind.ensures.kind
+pub returns : goal.returns
+returns c = emits_concluded (ap reach_of c.w.view_is) c.args.t c.args.w.now.state c.emits_by_tables.ensures c.kinds.ensures

@@ -1,3 +1,4 @@
+use native.Mathlib.Omega.{arith}
 use Rattle.group.proofs.Values.{rules_length}
 use Rattle.group.proofs.Sections.{rule_stands, premise_says, conclusion_says, first_stands}
 use Rattle.group.proofs.rule.FlatRule.of.Goals as goal
@@ -9,8 +10,8 @@ pub invariant_of-result : goal.invariant_of-result
 invariant_of-result c =
     let listed = rw (rules_length c.group.invariant.rule) at (rw (← c.group.view_is) at c.requires) in
     record {
-      stands = rw (← c.group.view_is) (rule_stands c.group.invariant listed c.rule_sections-at.ensures.sections_at);
-      small = c.rule_sections-at.ensures.small;
+      stands = rule_stands c.group.invariant listed c.rule_sections-at.ensures.sections_at;
+      small = omega (arith, c.rule_sections-at.ensures.small);
     }
 
 pub returns-clause-says : goal.returns-clause-says

@@ -4,8 +4,9 @@ use Rattle.group.proofs.rule.StatementView.of.Goals as goal
 
 pub relation-requires : goal.relation-requires
 unfolding statement_of
-relation-requires c = c.requires.known
+relation-requires c = rw c.of-said.ensures.head.0 c.requires.known
 
 pub returns-clause-says : goal.returns-clause-says
 returns-clause-says c =
-    rw (c.relation.ensures.0, c.relation.ensures.1, c.num.ensures, c.split_at.ensures.back) (statement_is _ c.requires.long)
+    let said = c.of-said.ensures in
+    rw (c.relation.ensures.0, c.relation.ensures.1, said.head.0, said.head.1, said.variables) (statement_is _ c.requires.long)

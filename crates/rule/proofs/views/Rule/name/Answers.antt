@@ -1,36 +1,5 @@
-use Prim.Native.Nat.{◌+◌, ◌-◌}
-use native.Mathlib.Omega.{arith}
-use borrow.Author.Rules.{rules}
-use mathlib.Core.Path.{◌≡◌, sym}
-use Rattle.records.specs.Places.{stretch, two_at}
-use Rattle.records.proofs.Numbers.{length_stretch}
 use Rattle.rule.proofs.Opening.{headed}
 use Rattle.rule.proofs.views.Rule.name.Goals as goal
 
-pub two-requires : goal.two-requires
-two-requires c = let h = headed _ _ c.self.invariant.read in let i = h.inside in let z = h.sized in omega arith
-
-pub slice_bounds-result-count : goal.slice_bounds-result-count
-slice_bounds-result-count c = let h = headed _ _ c.self.invariant.read in let z = h.sized in let v = c.two.ensures.value in omega arith
-
-pub slice_bounds-result-start : goal.slice_bounds-result-start
-slice_bounds-result-start c = let h = headed _ _ c.self.invariant.read in let i = h.inside in let z = h.sized in let v = c.two.ensures.value in search rules
-
-pub slice_bounds-result-end : goal.slice_bounds-result-end
-slice_bounds-result-end c = let h = headed _ _ c.self.invariant.read in let i = h.inside in let z = h.sized in let v = c.two.ensures.value in search rules
-
-pub returns-clause-value : goal.returns-clause-value
-unfolding stretch
-returns-clause-value c =
-    let h = headed _ _ c.self.invariant.read in
-    let v : 3 + c.two.result - 5 ≡ two_at c.self.inside.bytes.now 1 - 2 = rw c.two.ensures.value (omega arith) in
-    rw (← c.self.view_is, v) (sym h.name)
-
-pub returns-clause-short : goal.returns-clause-short
-unfolding stretch
-returns-clause-short c =
-    let h = headed _ _ c.self.invariant.read in
-    let i = h.inside in let z = h.sized in
-    let v : 3 + c.two.result - 5 ≡ two_at c.self.inside.bytes.now 1 - 2 = rw c.two.ensures.value (omega arith) in
-    let n = length_stretch c.self.inside.bytes.now 5 (two_at c.self.inside.bytes.now 1 - 2) (omega arith) in
-    rw v (omega arith)
+pub rule_name-requires : goal.rule_name-requires
+rule_name-requires c = headed _ _ c.self.invariant.read

@@ -1,23 +1,8 @@
--- The loop has the variables of the first i elements.
-use mathlib.Core.Path.{◌≡◌, refl}
-use lib.ListN.{length, length-set}
-use lib.Seq.{take_all}
-use borrow.Author.Rules.{rules}
-use Rattle.definition.specs.Base.{each}
-use Rattle.rule.specs.Els.{els_in}
-use Rattle.statements.proofs.Variables.{variables_more}
+use Rattle.rows.proofs.Places.{numbers_listed}
 use Rattle.statements.proofs.numbered.Numbered.vars_of.Goals as goal
 
-pub loop-i-init : goal.loop-i-init
-unfolding each
-loop-i-init c = (refl, refl)
-
-pub loop-i-preserved : goal.loop-i-preserved
-loop-i-preserved c =
-    let inv = c.loop-i.invariant in
-    (rw length-set inv.0, variables_more _ _ _ (search rules) (rw c.at.ensures at c.var_of.ensures) _ (search rules) inv.1)
+pub vars_among-requires-clause-many : goal.vars_among-requires-clause-many
+vars_among-requires-clause-many c = rw c.elements.ensures.value c.args.self.many
 
 pub returns : goal.returns
-returns c =
-    let n : length (els_in c.args.els) ≡ c.loop-i.i = search rules in
-    rw n (rw (take_all c.loop-i.i (els_in c.args.els) (search rules)) at c.loop-i.invariant.1)
+returns c = c.vars_among.ensures _ (rw c.elements.ensures.value (numbers_listed _))

@@ -1,11 +1,7 @@
-use mathlib.Core.Path.{refl}
-use Rattle.walk.specs.Tables.{masks_at, merged_at}
 use Rattle.walk.proofs.walked.Walked.masks.Goals as goal
 
 pub returns-clause-said : goal.returns-clause-said
-unfolding masks_at
-returns-clause-said c = rw (← c.self.view_is) refl
+returns-clause-said c = rw c.reached.ensures.value at c.masks.ensures.said
 
 pub returns-clause-merged : goal.returns-clause-merged
-unfolding merged_at
-returns-clause-merged c = rw (← c.self.view_is) refl
+returns-clause-merged c = rw c.reached.ensures.value at c.masks.ensures.merged

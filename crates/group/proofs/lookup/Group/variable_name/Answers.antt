@@ -1,8 +1,0 @@
-use mathlib.Core.Path.{refl}
-use Rattle.group.proofs.Values.{name_is}
-use Rattle.group.proofs.lookup.Group.variable_name.Goals as goal
-
-pub returns : goal.returns
-returns c =
-    let field = rw (← c.self.view_is) at c.field_of-at.ensures in
-    rw (← c.self.view_is) (name_is field.stands field.says refl (rw c.two-len.ensures.value refl))

@@ -1,5 +1,0 @@
-use Rattle.kinds.proofs.Fresh.{Freed}
-use Rattle.kinds.proofs.elements.free_els.Given as goal
-
-abbrev pub invariant-loop-i : goal.invariant-loop-i
-invariant-loop-i l = Freed l.mask l.first l.row l.marks l.i

@@ -1,5 +1,0 @@
-use Rattle.naming.proofs.News.{Typing}
-use Rattle.naming.proofs.types.type_variables.Given as goal
-
-abbrev pub invariant-loop-i : goal.invariant-loop-i
-invariant-loop-i l = Typing l.st.structure l.first l.var-items l.initial.types l.types l.number l.i

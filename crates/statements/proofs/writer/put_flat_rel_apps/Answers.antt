@@ -1,9 +1,0 @@
-use Rattle.records.proofs.Tail.{then}
-use Rattle.statements.specs.Structures.{side_from}
-use Rattle.statements.proofs.Whole.{apps_parts}
-use Rattle.statements.proofs.writer.put_flat_rel_apps.Goals as goal
-
-pub returns : goal.returns
-returns c =
-    rw (apps_parts _ (side_from c.args.numbered) _)
-    (then (then c.put_rows-behind_preds.ensures c.put_rows-behind_funcs.ensures) c.put_members.ensures)
