@@ -137,6 +137,13 @@ impl<'a> Group<'a> {
         self.signature
     }
 
+    // Its variables by themselves, with its bytes and the index.
+    pub fn table(&self) -> &VariableTable<'a>
+        ensures { result.now.bytes.now ≡ self.now.bytes }
+    {
+        &self.table
+    }
+
     // How many variables it has.
     pub fn variables(&self) -> usize
         ensures { result ≡ length (content self.now).variables }
@@ -183,5 +190,31 @@ impl<'a> Group<'a> {
         ensures { result ≡ same_variables (content self.now).variables (numbers a.now) (numbers b.now) }
     {
         self.table.same_variables(a, b)
+    }
+}
+
+#[cfg(test)]
+mod tests {
+    use super::*;
+    use crate::reader::read_group;
+    use signature::ids::INDEX;
+    use signature::reader::read_signature;
+
+    // A group of two variables without a rule, by a signature of one type: its variables, by their table alone.
+    #[test]
+    fn table_stands_without_rules(rt: HostRuntime) {
+        let mut symbols = [0u16; INDEX];
+        let mut index = [0u16; GROUP_INDEX];
+        let sig = read_signature(b"T\0\0", &mut symbols);
+        assert!(rt; sig.is_ok());
+        if let Ok(sig) = sig {
+            let group = read_group(&sig, b"G\0\x01gW\0\x03\0\0aW\0\x04\0\0b1", &mut index);
+            assert!(rt; group.is_ok());
+            if let Ok(group) = group {
+                let table = group.table();
+                assert_eq!(rt; group.rules(), 0);
+                assert_eq!(rt; table.count(), 2);
+            }
+        }
     }
 }

@@ -10,9 +10,11 @@ use Rattle.definition.specs.Names.{numbers_of}
 use Rattle.definition.specs.Rule.{Structure, Pair}
 use Rattle.laws.proofs.Lists.{get_d_each, mem_at}
 use Rattle.naming.specs.Variables.{GivenOut}
+use Rattle.rule.specs.MapFields.{KeysIn}
 use Rattle.rule.specs.Pairs.{no_pair}
 use Rattle.rows.specs.Kernel.{SideAt, KeyVars, Typed}
 use Rattle.rows.specs.Links.{LinkBy, Linked}
+use Rattle.rows.specs.Morphisms.{MorphismBy, Between}
 use Rattle.rows.proofs.Places.{numbers_many}
 use Rattle.statements.specs.Structures.{side_of}
 
@@ -23,15 +25,24 @@ side_at st row = record {
   variables = λ i h. let n = numbers_many st in sym (get_or-take (length st.elements) row i 0 (omega arith));
 }
 
--- Where those of the source are given out, each key's has a type.
-pub keys_typed : {l : LinkBy} {sourcevars vars : List ℕ} {size : ℕ} → Linked l → GivenOut l.source sourcevars size
-    → KeyVars (side_of l.source sourcevars) l.pairs vars → Typed l.pairs vars size
-keys_typed {l} {sourcevars} {vars} {size} w g v = record { below = below }
+-- Where the variables of a structure are given out, each key that is one of its elements has a type.
+pub keys_in_typed : {st : Structure} {pairs : List Pair} {row vars : List ℕ} {size : ℕ} → KeysIn (numbers_of st) pairs → GivenOut st row size
+    → KeyVars (side_of st row) pairs vars → Typed pairs vars size
+keys_in_typed {st} {pairs} {row} {vars} {size} w g v = record { below = below }
   where
-    below : (p : ℕ) → p < length l.pairs → get_or vars p 0 < size
+    below : (p : ℕ) → p < length pairs → get_or vars p 0 < size
     below p h =
-        let pair = get_or l.pairs p no_pair in
-        let e : get_or vars p 0 ≡ variable_in (side_of l.source sourcevars) pair.key =
-        sym (get_or-take (length l.pairs) vars p 0 h)
-        ∙ rw v.same (get_d_each (λ (q : Pair). variable_in (side_of l.source sourcevars) q.key) l.pairs p no_pair 0 h) in
-        rw e (g.below pair.key (w.keys.named pair (mem_at l.pairs p no_pair h)))
+        let pair = get_or pairs p no_pair in
+        let e : get_or vars p 0 ≡ variable_in (side_of st row) pair.key =
+        sym (get_or-take (length pairs) vars p 0 h)
+        ∙ rw v.same (get_d_each (λ (q : Pair). variable_in (side_of st row) q.key) pairs p no_pair 0 h) in
+        rw e (g.below pair.key (w.named pair (mem_at pairs p no_pair h)))
+
+-- So it is with the keys of a map, by its signature and without one.
+pub keys_typed : {m : MorphismBy} {sourcevars vars : List ℕ} {size : ℕ} → Between m → GivenOut m.source sourcevars size
+    → KeyVars (side_of m.source sourcevars) m.pairs vars → Typed m.pairs vars size
+keys_typed w = keys_in_typed w.keys
+
+pub link_keys_typed : {l : LinkBy} {sourcevars vars : List ℕ} {size : ℕ} → Linked l → GivenOut l.source sourcevars size
+    → KeyVars (side_of l.source sourcevars) l.pairs vars → Typed l.pairs vars size
+link_keys_typed w = keys_in_typed w.keys

@@ -5,15 +5,20 @@ use mathlib.Core.List.Memᴰ
 use mathlib.Core.List.{List, [], ◌∷◌}
 use mathlib.Core.Option.{Option, none, some}
 use mathlib.Core.Path.{◌≡◌, refl, ◌∙◌, sym}
+use lib.Dec.{eqb}
+use lib.ListN.{length}
 use Rattle.std.specs.Prelude as std
 use Rattle.std.specs.Prelude.{Some, None, unwrap_or}
 use Rattle.definition.specs.Base.{or_else, or_default, first_of, ◌∈◌}
 use Rattle.definition.specs.Limits.{structure_limit}
 use Rattle.definition.specs.Rule.{Map, Kind, Auxiliary, Rule}
-use Rattle.definition.specs.Walk.{incoming_source, pairs_between, auxiliary_kind, add_pair, completed}
+use Rattle.definition.specs.Signature.{Signature}
+use Rattle.definition.specs.Walk.{source_into, incoming_source, pairs_between, auxiliary_kind, add_pair, completed}
 use Rattle.laws.proofs.KindTable.{added_at}
+use Rattle.laws.proofs.Lists.{first_mem, picked}
 use Rattle.laws.proofs.Choices.{or_none, or_assoc}
 use Rattle.laws.specs.KindTable.{kind_of_pair, kind_at}
+use Rattle.laws.specs.Sound.{SoundRule}
 use Rattle.rule.specs.Views.{MapsSound, TailSound}
 use Rattle.plan.specs.Sources.{source_is}
 use Rattle.plan.specs.Table.{Entries, Tabled, Adds, kinds_all}
@@ -67,6 +72,18 @@ pair_of maps a = record { source = or_default (incoming_source maps a.structure)
 pub lowest_is : (r : std.Option ℕ) {lowest : Option ℕ} → source_is r ≡ lowest → unwrap_or r 0 ≡ or_default lowest 0
 lowest_is (Some u) e = rw (← e) refl
 lowest_is None e = rw (← e) refl
+
+-- One of the structures, or 0 where there is none.
+pub lowest_in : {sig : Signature} {rule : Rule} → SoundRule sig rule → (target : ℕ) → or_default (incoming_source rule.maps target) 0 < length rule.structures
+unfolding incoming_source
+lowest_in {rule = rule} w target = go (incoming_source rule.maps target) refl
+  where
+    go : (o : Option ℕ) → incoming_source rule.maps target ≡ o → or_default o 0 < length rule.structures
+    go none e = w.structures_some
+    go (some source) e =
+        let r = first_mem (source_into target) rule.maps e in
+        let p = picked (eqb r.0.target target) r.0.source r.2 in
+        rw (← p.1) (w.maps_sound r.0 r.1).source_in
 
 -- The lowest source of a structure, or 0 where there is none, has a row.
 pub lowest_small : {rule : Rule} → MapsSound rule → TailSound rule → (target : ℕ) → or_default (incoming_source rule.maps target) 0 < structure_limit

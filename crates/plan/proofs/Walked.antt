@@ -1,5 +1,5 @@
 -- The walked kinds by the table, and that each has a map.
-use Prim.Native.Nat.{ℕ, ◌<◌}
+use Prim.Native.Nat.{ℕ}
 use mathlib.Core.Bool.{Bool, true, false}
 use mathlib.Core.List.Memᴰ
 use mathlib.Core.List.{List, [], ◌∷◌, ◌++◌}
@@ -9,13 +9,11 @@ use mathlib.Core.Path.{◌≡◌, refl, sym, ap}
 use lib.Dec.{eqb}
 use borrow.Author.Tests.{eqb-true, not-false}
 use Rattle.std.specs.Prelude as std
-use Rattle.std.specs.Prelude.{Some, None, unwrap_or, length}
-use Rattle.definition.specs.Base.{pick, or_default, any, ◌∈◌, given}
+use Rattle.std.specs.Prelude.{Some, None, unwrap_or}
+use Rattle.definition.specs.Base.{pick, any, ◌∈◌, given}
 use Rattle.definition.specs.Rule.{Map, Kind, MorphismKind, Auxiliary, Rule}
-use Rattle.definition.specs.Signature.{Signature}
-use Rattle.definition.specs.Walk.{source_into, incoming_source, pairs_between, unmapped_auxiliary, unmapped_kind, of_pair, add_pair, completed}
+use Rattle.definition.specs.Walk.{pairs_between, unmapped_auxiliary, unmapped_kind, of_pair, add_pair, completed}
 use Rattle.laws.proofs.Lists.{and_left, and_right, any_false, first_mem, picked, never}
-use Rattle.laws.specs.Sound.{SoundRule}
 use Rattle.rule.specs.Views.{RuleBy, SoundBy, Joined}
 use Rattle.rule.specs.Found.{found_pairs, Joins}
 use Rattle.rule.specs.Map.{pairs_from}
@@ -25,7 +23,7 @@ use Rattle.plan.specs.Plan.{Mapped, AllMapped, Planned}
 use Rattle.plan.specs.Sources.{no_source, no_map}
 use Rattle.laws.specs.KindTable.{kind_of_pair, kind_at}
 use Rattle.plan.proofs.Incoming.{source_found}
-use Rattle.plan.proofs.Storing.{pair_of}
+use Rattle.plan.proofs.Storing.{pair_of, lowest_in}
 
 -- A pair of the kinds is one of K, or one that an X adds.
 added_mem : (ks : List Kind) (k : Kind) {j : Kind} → j ∈ add_pair ks k → (j ∈ ks) ⊎ (j ≡ k)
@@ -43,18 +41,6 @@ completed_mem maps ks [] m = inl m
 completed_mem maps ks (x ∷ xs) m = ⊎_elim
     (λ a. ⊎_elim (λ b. inl b) (λ b. inr (x, Memᴰ.head refl, b)) (added_mem ks (pair_of maps x) a))
     (λ a. inr (a.0, Memᴰ.tail a.1, a.2)) (completed_mem maps (add_pair ks (pair_of maps x)) xs m)
-
--- One of the structures, or 0 where there is none.
-lowest_in : {sig : Signature} {rule : Rule} → SoundRule sig rule → (target : ℕ) → or_default (incoming_source rule.maps target) 0 < length rule.structures
-unfolding incoming_source
-lowest_in {rule = rule} w target = go (incoming_source rule.maps target) refl
-  where
-    go : (o : Option ℕ) → incoming_source rule.maps target ≡ o → or_default o 0 < length rule.structures
-    go none e = w.structures_some
-    go (some source) e =
-        let r = first_mem (source_into target) rule.maps e in
-        let p = picked (eqb r.0.target target) r.0.source r.2 in
-        rw (← p.1) (w.maps_sound r.0 r.1).source_in
 
 mapped_as : {rule : Rule} {a b source target : ℕ} → a ≡ source → b ≡ target → Mapped rule a b → Mapped rule source target
 mapped_as p q m = rw (← p, ← q) m

@@ -1,10 +1,10 @@
 -- The elements of a structure: what their fields say, and the list of them.
-use Prim.Native.Nat.{ℕ, ◌+◌, ◌-◌, ◌*◌, ◌≤◌, ◌<◌}
+use Prim.Native.Nat.{ℕ, ◌+◌, ◌-◌, ◌*◌, ◌/◌, ◌%◌, ◌≤◌, ◌<◌}
 use native.Mathlib.Omega.{arith}
 use mathlib.Core.List.{List, []}
 use mathlib.Core.Path.{◌≡◌, sym, ◌∙◌, ap}
 use lib.ListN.{length, get_or, take, drop}
-use Rattle.definition.specs.Limits.{field_limit}
+use Rattle.definition.specs.Limits.{field_limit, parent_limit}
 use Rattle.definition.specs.Letters.{start}
 use Rattle.definition.specs.Records.{Field, numbers, number_at}
 use Rattle.definition.specs.Rule.{element_of}
@@ -12,12 +12,12 @@ use Rattle.laws.proofs.Lists.{length_each, get_d_each}
 use Rattle.records.specs.Places.{two_at, stretch}
 use Rattle.records.specs.Held.{field_in, held_at}
 use Rattle.records.proofs.Index.{length_held, held_get}
-use Rattle.records.proofs.Numbers.{drop_stretch, number_in}
+use Rattle.records.proofs.Numbers.{drop_stretch, number_in, length_numbers_in}
 use Rattle.laws.proofs.Numbers.{drop_numbers}
 use Rattle.rule.specs.Layout.{elements_from}
 use Rattle.rule.specs.Elements.{count_at, position_at, element_at, element_fields, element_numbers, Elements}
 use Rattle.rule.specs.Views.{no_element, listed_numbers, Listed}
-use Rattle.rule.specs.ElementFields.{element_in, elements_in, size_at}
+use Rattle.rule.specs.ElementFields.{element_in, elements_in, size_at, ElementsAt}
 use Rattle.rule.proofs.Finding.{numbers_get, numbers_ascend}
 use Rattle.rule.proofs.Saying.{numbers_each}
 
@@ -53,6 +53,16 @@ module _ {s index : List ℕ} {k : ℕ} (h : Elements s index k) (i : ℕ) (l : 
   pub element_is : record { number = two_at s (at + 3); type = two_at s (at + 5); parents = numbers (stretch s (at + 7) (size - 4)) }
       ≡ element_in s index k i
   element_is = rw (← number_is, ← type_is, ← parents_are)
+
+-- Where the fields are whole numbers with few parents: how long one is.
+pub element_within : {s index : List ℕ} {k : ℕ} → ElementsAt s index k → (i : ℕ) → i < count_at index k
+    → (4 ≤ size_at s index k i) × (position_at index k i + 3 + size_at s index k i ≤ length s) × (size_at s index k i % 2 ≡ 0)
+    × (size_at s index k i / 2 - 2 ≤ parent_limit)
+element_within {s} {index} {k} w i l =
+    let f = element_lies w.elements i l in
+    let n = length_numbers_in s (position_at index k i + 7) (size_at s index k i - 4) (omega arith) in
+    let p = rw (parents_are w.elements i l) at (w.few i l) in
+    (f.0, f.1, w.even i l, omega arith)
 
 -- The list of them.
 abbrev no_field : Field

@@ -126,9 +126,9 @@ module _ (x : ReachBy) {state : State} {t : ℕ} (e : EndsIn x state) (h : Reach
   kernel_none : 0 < t → none_set (merged_at x.tb t) ≡ true → kernel_pairs (pairs_on x.rule (source_at x.tb t) t) (structure_at x.rule t) ≡ []
   kernel_none l q = none_merged (at_slot.2.merged l) q
 
-  pub unmerged_none : Signature → ByMap x t → none_set (merged_at x.tb t) ≡ true → equalities_in x state t ≡ []
+  pub unmerged_none : Signature → 0 < t → none_set (merged_at x.tb t) ≡ true → equalities_in x state t ≡ []
   unfolding equalities_at
-  unmerged_none sig m q = equalities_none sig state.variables _ _ (pairs_on x.rule (source_at x.tb t) t) (kernel_none m.behind q)
+  unmerged_none sig l q = equalities_none sig state.variables _ _ (pairs_on x.rule (source_at x.tb t) t) (kernel_none l q)
 
   pub map_put : (letter : ℕ) {from r : ℕ} {out₀ out : List ℕ}
       → ((table : List Variable) (target : Side) → TypesOf table x.types → target.structure ≡ structure_at x.rule t

@@ -12,7 +12,7 @@ use lib.ListN.{length, get_or, length-append}
 use borrow.Author.Tests.{lt-ltb, le-ltb, ne_eqb}
 use Rattle.definition.specs.Base.{pick, each, joined}
 use Rattle.definition.specs.Letters.{letter_b, letter_h, underscore}
-use Rattle.definition.specs.Group.{Statement, FlatRule}
+use Rattle.definition.specs.Group.{Variable, Statement, FlatRule}
 use Rattle.definition.specs.Kinds.{Emitted}
 use Rattle.definition.specs.Limits.{structure_limit}
 use Rattle.definition.specs.Names.{decimal}
@@ -74,26 +74,40 @@ module _ (kinds : Entries) (sources : List (std.Option ℕ)) (t : ℕ) where
       let b : u < structure_limit = rw q at p.1 in
       record { is = λ rule tb s k. rw (ne_eqb t 0 d, s, q) (k.same u t b p.0) }
 
--- Whether its map emits a rule.
-module _ {kinds : Entries} {sources : List (std.Option ℕ)} (masks : List StructureMasks) {t : ℕ} where
-  pub emits_surj : ReachedBy (Some variant.SurjThen) kinds sources t → Emits true kinds sources masks t
+-- How many conclusions its map has, by the kind by which it was reached.
+module _ (table : List Variable) (rule : Rule) (tb : Tables) (t : ℕ) where
+  pub emits_surj : kind_in (Some variant.SurjThen) ≡ reached_by rule tb t → length (concluded_at table rule tb t) ≡ 1
   unfolding concluded_at concluded_by
-  emits_surj r = record { is = λ table rule tb s m k. let q = r.is rule tb s k in rw (← q) refl }
+  emits_surj q = rw (← q) refl
 
-  pub emits_rows : ReachedBy (Some variant.NonSurjThen) kinds sources t → Emits (not (none_set (get_or masks t no_masks).said.funcs)) kinds sources masks t
-  unfolding concluded_at concluded_by masks_at
-  emits_rows r = record { is = λ table rule tb s m k. let q = r.is rule tb s k in rw (← q, m) (go (none_set (get_or masks t no_masks).said.funcs) _) }
+  pub emits_rows : kind_in (Some variant.NonSurjThen) ≡ reached_by rule tb t
+      → length (concluded_at table rule tb t) ≡ pick (not (none_set (masks_at tb t).funcs)) 1 0
+  unfolding concluded_at concluded_by
+  emits_rows q = rw (← q) (go (none_set (masks_at tb t).funcs))
     where
-      go : (b : Bool) (domains : List Statement) → length (pick b [] (domains ∷ [])) ≡ pick (not b) 1 0
-      go true domains = refl
-      go false domains = refl
+      go : (b : Bool) → length (pick b [] (domains_at rule tb t ∷ [])) ≡ pick (not b) 1 0
+      go true = refl
+      go false = refl
 
-  pub emits_none : {entry : Entry} → (entry ≡ Some variant.If) ⊎ ((entry ≡ Some variant.Noop) ⊎ (entry ≡ None)) → ReachedBy entry kinds sources t
-      → Emits false kinds sources masks t
+  pub emits_none : {entry : Entry} → (entry ≡ Some variant.If) ⊎ ((entry ≡ Some variant.Noop) ⊎ (entry ≡ None)) → kind_in entry ≡ reached_by rule tb t
+      → length (concluded_at table rule tb t) ≡ 0
   unfolding concluded_at concluded_by
-  emits_none (inl e) r = record { is = λ table rule tb s m k. let q = r.is rule tb s k in rw (← q, e) refl }
-  emits_none (inr (inl e)) r = record { is = λ table rule tb s m k. let q = r.is rule tb s k in rw (← q, e) refl }
-  emits_none (inr (inr e)) r = record { is = λ table rule tb s m k. let q = r.is rule tb s k in rw (← q, e) refl }
+  emits_none (inl e) q = rw (← q, e) refl
+  emits_none (inr (inl e)) q = rw (← q, e) refl
+  emits_none (inr (inr e)) q = rw (← q, e) refl
+
+-- Whether its map emits a rule, by the tables.
+module _ {kinds : Entries} {sources : List (std.Option ℕ)} (masks : List StructureMasks) {t : ℕ} where
+  pub surj_emits : ReachedBy (Some variant.SurjThen) kinds sources t → Emits true kinds sources masks t
+  surj_emits r = record { is = λ table rule tb s m k. emits_surj table rule tb t (r.is rule tb s k) }
+
+  pub rows_emit : ReachedBy (Some variant.NonSurjThen) kinds sources t → Emits (not (none_set (get_or masks t no_masks).said.funcs)) kinds sources masks t
+  unfolding masks_at
+  rows_emit r = record { is = λ table rule tb s m k. rw (← m) (emits_rows table rule tb t (r.is rule tb s k)) }
+
+  pub none_emits : {entry : Entry} → (entry ≡ Some variant.If) ⊎ ((entry ≡ Some variant.Noop) ⊎ (entry ≡ None)) → ReachedBy entry kinds sources t
+      → Emits false kinds sources masks t
+  none_emits o r = record { is = λ table rule tb s m k. emits_none table rule tb t o (r.is rule tb s k) }
 
 -- A structure that the walk reached has its places in the tables, and of its rule the tables say whether one is emitted.
 module _ {y x : ReachBy} (v : y ≡ x) (t : ℕ) where

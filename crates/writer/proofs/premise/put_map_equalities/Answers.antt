@@ -7,7 +7,7 @@ use Rattle.writer.proofs.premise.put_map_equalities.Goals as goal
 pub returns-then-none_set-clause-put : goal.returns-then-none_set-clause-put
 returns-then-none_set-clause-put c = λ state e.
     let merged = sym c.none_set.ensures ∙ c.if-none_set.true in
-    unsaid _ _ (unmerged_none c.args.r.now e c.requires.reaching c.r.invariant.sig c.requires.by_map (rw c.masks.ensures.merged at merged))
+    unsaid _ _ (unmerged_none c.args.r.now e c.requires.reaching c.r.invariant.sig c.requires.by_map.behind (rw c.masks.ensures.merged at merged))
     c.requires.from_le_count_limit
 
 pub put_equalities_bytes-requires-clause-given_out : goal.put_equalities_bytes-requires-clause-given_out

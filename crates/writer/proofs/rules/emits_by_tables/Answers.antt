@@ -3,27 +3,27 @@ use mathlib.Core.Logic.{◌⊎◌}
 use mathlib.Core.Path.{◌≡◌}
 use Rattle.std.specs.Prelude.{Some, None}
 use Rattle.rule.specs.declared.tail.MorphismKind.TheVariants as variant
-use Rattle.writer.proofs.Ruling.{emits_surj, emits_rows, emits_none}
+use Rattle.writer.proofs.Ruling.{surj_emits, rows_emit, none_emits}
 use Rattle.writer.proofs.rules.emits_by_tables.Goals as goal
 
 pub returns-in-Some-SurjThen : goal.returns-in-Some-SurjThen
-returns-in-Some-SurjThen c = let k : c.reached_by.result ≡ Some variant.SurjThen = search rules in emits_surj _ (rw k at c.reached_by.ensures)
+returns-in-Some-SurjThen c = let k : c.reached_by.result ≡ Some variant.SurjThen = search rules in surj_emits _ (rw k at c.reached_by.ensures)
 
 pub returns-in-Some-NonSurjThen : goal.returns-in-Some-NonSurjThen
 returns-in-Some-NonSurjThen c =
-    let k : c.reached_by.result ≡ Some variant.NonSurjThen = search rules in rw c.none_set.ensures (emits_rows _ (rw k at c.reached_by.ensures))
+    let k : c.reached_by.result ≡ Some variant.NonSurjThen = search rules in rw c.none_set.ensures (rows_emit _ (rw k at c.reached_by.ensures))
 
 pub returns-in-Some-If : goal.returns-in-Some-If
 returns-in-Some-If c =
     let one : (c.reached_by.result ≡ Some variant.If) ⊎ ((c.reached_by.result ≡ Some variant.Noop) ⊎ (c.reached_by.result ≡ None)) = search rules in
-    emits_none _ one c.reached_by.ensures
+    none_emits _ one c.reached_by.ensures
 
 pub returns-in-Some-If-2 : goal.returns-in-Some-If-2
 returns-in-Some-If-2 c =
     let one : (c.reached_by.result ≡ Some variant.If) ⊎ ((c.reached_by.result ≡ Some variant.Noop) ⊎ (c.reached_by.result ≡ None)) = search rules in
-    emits_none _ one c.reached_by.ensures
+    none_emits _ one c.reached_by.ensures
 
 pub returns-in-Some-If-3 : goal.returns-in-Some-If-3
 returns-in-Some-If-3 c =
     let one : (c.reached_by.result ≡ Some variant.If) ⊎ ((c.reached_by.result ≡ Some variant.Noop) ⊎ (c.reached_by.result ≡ None)) = search rules in
-    emits_none _ one c.reached_by.ensures
+    none_emits _ one c.reached_by.ensures

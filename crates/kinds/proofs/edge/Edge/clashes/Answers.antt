@@ -1,7 +1,7 @@
 use Rattle.std.proofs.Common.{sym, ◌∙◌}
 use Rattle.definition.specs.Names.{numbers_of}
 use Rattle.rows.proofs.Several.{none_merged, no_clash}
-use Rattle.kinds.proofs.Keys.{side_at, keys_typed}
+use Rattle.kinds.proofs.Keys.{side_at, link_keys_typed}
 use Rattle.kinds.proofs.edge.Edge.clashes.Goals as goal
 
 pub returns-then-none_set-clause-value : goal.returns-then-none_set-clause-value
@@ -18,7 +18,7 @@ pub kernel_clash-requires : goal.kernel_clash-requires
 unfolding numbers_of
 kernel_clash-requires c =
     let vars = rw (c.elements-source.ensures.value, c.source.ensures.value, c.map-m.ensures.value) at c.key_vars_among-vars.ensures in
-    rw c.map-m.ensures.value (keys_typed c.source.ensures.linked c.self.invariant.given_out
+    rw c.map-m.ensures.value (link_keys_typed c.source.ensures.linked c.self.invariant.given_out
     (vars _ (side_at c.self.inside.link.source c.self.inside.sourcevars.now)))
 
 pub returns-clause-value : goal.returns-clause-value
